@@ -5,9 +5,9 @@
 
 Runs `list` of PROGRAM, the built program crates/bk_main/out/bk_main, at the orders from 12 to 16, or those named, under callgrind (valgrind).
 Counted are all calls of the function NAME, by default `go_on` of bk_free_search: one for each board that the search comes to, the empty one and whole
-words among them, but none for the words that it makes of a board by the last square. Prints a markdown table: the order, the calls, and the instructions of the whole run. A function that the compiler puts into
-its callers can't be counted: then the script says which functions of the crates of the search were called, how often, and ends with 1. A program
-whose search has no `go_on` is counted by another one, as `bk_table::asking::stand_beside`, which is called at each board that isn't a whole word.
+words among them, but none for the words that it makes of a board by the last square. Prints a markdown table: the order, the calls, and the
+instructions of the whole run. A function that the compiler puts into its callers can't be counted: then the script says which functions of the crates
+of the search were called, how often, and ends with 1.
 """
 import argparse
 import collections
@@ -16,8 +16,8 @@ import subprocess
 import sys
 import tempfile
 
-# Where the search and what it calls are, in any program.
-SEARCH = re.compile(r"bk_(free_search|table|member_table|free_leaf|leaf)::")
+# Where the search and what it calls are.
+SEARCH = re.compile(r"bk_(free_search|found|walk)::")
 
 
 def called(command):

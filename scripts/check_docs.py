@@ -1,27 +1,35 @@
 #!/usr/bin/env python3
-"""Compares README.md, docs/, bench/ and examples/ with the sources and with what the built program says.
+"""Compares README.md, docs/, bench/, examples/ and share/ with the sources and with what the built program says.
 
 - Each example is run: a line `$ COMMAND` of an indented block, with what is below it as its output; each row of the tables of commands, of refusals
-  and of notations; and each line of the block in examples/README.md, which prints nothing if the stored answers are right.
+  and of notations; and each line of the block in examples/README.md, which prints nothing if the stored answers are right. All examples of a page run
+  one after another in one folder of their own, which is removed. If there is a `mawk`, it is `awk` there, since it knows least.
 - Each crate, file, contract, lemma, definition and link that a page names must be there.
 - The inventories of README.md and docs/ARCHITECTURE.md have a row for each crate of crates.txt, in its group.
-- The tables that are made from the sources, docs/DEFINITIONS.md and the costs in docs/WORKING.md, are as they would be made now.
+- What is made from the sources or from README.md is as it would be made now: docs/DEFINITIONS.md, and the completion and the manual page in share/.
+- docs/CLAIM.md shows the definitions that what it claims stands on, as they are now (scripts/claim.py).
 - No line is wider than 120 columns, but for those of tables.
 
-Prints what differs; the status is 1 if anything does. With --write the tables are made anew first.
+Prints what differs, and at the end how many examples and names were tried and how many differ; the status is 1 if something does. With --write what
+is made is made anew first.
 
     scripts/check_docs.py [--write] [PROGRAM]
 
-PROGRAM is the built program, by default crates/bk_main/out/bk_main.
+PROGRAM is by default crates/bk_main/out/bk_main, as ./bouwkamp builds it. No example is tried if it isn't built from the sources as they are, and that
+counts as a difference. One that is named is taken as it is.
 """
 import functools
 import os
 import re
+import shutil
 import subprocess
 import sys
 import tempfile
 
-from sources import LINES_A_SECOND, PARTS, TOP, above, files_of, groups, named_by_crate, text_of, works_of
+from claim import wrong_claim
+from proving import PROGRAM, is_right
+from share import FILES, rows
+from sources import PARTS, TOP, files_of, groups, named_by_crate, text_of
 
 WIDEST = 120
 # An example that takes longer is a fault.
@@ -52,10 +60,13 @@ class Runner:
     """Runs commands of a page, one after another, in a folder of its own, in which ./bouwkamp is the program."""
 
     def __init__(self, program, folder):
-        self.folder, self.assigned = folder, []
+        self.folder, self.assigned, self.env = folder, [], {**os.environ, "PATH": f"{folder}/.tools:{os.environ['PATH']}"}
         os.symlink(os.path.abspath(program), f"{folder}/bouwkamp")
         for name in ("examples", "bench", "scripts", "docs", "crates"):
             os.symlink(f"{TOP}/{name}", f"{folder}/{name}")
+        if shutil.which("mawk"):
+            os.mkdir(f"{folder}/.tools")
+            os.symlink(shutil.which("mawk"), f"{folder}/.tools/awk")
 
     def says(self, command, text=""):
         """Returns what a command prints over this input. What an assignment sets is set for all later commands."""
@@ -63,10 +74,8 @@ class Runner:
             self.assigned.append(command)
             return ""
         words = ["bash", "-c", "\n".join([*self.assigned, command])]
-        ran = subprocess.run(
-            words, cwd=self.folder, input=text, stdout=subprocess.PIPE, stderr=subprocess.STDOUT, text=True, timeout=SECONDS, check=False
-        )
-        return ran.stdout
+        how = {"stdout": subprocess.PIPE, "stderr": subprocess.STDOUT, "text": True, "errors": "replace", "timeout": SECONDS, "check": False}
+        return subprocess.run(words, cwd=self.folder, env=self.env, input=text, **how).stdout
 
 
 def blocks(text):
@@ -77,17 +86,6 @@ def blocks(text):
             behind = lines[at + 1 :]
             last = next((k for k, it in enumerate(behind) if not it.startswith("    ") or it.startswith("    $ ")), len(behind))
             found.append((line[6:], "".join(f"{it[4:]}\n" for it in behind[:last])))
-    return found
-
-
-def rows(text, header):
-    """Returns the cells of each row of the table with this header."""
-    _, is_there, rest = text.partition(f"{header}\n")
-    found = []
-    for line in rest.split("\n")[1:] if is_there else []:
-        if not line.startswith("|"):
-            break
-        found.append([it.strip() for it in line.strip("|").split("|")])
     return found
 
 
@@ -115,25 +113,30 @@ def stored_examples(text):
     return [line.strip() for line in text.split("\n") if line.startswith("    ./bouwkamp")]
 
 
-def wrong_examples(program):
-    """Says which examples differ from what the program says."""
+def wanted_examples(page, text):
+    """Returns the examples of a page: the command, what it must print, and its input."""
+    found = [(command, output, "") for command, output in blocks(text)]
+    found += [(f"./bouwkamp {command}", f"{answer}\n", f"{line}\n") for command, line, answer in table_examples(text)]
+    return found + ([(command, "", "") for command in stored_examples(text)] if page == "examples/README.md" else [])
+
+
+def wrong_examples(program, tried):
+    """Says which examples differ from what the program says, and counts them."""
     for page in pages():
         text = text_of(page)
         with tempfile.TemporaryDirectory() as folder:
             runner = Runner(program, folder)
-            wanted = [(command, output, "") for command, output in blocks(text)]
-            wanted += [(f"./bouwkamp {command}", f"{answer}\n", f"{line}\n") for command, line, answer in table_examples(text)]
-            if page == "examples/README.md":
-                wanted += [(command, "", "") for command in stored_examples(text)]
-                yield from (f"{page}: no line tries {it}" for it in untried(text))
             for command, example in notations(text):
+                tried["examples"] += 1
                 said = runner.says(f"{command} | ./bouwkamp check", f"{example}\n")
                 if not said.startswith("ok "):
                     yield f"{page}: {command} makes {example} to what `check` answers by {said!r}"
-            for command, output, line in wanted:
+            for command, output, line in wanted_examples(page, text):
+                tried["examples"] += 1
                 said = runner.says(command, line)
                 if said != output:
                     yield f"{page}: {command} {line.strip()}\n  is said to print: {output!r}\n  and prints: {said!r}"
+    yield from (f"examples/README.md: no line tries {it}" for it in untried(text_of("examples/README.md")))
 
 
 def untried(text):
@@ -201,12 +204,13 @@ def is_link(page, target):
     return os.path.exists(f"{TOP}/{found}") and (not anchor or anchor in anchors(found))
 
 
-def wrong_names():
-    """Says what the pages name that isn't there."""
+def wrong_names(tried):
+    """Says what the pages name that isn't there, and counts what they name."""
     for page in pages():
         text = without_blocks(text_of(page))
-        yield from (f"{page}: `{it}` isn't there" for it in re.findall(r"`([^`\n]+)`", text) if not is_known(it))
-        links = re.findall(r"\]\(([^()\s]+)\)", text)
+        names, links = re.findall(r"`([^`\n]+)`", text), re.findall(r"\]\(([^()\s]+)\)", text)
+        tried["names"] += len(names) + len(links)
+        yield from (f"{page}: `{it}` isn't there" for it in names if not is_known(it))
         yield from (f"{page}: the link to {it} leads nowhere" for it in links if "://" not in it and not is_link(page, it))
 
 
@@ -234,7 +238,7 @@ def wide_lines():
         yield from (f"{page}:{k}: {len(it)} columns" for k, it in enumerate(lines, 1) if len(it) > WIDEST and not it.startswith("|"))
 
 
-# ---- tables that are made
+# ---- what is made
 
 
 def first_sentence(path):
@@ -259,50 +263,38 @@ def definitions():
             yield f"| [`{crate}/specs/{os.path.basename(path)}`](../{path}) | {first_sentence(path)} |\n"
 
 
-def costs():
-    """Returns the table of what the proof of each crate costs, with that of the crates above it."""
-    stands = above()
-    seconds = {it: work / LINES_A_SECOND for it, work in works_of(stands).items()}
-    yield "| crate | seconds | crates above | seconds with them |\n|---|---|---|---|\n"
-    for crate, found in stands.items():
-        yield f"| `{crate}` | {rounded(seconds[crate])} | {len(found)} | {rounded(seconds[crate] + sum(seconds[it] for it in found))} |\n"
+def made():
+    """Returns what is made: each file with its text now and what it would be."""
+    page, begin, end = "docs/DEFINITIONS.md", "<!-- definitions: begin -->\n", "<!-- definitions: end -->\n"
+    text = text_of(page)
+    front, rest = text.split(begin)
+    yield page, text, front + begin + "".join(definitions()) + end + rest.split(end)[1]
+    for path, make in FILES.items():
+        yield path, text_of(path) if os.path.exists(f"{TOP}/{path}") else "", make()
 
 
-def rounded(seconds):
-    """Returns an estimate, to two digits."""
-    places = 10 ** max(0, len(str(round(seconds))) - 2)
-    return f"{round(seconds / places) * places:,}"
-
-
-MADE = {"definitions": ("docs/DEFINITIONS.md", definitions), "costs": ("docs/WORKING.md", costs)}
-
-
-def wrong_tables(is_written):
-    """Says which tables aren't as they would be made now; or makes them."""
-    for name, (page, make) in MADE.items():
-        text, begin, end = text_of(page), f"<!-- {name}: begin -->\n", f"<!-- {name}: end -->\n"
-        if begin not in text or end not in text:
-            yield f"{page}: the marks of the table of {name} aren't there"
-            continue
-        front, rest = text.split(begin)
-        table, back = rest.split(end)
-        made = "".join(make())
-        if made != table and is_written:
-            with open(f"{TOP}/{page}", "w", encoding="utf-8") as file:
-                file.write(front + begin + made + end + back)
-        elif made != table:
-            yield f"{page}: the table of {name} would be another now: scripts/check_docs.py --write"
+def wrong_files(is_written):
+    """Says which files aren't as they would be made now; or makes them."""
+    for path, text, wanted in made():
+        if text != wanted and is_written:
+            os.makedirs(os.path.dirname(f"{TOP}/{path}"), exist_ok=True)
+            with open(f"{TOP}/{path}", "w", encoding="utf-8") as file:
+                file.write(wanted)
+        elif text != wanted:
+            yield f"{path} would be another now: scripts/check_docs.py --write"
 
 
 def main(words):
-    program = next((it for it in words if not it.startswith("--")), f"{TOP}/crates/bk_main/out/bk_main")
-    found = [*wrong_tables("--write" in words), *wrong_names(), *wrong_inventories(), *wide_lines()]
-    if os.access(program, os.X_OK):
-        found += wrong_examples(program)
+    given, tried = [it for it in words if not it.startswith("--")], {"examples": 0, "names": 0}
+    found = [*wrong_files("--write" in words), *wrong_claim("--write" in words), *wrong_names(tried), *wrong_inventories(), *wide_lines()]
+    program = given[0] if given else PROGRAM
+    if os.access(program, os.X_OK) and (given or is_right()):
+        found += wrong_examples(program, tried)
     else:
-        found.append(f"{program} isn't there, so no example was tried")
+        found.append(f"{program} isn't built from the sources as they are (./bouwkamp help builds it), so no example was tried")
     for it in found:
         print(it)
+    print(f"{tried['examples']} examples, {tried['names']} names, {len(found)} differ")
     return 1 if found else 0
 
 

@@ -1,10 +1,10 @@
 #!/usr/bin/env python3
-"""Runs the gate in one piece, and writes its times and the sizes of the crates into docs/GATE.md, between the two marks there.
+"""Runs the gate in one piece, and writes how long it took and how it ended into docs/GATE.md, between the two marks there. Then prints when the proof of
+each crate was done, in seconds from the start.
 
-Each run proves all from nothing: what a toolchain keeps of earlier runs isn't used (`--anew`, if the toolchain knows it). The status is the
-gate's. With --sizes nothing is run: only the sizes are written, which are those of the tree as it is; the times stay those of the last run.
+Each run proves all from nothing: what a toolchain keeps of earlier runs isn't used (`--anew`, if the toolchain knows it). The status is the gate's.
 
-    scripts/gate_times.py [--sizes]
+    scripts/gate_times.py
 """
 import os
 import re
@@ -14,18 +14,12 @@ import sys
 import textwrap
 import time
 
-from sources import PARTS, TOP, files_of, lines_of, named_by_crate, text_of
+from sources import TOP
 
 PAGE = f"{TOP}/docs/GATE.md"
 BEGIN, END = "<!-- times: begin -->\n", "<!-- times: end -->\n"
 # No line of a document is longer.
 WIDTH = 120
-
-
-def sizes(name):
-    """Returns the lines of code, of definitions and of proofs, and the numbers of edits and of tests."""
-    tests = sum(text_of(it).count("#[test]") for it in files_of(name, *PARTS[0]))
-    return [*lines_of(name), len(files_of(name, "must-fail", ".edit")), tests]
 
 
 def told_by(word):
@@ -51,57 +45,29 @@ def run_gate():
     return ran.wait(), last, done, time.monotonic() - began
 
 
-def rows(done):
-    """Returns the rows of the table: of each crate when its proof was done, where that is known, and its sizes; and the sums of these."""
-    yield "| crate | proved at | src | specs | proofs | edits | tests |\n|---|---|---|---|---|---|---|\n"
-    total = [0] * 5
-    for name in named_by_crate():
-        of, at = sizes(name), done.get(name)
-        total = [a + b for a, b in zip(total, of)]
-        yield f"| `{name}` | {'' if at is None else f'{at:.0f} s'} | {' | '.join(map(str, of))} |\n"
-    yield f"| all {len(named_by_crate())} | | {' | '.join(map(str, total))} |\n"
-
-
-def table(last, done, wall):
+def summary(last, wall):
+    """Returns the lines for the page: how long a run took, and how it ended."""
     used = resource.getrusage(resource.RUSAGE_CHILDREN)
     spent = used.ru_utime + used.ru_stime
     told = f"One run of `rt ci`, from nothing, on {time.strftime('%d %B %Y')}, on {len(os.sched_getaffinity(0))} processors: {wall / 60:.0f} minutes, "
     told += f"{spent / 60:.0f} processor minutes, with {told_by('version').split()[0]}. It ended with:"
     yield textwrap.fill(told, WIDTH, break_on_hyphens=False) + "\n\n"
     yield from (textwrap.fill(it, WIDTH, initial_indent="    ", subsequent_indent="    ", break_on_hyphens=False) + "\n" for it in last)
-    yield "\n"
-    yield from rows(done)
-
-
-def parts_of_page():
-    """Returns the page's text in front of the marks, between them and behind."""
-    with open(PAGE, encoding="utf-8") as file:
-        front, _, rest = file.read().partition(BEGIN)
-    between, _, back = rest.partition(END)
-    return front, between, back
 
 
 def write(text):
     """Writes the text between the marks of the page."""
-    front, _, back = parts_of_page()
+    with open(PAGE, encoding="utf-8") as file:
+        front, _, rest = file.read().partition(BEGIN)
     with open(PAGE, "w", encoding="utf-8") as file:
-        file.write(front + BEGIN + text + END + back)
-
-
-def table_anew():
-    """Returns the table as it is on the page, what it tells of the last run too, with the sizes that the tree has now."""
-    _, between, _ = parts_of_page()
-    told, _, _ = between.partition("| crate |")
-    done = {name: float(at) for name, at in re.findall(r"\| `(\w+)` \| (\d+) s \|", between)}
-    return told + "".join(rows(done))
+        file.write(front + BEGIN + text + END + rest.partition(END)[2])
 
 
 def main():
-    if sys.argv[1:] == ["--sizes"]:
-        write(table_anew())
-        return 0
     status, last, done, wall = run_gate()
-    write("".join(table(last, done, wall)))
+    write("".join(summary(last, wall)))
+    for crate, at in sorted(done.items(), key=lambda it: it[1]):
+        print(f"{at:8.0f} s  {crate}")
     return status
 
 

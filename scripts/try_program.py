@@ -2,21 +2,23 @@
 """Runs the built program and looks at its status and at both output streams.
 
 Each case gives the program its arguments and an input, and says the status, the text of the standard output and that of standard error. Tried are
-the statuses 0, 1, 2, 3, 4, 7 and 8, an empty argument, an argument that is no text, an input that can't be read, streams that are closed, outputs
-that can't be written, and the longest input of empty lines.
-Prints a line for each case that differs and then how many were tried. The status is 1 where something differs.
+the statuses 0, 1, 2, 3, 4, 7 and 8, an empty argument, arguments that are no text, an input that can't be read, streams that are closed, outputs
+that can't be written, the longest input of empty lines, and a small stack.
+Prints a line for each case that differs and then how many were tried. The status is 1 if something differs.
 
     scripts/try_program.py [PROGRAM]
 
-PROGRAM is else crates/bk_main/out/bk_main, as ./bouwkamp builds it.
+PROGRAM is by default crates/bk_main/out/bk_main, as ./bouwkamp builds it. It isn't tried if it isn't built from the sources as they are; one that is
+named is taken as it is.
 """
 import os
+import resource
 import subprocess
 import sys
 from dataclasses import dataclass
 
-TOP = os.path.dirname(os.path.dirname(os.path.abspath(__file__)))
-PROGRAM = f"{TOP}/crates/bk_main/out/bk_main"
+from proving import PROGRAM, is_right
+
 INPUT, OUTPUT, ERRORS = 0, 1, 2
 USAGE = "usage: bouwkamp COMMAND [--NAME VALUE]...\n"
 NINE = "[18,15][7,8][14,4][10,1][9]\n"
@@ -25,6 +27,10 @@ NINE_OK = "ok 9 33x32 perfect simple\n"
 MOST_BYTES = 1 << 30
 # So many line feeds are handed over at once.
 BLOCK = 1 << 20
+# So much of a text is shown if it differs.
+WIDEST = 300
+# A stack of so many bytes, which `ulimit -s 320` gives, suffices for all commands.
+SMALL_STACK = 320 << 10
 
 
 @dataclass
@@ -62,6 +68,10 @@ CASES = [
     Case("closed errors", [], 2, closed=ERRORS),
     Case("an argument that is no text", [b"check", b"\xff"], 8, text=NINE),
     Case("an argument alone that is no text", [b"\xff"], 8, text=NINE),
+    Case("an argument before a command that is no text", [b"\xff", b"check"], 8, text=NINE),
+    Case("an argument that ends in the middle of a character", [b"check", b"\xc3"], 8, text=NINE),
+    Case("a value that is no text", ["list", "--order", "9", "--from", b"2u.2aa\x80"], 8),
+    Case("half a pair of surrogates", ["help", b"\xed\xa0\x80"], 8),
 ]
 
 
@@ -95,16 +105,42 @@ def run_on_line_feeds(program, count):
     return child.returncode, out.decode(), err.decode()
 
 
+def run_on_stack(program, size, *arguments, text=""):
+    """Runs the program with a stack of so many bytes, and gives its status and what it wrote."""
+    limit = None if size is None else lambda: resource.setrlimit(resource.RLIMIT_STACK, (size, size))
+    ran = subprocess.run([program, *arguments], input=text, capture_output=True, text=True, preexec_fn=limit, check=False)
+    return ran.returncode, ran.stdout, ran.stderr
+
+
+def on_small_stack(program):
+    """Returns what the greatest catalogue and the comparison with it come to on a small stack, each beside what it comes to else."""
+    listing = "list", "--order", "16"
+    whole = run_on_stack(program, None, *listing)
+    codes = "".join(line + "\n" for line in whole[1].splitlines() if not line.startswith(";"))
+    comparison = "verify", "--order", "16"
+    wanted = (0, "; end order 16 members 9016 missing 0 foreign 0 repeated 0 refused 0\n", "")
+    return [
+        ("list --order 16 on a small stack", whole, run_on_stack(program, SMALL_STACK, *listing)),
+        ("verify --order 16 on a small stack", wanted, run_on_stack(program, SMALL_STACK, *comparison, text=codes)),
+    ]
+
+
+def short(said):
+    """Returns a status and two texts with no more of a long text than its beginning."""
+    return tuple(it if isinstance(it, int) or len(it) <= WIDEST else f"{it[:WIDEST]}.. ({len(it)} bytes)" for it in said)
+
+
 def main():
     program = sys.argv[1] if len(sys.argv) > 1 else PROGRAM
-    if not os.access(program, os.X_OK):
-        sys.exit(f"{program} isn't built: run ./bouwkamp help")
+    if not os.access(program, os.X_OK) or len(sys.argv) < 2 and not is_right():
+        sys.exit(f"{program} isn't built from the sources as they are (./bouwkamp help builds it)\n0 cases, 1 differ")
     tried = [(case.name, (case.status, case.out, case.err), run(program, case)) for case in CASES]
     tried.append(("as many line feeds as are taken", (0, "", ""), run_on_line_feeds(program, MOST_BYTES)))
     tried.append(("one byte more", (7, "", ""), run_on_line_feeds(program, MOST_BYTES + 1)))
+    tried += on_small_stack(program)
     different = [(name, wanted, found) for name, wanted, found in tried if wanted != found]
     for name, wanted, found in different:
-        print(f"{name}: wanted {wanted}, found {found}")
+        print(f"{name}: wanted {short(wanted)}, found {short(found)}")
     print(f"{len(tried)} cases, {len(different)} differ")
     return 1 if different else 0
 

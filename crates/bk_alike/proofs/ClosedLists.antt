@@ -2,21 +2,23 @@
 use Rattle.std.specs.List.{concat}
 use Rattle.std.specs.Prelude.{Err, Ok, OnErr, OnOk, Result}
 use Rattle.std.proofs.Common.{List, Option, Bool, false, inl, inr, refl, subst, sym, true, ℕ, ◌++◌, ◌≡◌, ◌⊎◌}
-use Rattle.bk_ports.proofs.KnownSteps.{appends_more, prefix_after}
+use Rattle.bk_laws.proofs.Bytes.{appends-then}
+use Rattle.bk_ports.proofs.KnownSteps.{prefix_after}
 use Rattle.bk_ports.specs.Causes.{HasCause, Rose}
 use Rattle.bk_ports.specs.declared.Failed.{Failed}
 use Rattle.bk_ports.proofs.OtherOutputs.{IsStop, broken_behind, stops_as, whole_behind}
-use Rattle.bk_ports.specs.Ending.{EndsWith, HasVerdict, IsBrokenBehind, IsWhole, Streams}
+use Rattle.bk_ports.specs.Ending.{EndsWith, HasVerdict, IsBrokenBehind, IsWholeOutput, Streams}
 use Rattle.bk_ports.specs.Entering.{AreAllEntered, entries_of}
 use Rattle.bk_ports.specs.Faults.{CountsTell, Faults}
 use Rattle.bk_ports.specs.Reply.{text_of}
 use Rattle.bk_ports.specs.declared.Ended.{Ended}
 use Rattle.bk_ports.specs.declared.Ended.TheVariants.{NoMemory, NoneRefused, ReadFailed, SomeRefused, TooMany, WriteFailed}
-use Rattle.bk_alike.specs.Closing.{IsClosingBroken, IsListed, closing_lines, listing_of}
+use Rattle.bk_alike.specs.GroupsEnd.{AreLinesListed, IsClosingBroken, closing_lines, listing_of}
 use Rattle.bk_alike.specs.Listed.{Listed, listing_rules, none_listed}
 use Rattle.bk_alike.specs.declared.Wanted.{Wanted}
-use Rattle.bk_alike.specs.Writing.{WritesLines}
+use Rattle.bk_alike.specs.WrittenLines.{WritesLines}
 
+-- the streams of a run: what its source had left and its sink had written, before and after
 abbrev pub streams_of : Option (List ℕ) → Option (List ℕ) → Option (List ℕ) → Option (List ℕ) → Streams
 streams_of left left_after written written_after = record { left = left; left_after = left_after; written = written; written_after = written_after }
 
@@ -26,6 +28,7 @@ IsVerdict NoneRefused = Unit {0}
 IsVerdict SomeRefused = Unit {0}
 IsVerdict _ = ⊥
 
+-- a run that ends with none or some refused has a verdict
 pub verdict_told : (ended : Ended) → (ended ≡ NoneRefused) ⊎ (ended ≡ SomeRefused) → IsVerdict ended
 verdict_told ended (inl e) = subst IsVerdict (sym e) tt
 verdict_told ended (inr e) = subst IsVerdict (sym e) tt
@@ -44,13 +47,13 @@ stops_listing wanted last =
 
 module _ (wanted : Wanted) (last : Listed) (left left_after a b c : Option (List ℕ)) where
   listed : (refused : Bool) (lines : List (List ℕ)) → (r : Result (Unit {0}) Failed) → WritesLines (closing_lines wanted last) b c r → r ≡ Ok tt
-      → AreAllEntered listing_rules none_listed 1 lines a b refused last → IsListed wanted lines refused a c
+      → AreAllEntered listing_rules none_listed 1 lines a b refused last → AreLinesListed wanted lines refused a c
   listed refused lines (Ok x) w e h = record {
     replies = h.replies;
     last = last;
     each = h.each;
     any = h.any;
-    written = appends_more a b c (text_of h.replies) (concat (closing_lines wanted last)) (text_of h.replies ++ concat
+    written = appends-then a b c (text_of h.replies) (concat (closing_lines wanted last)) (text_of h.replies ++ concat
         (closing_lines wanted last)) h.written w refl;
   }
   listed refused lines (Err f) w e h = absurd (cc)
@@ -66,14 +69,14 @@ module _ (wanted : Wanted) (last : Listed) (left left_after a b c : Option (List
   }
 
   listed_behind : (refused : Bool) → (r : Result (Unit {0}) Failed) → WritesLines (closing_lines wanted last) b c r → r ≡ Ok tt
-      → IsWhole (entries_of listing_rules none_listed last) (streams_of left left_after a b) refused
-      → IsWhole (listing_of wanted) (streams_of left left_after a c) refused
+      → IsWholeOutput (entries_of listing_rules none_listed last) (streams_of left left_after a b) refused
+      → IsWholeOutput (listing_of wanted) (streams_of left left_after a c) refused
   listed_behind refused r w e all =
       whole_behind (entries_of listing_rules none_listed last) (listing_of wanted) left left_after a b c refused all refused
       (λ lines. listed refused lines r w e)
 
   closing_broken : (refused : Bool) → (r : Result (Unit {0}) Failed) → WritesLines (closing_lines wanted last) b c r → (f : Failed) → r ≡ Err f
-      → IsWhole (entries_of listing_rules none_listed last) (streams_of left left_after a b) refused
+      → IsWholeOutput (entries_of listing_rules none_listed last) (streams_of left left_after a b) refused
       → IsBrokenBehind (listing_of wanted) (streams_of left left_after a c)
   closing_broken refused r w f e all =
       broken_behind (entries_of listing_rules none_listed last) (listing_of wanted) left left_after a b c refused all (λ lines. broken refused lines r w f e)
@@ -89,6 +92,7 @@ module _ (wanted : Wanted) (last : Listed) (left left_after a b c : Option (List
   closes_well NoMemory h v r w e = absurd v
   closes_well TooMany h v r w e = absurd v
 
+  -- a listing with a verdict whose closing lines can't be written ends with a failed write
   pub closes_broken : (ended : Ended) → EndsWith (entries_of listing_rules none_listed last) (streams_of left left_after a b) ended → IsVerdict ended
       → (r : Result (Unit {0}) Failed) → WritesLines (closing_lines wanted last) b c r → (f : Failed) → r ≡ Err f
       → EndsWith (listing_of wanted) (streams_of left left_after a c) WriteFailed
@@ -108,6 +112,7 @@ has_verdict WriteFailed v = absurd v
 has_verdict NoMemory v = absurd v
 has_verdict TooMany v = absurd v
 
+-- the failed reads and writes, before a run and after it
 abbrev pub faults_of : ℕ → ℕ → ℕ → ℕ → Faults
 faults_of read read_after write write_after = record { read = read; read_after = read_after; write = write; write_after = write_after }
 
@@ -127,7 +132,7 @@ module _ (read read_after write between now : ℕ) where
   well_told ended h r cause e = subst (λ (n : ℕ). CountsTell ended (faults_of read read_after write n))
       (sym (subst (λ (w : Result (Unit {0}) Failed). OnOk w (now ≡ between)) e cause.ok)) h
 
-  -- and that of the sink where it was not
+  -- where what is wanted was not written, the counts of faults tell that a write failed
   pub badly_told : (ended : Ended) → IsVerdict ended → CountsTell ended (faults_of read read_after write between) → (r : Result (Unit {0}) Failed)
       → HasCause between now r → (f : Failed) → r ≡ Err f → CountsTell WriteFailed (faults_of read read_after write now)
   badly_told ended v h r cause f e =

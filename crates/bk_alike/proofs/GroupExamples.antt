@@ -12,9 +12,9 @@ use Rattle.bk_sym.specs.declared.Turn.TheVariants.{FlipX, FlipY, Half, Same, Swa
 use Rattle.bk_report.specs.declared.refusal.Refused.TheVariants.{Gap}
 use Rattle.bk_answer.proofs.CodeAnswerExamples.{gap_refused}
 use Rattle.bk_answer.specs.Item.{HasTiling}
-use Rattle.bk_ask.specs.declared.Kind.TheVariants.{Any, Perfect}
+use Rattle.bk_pair.specs.declared.Kind.TheVariants.{Any, Perfect}
 use Rattle.bk_alike.specs.declared.item.KeptItem.{KeptItem}
-use Rattle.bk_alike.specs.Closing.{closing_lines}
+use Rattle.bk_alike.specs.GroupsEnd.{closing_lines}
 use Rattle.bk_alike.specs.Listed.{Listed, ListsLine, accepts, keeps, no_more, none_listed, refuses, with_item, with_refused}
 use Rattle.bk_alike.specs.Pairs.{all_pairs}
 use Rattle.bk_alike.specs.declared.Wanted.TheVariants.{Groups, Pairs}

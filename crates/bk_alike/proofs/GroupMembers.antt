@@ -5,11 +5,11 @@ use Rattle.std.specs.Option.{option_map}
 use Rattle.std.proofs.Common.{List, [], Option, ap, arith, get_or, length, refl, subst, sym, ℕ, ◌+◌, ◌<◌, ◌∙◌, ◌∷◌, ◌≡◌, ◌≤◌}
 use Rattle.std.proofs.lemmas.List.Elements.{All-from_recursion}
 use Rattle.std.proofs.lemmas.Option.{same_Some, slice_get-map}
+use Rattle.bk_laws.proofs.Outcomes.{some-unique}
 use Rattle.bk_alike.specs.Alike.{alike_groups, group_of, item_size, size_eq, sizes}
 use Rattle.bk_alike.specs.declared.item.KeptItem.{KeptItem}
 use Rattle.bk_report.specs.ListLines.{group_line}
-use Rattle.bk_alike.specs.Closing.{group_lines, member_at}
-use Rattle.bk_alike.proofs.WrittenLines.{same_item}
+use Rattle.bk_alike.specs.GroupsEnd.{group_lines, member_at}
 
 -- there are as many groups as sizes
 pub length-groups : (items : List KeptItem) (S : List (ℕ × ℕ)) → length (map (group_of items) S) ≡ length S
@@ -26,7 +26,7 @@ pub members_are : (items : List KeptItem) (g : ℕ) (a : ℕ × ℕ) (members : 
 members_are items g a members e f =
     same_Some members (group_of items a) (sym f ∙ slice_get-map (group_of items) (sizes items) g ∙ ap (λ (o : Option (ℕ × ℕ)). option_map (group_of items) o) e)
 
--- and are places of items
+-- the members of a group are places of items
 below_all : (test : ℕ × KeptItem → Bool) (n m : ℕ) (items : List KeptItem) → n + length items ≤ m
     → AllByRecursion (λ place. place < m) (map (λ (i, item). i) (filter test (enumerate_from n items)))
 below_all test n m [] fits = tt
@@ -51,7 +51,7 @@ pub place_below : (items : List KeptItem) (a : ℕ × ℕ) (places : List ℕ) (
 place_below items a places k are below =
     All-from_recursion (λ place. place < length items) places (places_of_size items a places are) k 0 below
 
--- and so are those of a group
+-- the members of a group of items are places of items
 pub places_below : (items : List KeptItem) (g : ℕ) (a : ℕ × ℕ) (members : List ℕ) → slice_get (sizes items) g ≡ Some a
     → slice_get (alike_groups items) g ≡ Some members
     → AllByRecursion (λ place. place < length items) members
@@ -63,6 +63,6 @@ pub lines_of_group : (items : List KeptItem) (g : ℕ) (a b : ℕ × ℕ) (membe
     → slice_get (alike_groups items) g ≡ Some members → slice_get (sizes items) g ≡ Some a
     → group_lines items a ≡ group_line b.0 b.1 (length members) ∷ flat_map (member_at items) members
 lines_of_group items g a b members e f h =
-    let same : a ≡ b = same_item (slice_get (sizes items) g) a b h e in
+    let same : a ≡ b = some-unique (slice_get (sizes items) g) a b h e in
     let are = members_are items g b members e f in
     ap (group_lines items) same ∙ ap (λ (l : List ℕ). group_line b.0 b.1 (length l) ∷ flat_map (member_at items) l) (sym are)

@@ -10,7 +10,7 @@ use Rattle.std.proofs.lemmas.List.Folds.{list_any-append}
 use Rattle.std.proofs.lemmas.List.Sums.{fold-append}
 use Rattle.bk_laws.proofs.AllOfLists.{all_append}
 use Rattle.bk_alike.specs.Alike.{alike_groups, group_of, item_size, size_eq, sizes, with_size}
-use Rattle.bk_alike.specs.Grouped.{AreApart, IsGrouped, with_place}
+use Rattle.bk_alike.specs.Grouped.{AreSizesApart, IsGrouped, with_place}
 use Rattle.bk_alike.specs.declared.item.KeptItem.{KeptItem}
 
 -- sizes that are one are the same
@@ -20,6 +20,7 @@ same_size (a, c) (b, d) e = let x : a ≡ b = grind (arith, nat_tests) in let y 
 size_eq-refl : (a : ℕ × ℕ) → size_eq a a ≡ true
 size_eq-refl (a, c) = grind (arith, nat_tests)
 
+-- whether two sizes are one does not depend on their order
 pub size_eq-sym : (a b : ℕ × ℕ) → size_eq a b ≡ size_eq b a
 size_eq-sym (a, c) (b, d) = grind (arith, nat_tests)
 
@@ -39,6 +40,7 @@ fst_cond : (b : Bool) (n : ℕ) (x : KeptItem) → map (λ (i, item). i) (cond {
 fst_cond true n x = refl
 fst_cond false n x = refl
 
+-- one item more is put behind the group of a size, if it has that size
 pub group-push : (items : List KeptItem) (x : KeptItem) (a : ℕ × ℕ) → group_of (items ++ x ∷ []) a
     ≡ group_of items a ++ cond (size_eq a (item_size x)) (length items ∷ []) []
 group-push items x a =
@@ -67,15 +69,15 @@ none_is a (b ∷ S) e = elim (cases_Bool (size_eq a b)) [
 
 -- ---- sizes stay apart
 
-apart-last : (S : List (ℕ × ℕ)) (a : ℕ × ℕ) → AreApart S → AllByRecursion (λ b. size_eq a b ≡ false) S → AreApart (S ++ a ∷ [])
+apart-last : (S : List (ℕ × ℕ)) (a : ℕ × ℕ) → AreSizesApart S → AllByRecursion (λ b. size_eq a b ≡ false) S → AreSizesApart (S ++ a ∷ [])
 apart-last [] a apart none = (tt, tt)
 apart-last (b ∷ S) a apart none =
     (all_append (λ c. size_eq b c ≡ false) S (a ∷ []) apart.0 (size_eq-sym b a ∙ none.0, tt), apart-last S a apart.1 none.1)
 
-apart-push : (S : List (ℕ × ℕ)) (a : ℕ × ℕ) → AreApart S → AreApart (with_size S a)
+apart-push : (S : List (ℕ × ℕ)) (a : ℕ × ℕ) → AreSizesApart S → AreSizesApart (with_size S a)
 apart-push S a apart = elim (cases_Bool (list_any (size_eq a) S)) [
-  | inl t ↦ subst (λ (v : Bool). AreApart (cond v S (S ++ a ∷ []))) (sym t) apart
-  | inr f ↦ subst (λ (v : Bool). AreApart (cond v S (S ++ a ∷ []))) (sym f) (apart-last S a apart (none_is a S f))
+  | inl t ↦ subst (λ (v : Bool). AreSizesApart (cond v S (S ++ a ∷ []))) (sym t) apart
+  | inr f ↦ subst (λ (v : Bool). AreSizesApart (cond v S (S ++ a ∷ []))) (sym f) (apart-last S a apart (none_is a S f))
 ]
 
 -- ---- the place of one more item
@@ -118,7 +120,7 @@ absent_at a (b ∷ S) h = elim (cases_Bool (size_eq a b)) [
   | inr n ↦ ap (λ (v : Bool). v || list_any (size_eq a) S) n ∙ absent_at a S (omega (arith, h, later b S a n))
 ]
 
--- and what stands somewhere is one of them
+-- a size that stands somewhere among sizes is one of them
 pub present_at : (a : ℕ × ℕ) (S : List (ℕ × ℕ)) → position_or_len (size_eq a) S < length S → list_any (size_eq a) S ≡ true
 present_at a [] h = absurd (omega arith)
 present_at a (b ∷ S) h = elim (cases_Bool (size_eq a b)) [
@@ -134,7 +136,7 @@ module _ (f g : ℕ × ℕ → List ℕ) (a : ℕ × ℕ) (n : ℕ) (same : (b :
       let e = same b (size_eq-sym b a ∙ none.0) in
       λ i. e i ∷ none_here S none.1 i
 
-  placed : (S : List (ℕ × ℕ)) → AreApart S → (list_any (size_eq a) S ≡ false → f a ≡ [])
+  placed : (S : List (ℕ × ℕ)) → AreSizesApart S → (list_any (size_eq a) S ≡ false → f a ≡ [])
       → map g (with_size S a) ≡ with_place (map f S) (position_or_len (size_eq a) S) n
   placed [] apart absent =
       ap (λ (l : List ℕ). l ∷ []) (more a (size_eq-refl a) ∙ ap (λ (l : List ℕ). l ++ n ∷ []) (absent refl))
@@ -178,6 +180,7 @@ no_others-push items x before a e = elim (cases_Bool (list_any (size_eq (item_si
     neither false true e = absurd (true≢false e)
     neither false false e = (refl, refl)
 
+-- one item more leaves the stored groups and sizes those of the items
 pub grouped-push : (items : List KeptItem) (x : KeptItem) (stored stored' : List (ℕ × ℕ)) (groups groups' : List (List ℕ))
     → IsGrouped items stored groups → length items < 16384
     → stored' ≡ with_size stored (item_size x) → groups' ≡ with_place groups (position_or_len (size_eq (item_size x)) stored) (length items)
@@ -194,6 +197,6 @@ grouped-push items x stored stored' groups groups' g fits s p =
           ∙ sym (placed (group_of items) (group_of (items ++ x ∷ [])) a (length items) (λ b e. group-same items x b e) (λ b e. group-more items x b e)
           (sizes items) g.apart (g.no_others a))
           ∙ ap (map (group_of (items ++ x ∷ []))) (sym all);
-      apart = subst AreApart (sym all) (apart-push (sizes items) a g.apart);
+      apart = subst AreSizesApart (sym all) (apart-push (sizes items) a g.apart);
       no_others = λ b e. no_others-push items x g.no_others b (ap (list_any (size_eq b)) (sym all) ∙ e);
     }

@@ -4,14 +4,14 @@ use Rattle.std.specs.Prelude.{Err, OnErr, OnOk, Result}
 use Rattle.std.specs.Io.KnownBytes.{Appends}
 use Rattle.std.proofs.Common.{List, [], Option, ap, length, subst, ℕ, ◌∙◌, ◌∷◌, ◌≡◌}
 use Rattle.bk_ports.specs.Causes.{AppendsPrefix}
-use Rattle.bk_ask.specs.declared.Kind.{Kind}
+use Rattle.bk_pair.specs.declared.Kind.{Kind}
 use Rattle.bk_alike.specs.Alike.{alike_groups, sizes}
 use Rattle.bk_alike.specs.declared.item.KeptItem.{KeptItem}
 use Rattle.bk_report.specs.ListLines.{alike_line, pairs_line}
-use Rattle.bk_alike.specs.Closing.{closing_lines, group_lines}
+use Rattle.bk_alike.specs.GroupsEnd.{closing_lines, group_lines}
 use Rattle.bk_alike.specs.Listed.{Listed}
 use Rattle.bk_alike.specs.Pairs.{all_pairs}
-use Rattle.bk_alike.specs.Writing.{WritesLines}
+use Rattle.bk_alike.specs.WrittenLines.{WritesLines}
 use Rattle.bk_alike.specs.declared.Wanted.TheVariants.{Groups, Pairs}
 use Rattle.bk_alike.proofs.WrittenLines.{broken_before, last_written}
 use Rattle.bk_alike.proofs.ListLoops.{ends_broken}

@@ -5,9 +5,10 @@ use Rattle.std.specs.Prelude.{Bool, Some, cond, drop, false, filter, map, nat_eq
 use Rattle.std.proofs.Common.{List, [], Option, ap, arith, inl, inr, refl, suc, sym, ℕ, ◌&&◌, ◌++◌, ◌+◌, ◌<◌, ◌∙◌, ◌∷◌, ◌≡◌, ◌≤◌}
 use Rattle.std.proofs.lemmas.Bool.{cases_Bool}
 use Rattle.std.proofs.lemmas.Bool.Decides.{nat_tests}
+use Rattle.bk_laws.proofs.ListParts.{drop-none}
 use Rattle.bk_tiling.specs.Tiling.{Tiling, order}
-use Rattle.bk_ask.specs.declared.Kind.{Kind}
-use Rattle.bk_ask.specs.declared.Kind.TheVariants as kinds
+use Rattle.bk_pair.specs.declared.Kind.{Kind}
+use Rattle.bk_pair.specs.declared.Kind.TheVariants as kinds
 use Rattle.bk_pair.specs.Pair.{joined_square, pair_sides}
 use Rattle.bk_pair.specs.PairTest.{can_be_laid, no_twice}
 use Rattle.bk_report.specs.ListLines.{pair_line}
@@ -15,7 +16,6 @@ use Rattle.bk_alike.specs.Alike.{group_of, item_size, size_eq}
 use Rattle.bk_alike.specs.declared.item.KeptItem.{KeptItem}
 use Rattle.bk_alike.specs.LaterLines.{later_lines}
 use Rattle.bk_alike.specs.Pairs.{is_pair, pair_lines, pairs_with}
-use Rattle.bk_alike.proofs.ListLoops.{drop_none}
 use Rattle.bk_alike.proofs.PairLines.{IsItemAt, tiling_at}
 
 -- items of two sizes are no pair
@@ -40,6 +40,7 @@ line_behind kind items i n a x behind e =
     ap (λ (v : Bool). cond v (option_map_or (pair_lines kind a) (slice_get items n) []) []) test
     ∙ ap (λ (o : Option KeptItem). option_map_or (pair_lines kind a) o []) e
 
+-- the lines of an item with those that stand no later than its place are none
 pub no_line_before : (kind : Kind) (items : List KeptItem) (i n : ℕ) (a : KeptItem) → n ≤ i → later_lines kind items i a n ≡ []
 no_line_before kind items i n a before =
     let test : nat_lt i n ≡ false = grind (arith, nat_tests) in
@@ -55,7 +56,7 @@ next_from items n x rest at k = let e : (n + 1) + k ≡ n + suc k = omega arith 
 first_from : (items : List KeptItem) (n : ℕ) (x : KeptItem) (rest : List KeptItem) → AreFrom items n (x ∷ rest) → slice_get items n ≡ Some x
 first_from items n x rest at = let e : n ≡ n + 0 = omega arith in ap (λ (m : ℕ). slice_get items m) e ∙ at 0
 
--- those of a size among numbered items
+-- the items of a size, among numbered items
 abbrev numbered : KeptItem → ℕ → List KeptItem → List (ℕ × KeptItem)
 numbered a n rest = filter (λ (k, item). size_eq (item_size a) (item_size item)) (enumerate_from n rest)
 
@@ -91,7 +92,7 @@ behind_item kind items i a n (x ∷ rest) behind at =
 from_start : (kind : Kind) (items : List KeptItem) (i : ℕ) (a : KeptItem) (m n : ℕ) (rest : List KeptItem) → n + m ≡ i + 1 → AreFrom items n rest
     → flat_map (later_lines kind items i a) (places_from a n rest) ≡ pairs_with kind a (drop m rest)
 from_start kind items i a zero n rest e at =
-    behind_item kind items i a n rest (omega (arith, e)) at ∙ ap (λ (l : List KeptItem). pairs_with kind a l) (sym (drop_none rest))
+    behind_item kind items i a n rest (omega (arith, e)) at ∙ ap (λ (l : List KeptItem). pairs_with kind a l) (sym (drop-none rest))
 from_start kind items i a (suc m) n [] e at = refl
 from_start kind items i a (suc m) n (x ∷ rest) e at =
     let more : flat_map (later_lines kind items i a) (places_from a (n + 1) rest) ≡ pairs_with kind a (drop m rest)
@@ -105,12 +106,13 @@ from_start kind items i a (suc m) n (x ∷ rest) e at =
       | inr f ↦ ap (flat_map (later_lines kind items i a)) (places_over a n x rest f) ∙ more
     ]
 
+-- the lines of an item with later ones of its size are its lines with all later ones
 pub pairs_of_size : (kind : Kind) (items : List KeptItem) (i : ℕ) (a : KeptItem)
     → flat_map (later_lines kind items i a) (group_of items (item_size a)) ≡ pairs_with kind a (drop (i + 1) items)
 pairs_of_size kind items i a =
     from_start kind items i a (i + 1) 0 items (omega arith) (λ k. let e : 0 + k ≡ k = omega arith in ap (λ (m : ℕ). slice_get items m) e)
 
--- the same of the places that were looked up by the size of the item's tiling
+-- the lines of an item with places that were looked up by the size of its tiling are its lines with all later ones
 pub pairs_looked_up : (kind : Kind) (items : List KeptItem) (i line width height : ℕ) (t : Tiling) (places : List ℕ) → IsItemAt items i line t
     → width ≡ t.width → height ≡ t.height → places ≡ group_of items (width, height) → (a : KeptItem) → slice_get items i ≡ Some a
     → flat_map (later_lines kind items i a) places ≡ pairs_with kind a (drop (i + 1) items)

@@ -6,20 +6,17 @@ use Rattle.std.specs.Io.KnownBytes.{Appends}
 use Rattle.std.proofs.Common.{List, [], Option, ap, arith, get_or, length, refl, subst, sym, ℕ, ◌++◌, ◌+◌, ◌<◌, ◌∙◌, ◌∷◌, ◌≡◌}
 use Rattle.std.proofs.lemmas.List.{length-append}
 use Rattle.std.proofs.lemmas.Option.{slice_get-get_or}
+use Rattle.bk_laws.proofs.Bytes.{appends-one_piece, appends-then}
+use Rattle.bk_laws.proofs.Outcomes.{some-unique}
 use Rattle.bk_ports.specs.Causes.{AppendsPrefix}
-use Rattle.bk_ports.proofs.KnownSteps.{appends_more, prefix_after}
+use Rattle.bk_ports.proofs.KnownSteps.{prefix_after}
 use Rattle.bk_tiling.specs.Tiling.{Tiling}
 use Rattle.bk_alike.specs.declared.item.KeptItem.{KeptItem}
 use Rattle.bk_report.specs.ListLines.{member_line}
-use Rattle.bk_alike.specs.Closing.{member_at}
-use Rattle.bk_alike.specs.Writing.{WritesLines}
+use Rattle.bk_alike.specs.GroupsEnd.{member_at}
+use Rattle.bk_alike.specs.WrittenLines.{WritesLines}
 use Rattle.bk_alike.proofs.PairLines.{IsItemAt}
-use Rattle.bk_alike.proofs.WrittenLines.{IsWrittenTo, item_at, one_broken, one_line, prefix_more, same_item, written_broken, written_more}
-
--- to drop nothing leaves a list as it is
-pub drop_none : {A : Type 0} (xs : List A) → drop 0 xs ≡ xs
-drop_none [] = refl
-drop_none (x ∷ xs) = refl
+use Rattle.bk_alike.proofs.WrittenLines.{IsWrittenTo, item_at, one_broken, prefix_more, written_broken, written_more}
 
 -- lines of which a beginning was written where a call failed
 pub ends_broken : {T E : Type 0} (lines : List (List ℕ)) (a b : Option (List ℕ)) (r : Result T E) (f : E) → r ≡ Err f
@@ -32,7 +29,7 @@ next_of : {A : Type 0} (f : A → List (List ℕ)) (xs : List A) (k : ℕ) (x : 
     → flat_map f (drop k xs) ≡ f x ++ flat_map f (drop (k + 1) xs)
 next_of {A} f xs k x below e =
     let at = item_at xs k below in
-    ap (λ (l : List A). flat_map f l) at.left ∙ ap (λ (y : A). f y ++ flat_map f (drop (k + 1) xs)) (same_item (slice_get xs k) at.item x at.here e)
+    ap (λ (l : List A). flat_map f l) at.left ∙ ap (λ (y : A). f y ++ flat_map f (drop (k + 1) xs)) (some-unique (slice_get xs k) at.item x at.here e)
 
 -- the lines of the element at a place are written, and those of the next ones are left
 pub loop_more : {A : Type 0} (f : A → List (List ℕ)) (all : List (List ℕ)) (xs : List A) (k : ℕ) (x : A) (a b c : Option (List ℕ)) → k < length xs
@@ -72,7 +69,7 @@ module _ (items : List KeptItem) (places : List ℕ) (k d line : ℕ) (t : Tilin
       → IsWrittenTo all (flat_map (member_at items) (drop (k + 1) places)) a c
   members_more all a b c state w =
       loop_more (member_at items) all places k (get_or places k d) a b c below (slice_get-get_or places k d below) state
-      (subst (λ (l : List (List ℕ)). Appends b c (concat l)) (sym member_here) (one_line (member_line line t) piece b c is w))
+      (subst (λ (l : List (List ℕ)). Appends b c (concat l)) (sym member_here) (appends-one_piece (member_line line t) piece b c is w))
 
   -- or a write of it failed
   pub members_broken : (all : List (List ℕ)) (a b c : Option (List ℕ)) → IsWrittenTo all (flat_map (member_at items) (drop k places)) a b
@@ -90,6 +87,6 @@ first_broken line piece rest a b is h = prefix_more a b line (concat rest) (subs
 pub first_then : {T E : Type 0} (line piece : List ℕ) (rest : List (List ℕ)) (a b c : Option (List ℕ)) (r : Result T E) → piece ≡ line
     → Appends a b piece → WritesLines rest b c r → WritesLines (line ∷ rest) a c r
 first_then line piece rest a b c (Ok x) is here later =
-    appends_more a b c line (concat rest) (concat (line ∷ rest)) (subst (λ (l : List ℕ). Appends a b l) is here) later refl
+    appends-then a b c line (concat rest) (concat (line ∷ rest)) (subst (λ (l : List ℕ). Appends a b l) is here) later refl
 first_then line piece rest a b c (Err f) is here later =
     prefix_after a b c line (concat rest) (subst (λ (l : List ℕ). Appends a b l) is here) later

@@ -1,11 +1,12 @@
 -- A line is listed by its item.
 use Rattle.std.specs.Prelude.{Bool, Err, IfOk, Ok, OnErr, Option, Result, ◌↔◌}
-use Rattle.std.proofs.Common.{List, [], arith, false, inl, inr, length, subst, sym, true, ℕ, ◌<◌, ◌∷◌, ◌≡◌, ◌≤◌, ◌⊎◌}
+use Rattle.std.proofs.Common.{List, [], false, inl, inr, length, subst, sym, true, ℕ, ◌<◌, ◌∷◌, ◌≡◌, ◌≤◌, ◌⊎◌}
 use Rattle.std.specs.Io.KnownBytes.{Appends}
 use Rattle.std.proofs.KnownBytes.{Keeps-refl}
+use Rattle.std.proofs.lemmas.Bool.{cases_lt}
 use Rattle.bk_ports.specs.Causes.{AppendsPrefix}
 use Rattle.bk_ports.specs.declared.Failed.{Failed}
-use Rattle.bk_ports.specs.Answer.{HasOutcome, IsBegun, IsWanting, IsWritten}
+use Rattle.bk_ports.specs.WrittenAnswer.{HasOutcome, IsAnswerBegun, IsWanting, IsWritten}
 use Rattle.bk_ports.specs.declared.Outcome.{Outcome}
 use Rattle.bk_ports.specs.declared.Outcome.TheVariants as outcomes
 use Rattle.bk_ports.proofs.Pieces.{begins_one, writes_none, writes_one}
@@ -30,7 +31,7 @@ refused_outcome answers wants line a b (Err f) h ok = tt
 
 -- or a write of it failed
 pub refused_begun : (answers : List (List ℕ) → Bool → Type 0) (line : List ℕ) (a b : Option (List ℕ)) (r : Result Outcome Failed) → answers (line ∷ []) true
-    → OnErr r (AppendsPrefix a b line) → OnErr r (IsBegun answers a b)
+    → OnErr r (AppendsPrefix a b line) → OnErr r (IsAnswerBegun answers a b)
 refused_begun answers line a b (Ok o) h err = tt
 refused_begun answers line a b (Err f) h err = begins_one answers true line a b h err
 
@@ -57,18 +58,15 @@ full_line s next number bytes t has full is =
     subst (λ (n : Listed). ListsLine s number bytes (refused_line number More ∷ []) true n) (sym is)
     (accepts t (refused_line number More ∷ []) true (with_refused s) has (no_more full))
 
-two : (a b : ℕ) → (a < b) ⊎ (b ≤ a)
-two a b = grind arith
-
 -- where a call that keeps an item doesn't say that 16,384 are kept, fewer are
 pub has_room : (n : ℕ) (r : Result (Unit {0}) AddFault) → (r ≡ Err Full → ⊥) → (r ≡ Err Full) ↔ (16384 ≤ n) → n < 16384
-has_room n r other full = by (two n 16384)
+has_room n r other full = by (cases_lt n 16384)
   where
     by : (n < 16384) ⊎ (16384 ≤ n) → n < 16384
     by (inl few) = few
     by (inr many) = absurd (other (full.1 many))
 
--- and a call that kept one doesn't say so
+-- a call that kept an item doesn't say that 16,384 are kept
 pub kept_apart : (r : Result (Unit {0}) AddFault) (done : Unit {0}) → r ≡ Ok done → r ≡ Err Full → ⊥
 kept_apart r done is e = absurd (cc)
 

@@ -68,6 +68,7 @@ lines_once s l m n (line ∷ lines) (x ∷ rs) (y ∷ ss) p q =
     (subst (λ (t : Listed). AreEntered listing_rules t (n + 1) lines ss m) (sym here.2) q.2) in
     ((λ i. record { pieces = here.0 i; refused = here.1 i } ∷ rest.0 i), rest.1)
 
+-- lines have at most one listing
 pub lines_have_one_listing : LinesHaveOneListing
 lines_have_one_listing lines rs ss l m one other = lines_once none_listed l m 1 lines rs ss one other
 

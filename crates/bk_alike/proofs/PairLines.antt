@@ -2,12 +2,12 @@
 use Rattle.std.specs.Prelude.{Bool, Some, cond, false, slice_get, true}
 use Rattle.std.proofs.Common.{List, [], ap, arith, length, ℕ, ◌∙◌, ◌∷◌, ◌≡◌, ◌≤◌}
 use Rattle.std.proofs.lemmas.List.{length-append}
+use Rattle.bk_laws.proofs.Outcomes.{some-unique}
 use Rattle.bk_tiling.specs.Tiling.{Tiling}
-use Rattle.bk_ask.specs.declared.Kind.{Kind}
+use Rattle.bk_pair.specs.declared.Kind.{Kind}
 use Rattle.bk_pair.specs.Pair.{joined_square}
 use Rattle.bk_report.specs.ListLines.{pair_line}
 use Rattle.bk_alike.specs.declared.item.KeptItem.{KeptItem}
-use Rattle.bk_alike.proofs.WrittenLines.{same_item}
 use Rattle.bk_alike.specs.Pairs.{is_pair, pair_lines, pairs_with}
 
 -- ---- how many pairs there are
@@ -19,6 +19,7 @@ one_at_most kind a b = by (is_pair kind a.tiling b.tiling)
     by true = omega arith
     by false = omega arith
 
+-- an item has at most as many lines with later ones as there are later ones
 pub few_with : (kind : Kind) (a : KeptItem) (later : List KeptItem) → length (pairs_with kind a later) ≤ length later
 few_with kind a [] = omega arith
 few_with kind a (b ∷ later) = omega (arith, one_at_most kind a b, few_with kind a later, length-append (pair_lines kind a b) (pairs_with kind a later))
@@ -27,8 +28,10 @@ few_with kind a (b ∷ later) = omega (arith, one_at_most kind a b, few_with kin
 abbrev pub IsItemAt : List KeptItem → ℕ → ℕ → Tiling → Type 0
 IsItemAt items k line t = (item : KeptItem) × (slice_get items k ≡ Some item) × (line ≡ item.line) × (t ≡ item.tiling)
 
+-- the number that an item at a place has is the line of the item there
 pub line_at : (items : List KeptItem) (k line : ℕ) (t : Tiling) (a : KeptItem) → IsItemAt items k line t → slice_get items k ≡ Some a → line ≡ a.line
-line_at items k line t a is e = is.2 ∙ ap (λ (item : KeptItem). item.line) (same_item (slice_get items k) is.0 a is.1 e)
+line_at items k line t a is e = is.2 ∙ ap (λ (item : KeptItem). item.line) (some-unique (slice_get items k) is.0 a is.1 e)
 
+-- the tiling that an item at a place has is that of the item there
 pub tiling_at : (items : List KeptItem) (k line : ℕ) (t : Tiling) (a : KeptItem) → IsItemAt items k line t → slice_get items k ≡ Some a → t ≡ a.tiling
-tiling_at items k line t a is e = is.3 ∙ ap (λ (item : KeptItem). item.tiling) (same_item (slice_get items k) is.0 a is.1 e)
+tiling_at items k line t a is e = is.3 ∙ ap (λ (item : KeptItem). item.tiling) (some-unique (slice_get items k) is.0 a is.1 e)

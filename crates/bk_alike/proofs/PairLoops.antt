@@ -4,19 +4,20 @@ use Rattle.std.specs.Prelude.{Some, drop, slice_get}
 use Rattle.std.specs.Io.KnownBytes.{Appends}
 use Rattle.std.proofs.Common.{List, [], Option, ap, arith, length, ℕ, ◌*◌, ◌++◌, ◌+◌, ◌<◌, ◌∙◌, ◌∷◌, ◌≡◌, ◌≤◌}
 use Rattle.std.proofs.lemmas.List.{length-append}
+use Rattle.bk_laws.proofs.Outcomes.{some-unique}
 use Rattle.bk_ports.specs.Causes.{AppendsPrefix}
-use Rattle.bk_ask.specs.declared.Kind.{Kind}
+use Rattle.bk_pair.specs.declared.Kind.{Kind}
 use Rattle.bk_alike.specs.declared.item.KeptItem.{KeptItem}
 use Rattle.bk_alike.specs.Pairs.{all_pairs, pairs_with}
 use Rattle.bk_alike.proofs.PairLines.{few_with}
-use Rattle.bk_alike.proofs.WrittenLines.{IsWrittenTo, item_at, same_item, written_broken, written_more}
+use Rattle.bk_alike.proofs.WrittenLines.{IsWrittenTo, item_at, written_broken, written_more}
 
 next_pairs : (kind : Kind) (items : List KeptItem) (k : ℕ) (x : KeptItem) → k < length items → slice_get items k ≡ Some x
     → all_pairs kind (drop k items) ≡ pairs_with kind x (drop (k + 1) items) ++ all_pairs kind (drop (k + 1) items)
 next_pairs kind items k x below e =
     let at = item_at items k below in
     ap (λ (l : List KeptItem). all_pairs kind l) at.left
-    ∙ ap (λ (y : KeptItem). pairs_with kind y (drop (k + 1) items) ++ all_pairs kind (drop (k + 1) items)) (same_item (slice_get items k) at.item x at.here e)
+    ∙ ap (λ (y : KeptItem). pairs_with kind y (drop (k + 1) items) ++ all_pairs kind (drop (k + 1) items)) (some-unique (slice_get items k) at.item x at.here e)
 
 -- the pairs of the item at a place are written, and those of the later items are left
 pub pairs_more : (kind : Kind) (items : List KeptItem) (k : ℕ) (a b c : Option (List ℕ)) → k < length items
@@ -50,7 +51,7 @@ count_more kind items k n m below e is =
     let next = ap (λ (l : List (List ℕ)). length l) (next_pairs kind items k at.item below at.here) in
     omega (arith, next, is at.item at.here, length-append (pairs_with kind at.item (drop (k + 1) items)) (all_pairs kind (drop (k + 1) items)))
 
--- and they are few
+-- at most 16,384 items have at most 16,384 pairs for each item
 few_by : (kind : Kind) (items : List KeptItem) → length items ≤ 16384 → length (all_pairs kind items) ≤ 16384 * length items
 few_by kind [] few = omega arith
 few_by kind (a ∷ later) few = omega (
@@ -64,7 +65,7 @@ few_by kind (a ∷ later) few = omega (
 pub few_all : (kind : Kind) (items : List KeptItem) → length items ≤ 16384 → length (all_pairs kind items) ≤ 268435456
 few_all kind items few = omega (arith, few_by kind items few)
 
--- and so have those up to any place
+-- the pairs of at most 16,384 items up to any place are at most 2^28
 pub few_so_far : (kind : Kind) (items : List KeptItem) (k n m : ℕ) → k < length items → length items ≤ 16384
     → n + length (all_pairs kind (drop k items)) ≡ length (all_pairs kind items)
     → ((x : KeptItem) → slice_get items k ≡ Some x → m ≡ length (pairs_with kind x (drop (k + 1) items))) → n + m ≤ 268435456

@@ -1,10 +1,9 @@
 -- A place is stored in a group, and an item among the items.
 use Rattle.std.specs.List.{list_any, position_or_len}
 use Rattle.std.specs.Map.{keys_of, values_of}
-use Rattle.std.specs.Prelude.{Bool, Err, None, Ok, OnErr, Option, Result, Some, cond, false, is_err, map, slice_get, true, zero}
-use Rattle.std.proofs.Common.{List, [], ap, arith, inl, inr, length, refl, suc, sym, ℕ, ◌++◌, ◌<◌, ◌||◌, ◌∙◌, ◌∷◌, ◌≡◌, ◌≤◌, nat_lt}
-use Rattle.std.proofs.lemmas.Bool.{cases_Bool, false≢true, true≢false}
-use Rattle.std.proofs.lemmas.Bool.Decides.{nat_tests}
+use Rattle.std.specs.Prelude.{Bool, Some, cond, false, map, slice_get, zero}
+use Rattle.std.proofs.Common.{List, [], ap, arith, inl, inr, length, refl, suc, sym, ℕ, ◌++◌, ◌||◌, ◌∙◌, ◌∷◌, ◌≡◌, ◌≤◌}
+use Rattle.std.proofs.lemmas.Bool.{cases_Bool, true≢false}
 use Rattle.std.proofs.lemmas.List.{length-map, map-append}
 use Rattle.std.proofs.lemmas.Option.{same_Some}
 use Rattle.indexmap.specs.IndexMap.{insert_entry, set_value_at}
@@ -34,22 +33,6 @@ with_place-end [] k place late = refl
 with_place-end (g ∷ groups) zero place late = absurd (omega arith)
 with_place-end (g ∷ groups) (suc k) place late = ap (λ (l : List (List ℕ)). g ∷ l) (with_place-end groups k place (omega arith))
 
--- what is not found stands nowhere
-pub none_late : (n m : ℕ) → ◌≡◌ {A = Option ℕ} None (cond (nat_lt n m) (Some n) None) → m ≤ n
-none_late n m e = by (nat_lt n m) refl e
-  where
-    by : (b : Bool) → nat_lt n m ≡ b → ◌≡◌ {A = Option ℕ} None (cond b (Some n) None) → m ≤ n
-    by true t e = absurd (cc)
-    by false t e = grind (arith, nat_tests)
-
--- and what is found stands at its place
-pub some_found : (n m g : ℕ) → Some g ≡ cond (nat_lt n m) (Some n) None → (g ≡ n) × (n < m)
-some_found n m g e = by (nat_lt n m) refl e
-  where
-    by : (b : Bool) → nat_lt n m ≡ b → Some g ≡ cond (nat_lt n m) (Some n) None → (g ≡ n) × (n < m)
-    by true t e = (same_Some g n (e ∙ ap (λ (v : Bool). cond v (Some n) None) t), (grind (arith, nat_tests)))
-    by false t e = absurd (cc)
-
 -- a size that is not there goes last
 new_entry : {V : Type 0} (entries : List ((ℕ × ℕ) × V)) (a : ℕ × ℕ) (v : V) → list_any (size_eq a) (keys_of entries) ≡ false
     → insert_entry size_eq entries a v ≡ entries ++ (a, v) ∷ []
@@ -73,7 +56,7 @@ module _ {V : Type 0} (f : V → List ℕ) (entries more : List ((ℕ × ℕ) ×
       ap (λ (l : List ((ℕ × ℕ) × V)). keys_of l) at_end ∙ map-append (λ e. e.0) entries ((a, v) ∷ [])
       ∙ sym (ap (λ (b : Bool). cond b (keys_of entries) (keys_of entries ++ a ∷ [])) (absent_at a (keys_of entries) late))
 
-  -- and the groups with its group
+  -- the groups with a new item are those with its place put in its group
   pub groups_grown : f v ≡ place ∷ []
       → map f (values_of more) ≡ with_place (map f (values_of entries)) (position_or_len (size_eq a) (keys_of entries)) place
   groups_grown one =
@@ -83,8 +66,3 @@ module _ {V : Type 0} (f : V → List ℕ) (entries more : List ((ℕ × ℕ) ×
       ∙ ap (λ (l : List ℕ). map f (values_of entries) ++ l ∷ []) one
       ∙ sym (with_place-end (map f (values_of entries)) (position_or_len (size_eq a) (keys_of entries)) place
       (omega (arith, late, length-map entries (λ e. e.0), length-map entries (λ e. e.1), length-map (values_of entries) f)))
-
--- what holds where a call fails
-pub went_ill : {T E : Type 0} (r : Result T E) (P : Type 0) → is_err r ≡ true → OnErr r P → P
-went_ill (Ok x) P e h = absurd (false≢true e)
-went_ill (Err x) P e h = h

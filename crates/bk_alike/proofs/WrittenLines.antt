@@ -6,9 +6,10 @@ use Rattle.std.proofs.Common.{List, [], Option, ap, arith, length, refl, subst, 
 use Rattle.std.proofs.lemmas.List.{append-nil, append_assoc, take-append-le, take_min}
 use Rattle.std.proofs.lemmas.List.Folds.{concat-append}
 use Rattle.std.proofs.KnownBytes.{Appends-nil}
+use Rattle.bk_laws.proofs.Bytes.{appends-one_piece, appends-then}
 use Rattle.bk_ports.specs.Causes.{AppendsPrefix}
-use Rattle.bk_ports.proofs.KnownSteps.{appends_more, prefix_after}
-use Rattle.bk_alike.specs.Writing.{WritesLines}
+use Rattle.bk_ports.proofs.KnownSteps.{prefix_after}
+use Rattle.bk_alike.specs.WrittenLines.{WritesLines}
 
 -- a beginning of bytes is one of more bytes
 pub prefix_more : (a b : Option (List ℕ)) (xs ys : List ℕ) → AppendsPrefix a b xs → AppendsPrefix a b (xs ++ ys)
@@ -27,7 +28,7 @@ pub record IsWrittenTo (all rest : List (List ℕ)) (before now : Option (List �
 pub written_none : (all : List (List ℕ)) (w : Option (List ℕ)) → IsWrittenTo all all w w
 written_none all w = record { done = []; split = refl; written = Appends-nil w }
 
--- the same where they are told in another way
+-- nothing is written yet, where what is to be written is told in another way
 pub written_from : (all rest : List (List ℕ)) (w : Option (List ℕ)) → rest ≡ all → IsWrittenTo all rest w w
 written_from all rest w is = record { done = []; split = sym is; written = Appends-nil w }
 
@@ -37,7 +38,7 @@ pub written_more : (all rest piece later : List (List ℕ)) (a b c : Option (Lis
 written_more all rest piece later a b c state is here = record {
   done = state.done ++ piece;
   split = state.split ∙ ap (λ (l : List (List ℕ)). state.done ++ l) is ∙ sym (append_assoc state.done piece later);
-  written = appends_more a b c (concat state.done) (concat piece) (concat (state.done ++ piece)) state.written here (concat-append state.done piece);
+  written = appends-then a b c (concat state.done) (concat piece) (concat (state.done ++ piece)) state.written here (concat-append state.done piece);
 }
 
 -- where none is left, all are written
@@ -56,11 +57,7 @@ written_broken all rest piece later a b c state is here =
     subst (λ (l : List ℕ). AppendsPrefix a c l) (sym whole)
     (prefix_after a b c (concat state.done) (concat piece ++ concat later) state.written (prefix_more b c (concat piece) (concat later) here))
 
--- one line
-pub one_line : (line piece : List ℕ) (a b : Option (List ℕ)) → piece ≡ line → Appends a b piece → Appends a b (concat (line ∷ []))
-one_line line piece a b is w = subst (λ (l : List ℕ). Appends a b l) (is ∙ sym (append-nil line)) w
-
--- or a beginning of it
+-- what appends a beginning of a piece appends one of the concatenation of that piece alone
 pub one_broken : (line piece : List ℕ) (a b : Option (List ℕ)) → piece ≡ line → AppendsPrefix a b piece → AppendsPrefix a b (concat (line ∷ []))
 one_broken line piece a b is w = subst (λ (l : List ℕ). AppendsPrefix a b l) (is ∙ sym (append-nil line)) w
 
@@ -72,7 +69,7 @@ broken_before xs ys a c h = subst (λ (l : List ℕ). AppendsPrefix a c l) (sym 
 pub last_written : {T E : Type 0} (xs : List (List ℕ)) (line piece : List ℕ) (a b c : Option (List ℕ)) (r : Result T E) → Appends a b (concat xs) → piece ≡ line
     → OnOk r (Appends b c piece) → OnErr r (AppendsPrefix b c piece) → WritesLines (xs ++ line ∷ []) a c r
 last_written xs line piece a b c (Ok x) first is ok err =
-    appends_more a b c (concat xs) (concat (line ∷ [])) (concat (xs ++ line ∷ [])) first (one_line line piece b c is ok) (concat-append xs (line ∷ []))
+    appends-then a b c (concat xs) (concat (line ∷ [])) (concat (xs ++ line ∷ [])) first (appends-one_piece line piece b c is ok) (concat-append xs (line ∷ []))
 last_written xs line piece a b c (Err f) first is ok err =
     subst (λ (l : List ℕ). AppendsPrefix a c l) (sym (concat-append xs (line ∷ [])))
     (prefix_after a b c (concat xs) (concat (line ∷ [])) first (one_broken line piece b c is err))
@@ -91,7 +88,3 @@ item_at (x ∷ xs) (suc k) below =
     let at = item_at xs k (omega arith) in
     let e : suc (k + 1) ≡ suc k + 1 = omega arith in
     record { item = at.item; here = at.here; left = at.left ∙ ap (λ (l : ℕ). at.item ∷ drop l (x ∷ xs)) e }
-
--- a place has one item
-pub same_item : {A : Type 0} (o : Option A) (x y : A) → o ≡ Some x → o ≡ Some y → x ≡ y
-same_item o x y e f = cc

@@ -1,5 +1,6 @@
 -- Canonical tilings of one size, put together.
--- Example (AlikeExamples): of three items of the sizes 3x2, 2x2 and 3x2 the first and the last are one group, and the second another.
+-- Example (AlikeExamples): of three items of the sizes 3x2, 2x2 and 3x2 the first and the last are one group, and the
+-- second another.
 use Rattle.std.specs.List.{enumerate_from, list_any}
 use Rattle.std.specs.Prelude.{Bool, List, [], cond, filter, fold, map, ℕ, ◌&&◌, ◌++◌, ◌==◌, ◌∷◌}
 use Rattle.bk_alike.specs.declared.item.KeptItem.{KeptItem}

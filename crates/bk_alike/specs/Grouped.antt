@@ -5,9 +5,9 @@ use Rattle.bk_alike.specs.Alike.{alike_groups, group_of, size_eq, sizes}
 use Rattle.bk_alike.specs.declared.item.KeptItem.{KeptItem}
 
 -- no size stands twice
-abbrev pub AreApart : List (ℕ × ℕ) → Type 0
-AreApart [] = ⊤
-AreApart (a ∷ sizes) = AllByRecursion (λ b. size_eq a b ≡ false) sizes × AreApart sizes
+abbrev pub AreSizesApart : List (ℕ × ℕ) → Type 0
+AreSizesApart [] = ⊤
+AreSizesApart (a ∷ sizes) = AllByRecursion (λ b. size_eq a b ≡ false) sizes × AreSizesApart sizes
 
 -- a place put into a group, or into a new one at the end
 abbrev pub with_place : List (List ℕ) → ℕ → ℕ → List (List ℕ)
@@ -20,5 +20,5 @@ pub record IsGrouped (items : List KeptItem) (stored : List (ℕ × ℕ)) (group
   pub few : length items ≤ 16_384
   pub sizes_are : stored ≡ sizes items
   pub groups_are : groups ≡ alike_groups items
-  pub apart : AreApart (sizes items)
+  pub apart : AreSizesApart (sizes items)
   pub no_others : (a : ℕ × ℕ) → list_any (size_eq a) (sizes items) ≡ false → group_of items a ≡ []

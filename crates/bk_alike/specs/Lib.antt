@@ -1,11 +1,11 @@
 -- What the crate says.
 pub mod Alike
+pub mod GroupsEnd
 pub mod Listed
-pub mod Pairs
-pub mod Closing
 pub mod ListingLaw
+pub mod Pairs
 -- How its code keeps it.
+pub mod EmptyListLine
 pub mod Grouped
-pub mod EmptyLine
-pub mod Writing
 pub mod LaterLines
+pub mod WrittenLines

@@ -1,6 +1,6 @@
 -- Lines of codes that are listed one after another: the items that are kept, and how many lines are refused.
--- Example (GroupExamples): of `[1,2][1]` the canonical tiling is kept, `[18,15][7,9]` is refused by `line 2 no gap 2 15 16`; where 16,384
--- items are kept, the next one is refused too.
+-- Example (GroupExamples): of `[1,2][1]` the canonical tiling is kept, `[18,15][7,9]` is refused by `line 2 no gap 2 15
+-- 16`; where 16,384 items are kept, the next one is refused too.
 use Rattle.std.specs.Prelude.{Bool, List, [], false, length, true, ℕ, ◌++◌, ◌+◌, ◌<◌, ◌∷◌, ◌≡◌, ◌≤◌}
 use Rattle.bk_tiling.specs.Tiling.{Tiling}
 use Rattle.bk_sym.specs.Canonical.{IsCanonicalOf}
@@ -33,7 +33,8 @@ with_refused s = record s { refused = s.refused + 1 }
 
 -- how the tiling of a line is listed: kept with its canonical tiling, as long as fewer than 16,384 are, or refused
 pub data ListsTiling (s : Listed) (number : ℕ) (t : Tiling) : List (List ℕ) → Bool → Listed → Type 0 where
-  keeps : (c : Tiling) → length s.items < 16_384 → IsCanonicalOf t c → ListsTiling s number t [] false (with_item s number c)
+  keeps : (c : Tiling) → length s.items < 16_384 → IsCanonicalOf t c
+      → ListsTiling s number t [] false (with_item s number c)
   no_more : 16_384 ≤ length s.items → ListsTiling s number t (refused_line number More ∷ []) true (with_refused s)
 
 -- how a line is listed
@@ -55,8 +56,8 @@ MayWantItem s number bytes = (t : Tiling) × HasTiling bytes t × (length s.item
 abbrev pub listing_rules : Entering Listed
 listing_rules = record { enters = ListsLine; may_want = MayWantItem }
 
--- where these lines are listed one after another, some line is refused: `check` refuses it, or it accepts it and 16,384 items
--- are kept before it
+-- where these lines are listed one after another, some line is refused: `check` refuses it, or it accepts it and 16,384
+-- items are kept before it
 pub record HasRefusedLine (lines : List (List ℕ)) : Type 0 where
   pub replies : List Reply
   pub last : Listed

@@ -7,5 +7,6 @@ use Rattle.bk_alike.specs.Listed.{Listed, listing_rules, none_listed}
 -- lines have at most one listing: the replies to them, the items that are kept and the number of refused lines
 abbrev pub LinesHaveOneListing : Type 0
 LinesHaveOneListing = (lines : List (List ℕ)) (replies others : List Reply) (last other : Listed)
-    → AreEntered listing_rules none_listed 1 lines replies last → AreEntered listing_rules none_listed 1 lines others other
+    → AreEntered listing_rules none_listed 1 lines replies last
+    → AreEntered listing_rules none_listed 1 lines others other
     → (replies ≡ others) × (last ≡ other)

@@ -1,11 +1,11 @@
 -- The pairs of items that are laid together to a square.
--- Example (GroupExamples): of the rectangles 3x2, 2x2 and 3x2 on the lines 1, 2 and 4 the first and the last are laid to a square of side 5,
--- which is a pair of the kind any; none is of the kind perfect.
+-- Example (GroupExamples): of the rectangles 3x2, 2x2 and 3x2 on the lines 1, 2 and 4 the first and the last are laid
+-- to a square of side 5, which is a pair of the kind any; none is of the kind perfect.
 use Rattle.std.specs.List.{flat_map}
 use Rattle.std.specs.Prelude.{Bool, List, [], cond, ℕ, ◌++◌, ◌∷◌}
 use Rattle.bk_tiling.specs.Tiling.{Tiling}
-use Rattle.bk_ask.specs.declared.Kind.{Kind}
-use Rattle.bk_ask.specs.declared.Kind.TheVariants as kinds
+use Rattle.bk_pair.specs.declared.Kind.{Kind}
+use Rattle.bk_pair.specs.declared.Kind.TheVariants as kinds
 use Rattle.bk_pair.specs.Pair.{joined_square}
 use Rattle.bk_pair.specs.PairTest.{are_pair, can_be_laid}
 use Rattle.bk_report.specs.ListLines.{pair_line}
@@ -18,13 +18,14 @@ is_pair kinds.Any a b = can_be_laid a b
 
 -- the line of two items that are a pair, and of others none
 abbrev pub pair_lines : Kind → KeptItem → KeptItem → List (List ℕ)
-pair_lines kind a b = cond (is_pair kind a.tiling b.tiling) (pair_line a.line b.line (joined_square a.tiling b.tiling) ∷ []) []
+pair_lines kind a b = cond (is_pair kind a.tiling b.tiling)
+    (pair_line a.line b.line (joined_square a.tiling b.tiling) ∷ []) []
 
--- those of one item with each later one
+-- the lines of an item with each later one
 abbrev pub pairs_with : Kind → KeptItem → List KeptItem → List (List ℕ)
 pairs_with kind a later = flat_map (pair_lines kind a) later
 
--- those of each two items, by the first and then by the second
+-- the lines of each two items, by the first and then by the second
 abbrev pub all_pairs : Kind → List KeptItem → List (List ℕ)
 all_pairs kind [] = []
 all_pairs kind (a ∷ later) = pairs_with kind a later ++ all_pairs kind later

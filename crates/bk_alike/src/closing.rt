@@ -4,8 +4,8 @@ ghost use Rattle.std.specs.List.{AllByRecursion, flat_map};
 ghost use Rattle.std.specs.Prelude.{Some, length, slice_get, ◌<◌, ◌≡◌, ℕ};
 ghost use Rattle.bk_ports.specs.Causes.{HasCause};
 ghost use Rattle.bk_alike.specs.Alike.{sizes};
-ghost use Rattle.bk_alike.specs.Closing.{closing_lines, group_lines, member_at};
-ghost use Rattle.bk_alike.specs.Writing.{WritesLines};
+ghost use Rattle.bk_alike.specs.GroupsEnd.{closing_lines, group_lines, member_at};
+ghost use Rattle.bk_alike.specs.WrittenLines.{WritesLines};
 
 use crate::listed::ItemList;
 use crate::pairs::write_all_pairs;
@@ -46,7 +46,8 @@ fn write_groups<O: Sink>(
     buffer: &mut AnswerBuffer,
     out: &mut O,
 ) -> Result<(), Failed>
-    ensures lines { WritesLines (flat_map (group_lines items.now) (sizes items.now)) (O.written out.old) (O.written out.new) result }
+    ensures lines { WritesLines (flat_map (group_lines items.now) (sizes items.now)) (O.written out.old)
+        (O.written out.new) result }
     ensures cause { HasCause (O.faults out.old) (O.faults out.new) result }
 {
     for g in 0..items.groups() {
@@ -82,7 +83,8 @@ fn write_members<O: Sink>(
     out: &mut O,
 ) -> Result<(), Failed>
     requires { AllByRecursion (λ place. place < length items.now) places.now }
-    ensures lines { WritesLines (flat_map (member_at items.now) places.now) (O.written out.old) (O.written out.new) result }
+    ensures lines { WritesLines (flat_map (member_at items.now) places.now) (O.written out.old)
+        (O.written out.new) result }
     ensures cause { HasCause (O.faults out.old) (O.faults out.new) result }
 {
     for place in places {

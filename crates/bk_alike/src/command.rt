@@ -1,8 +1,8 @@
 //! The run of a command that lists lines.
 
-ghost use Rattle.bk_ports.specs.Ending.{EndsWith};
-ghost use Rattle.bk_ports.specs.Faults.{CountsTell, IsCalm, IsDoneOrWanting};
-ghost use Rattle.bk_alike.specs.Closing.{listing_of};
+ghost use Rattle.bk_ports.specs.Ending.{EndsWith, streams_between};
+ghost use Rattle.bk_ports.specs.Faults.{CountsTell, IsCalm, IsDoneOrWanting, faults_between};
+ghost use Rattle.bk_alike.specs.GroupsEnd.{listing_of};
 ghost use Rattle.bk_alike.specs.Listed.{none_listed};
 ghost use Rattle.std.specs.Prelude.{◌≡◌};
 
@@ -12,9 +12,10 @@ use crate::listed::ItemList;
 use bk_ports::{Ended, Failed, Sink, Source, enter_lines};
 use std::alloc::Global;
 
-/// Reads lines of codes to the end of the source, keeps the canonical tiling of each accepted one, at most 16,384 of them, and
-/// answers each refused line by its number and the cause. Behind them it writes what is wanted: the items grouped by size, or
-/// the pairs of items that two squares complete to a square (Brooks, Smith, Stone and Tutte 1940), and a last line with counts.
+/// Reads lines of codes to the end of the source, keeps the canonical tiling of each accepted one, at most 16,384 of
+/// them, and answers each refused line by its number and the cause. Behind them it writes what is wanted: the items
+/// grouped by size, or the pairs of items that two squares complete to a square (Brooks, Smith, Stone and Tutte 1940),
+/// and a last line with counts.
 pub fn list_lines<S: Source, O: Sink>(
     alloc: Global,
     wanted: Wanted,
@@ -23,38 +24,23 @@ pub fn list_lines<S: Source, O: Sink>(
 ) -> Ended
     // What each ending says of the bytes.
     ensures ending { EndsWith (listing_of wanted)
-        (record {
-          left = S.left source.old;
-          left_after = S.left source.new;
-          written = O.written out.old;
-          written_after = O.written out.new;
-        })
+        (streams_between S.left O.written (source.old, out.old) (source.new, out.new))
         result }
 
     // Where nothing goes wrong, all is written, or memory is wanting.
     ensures complete { IsCalm (S.left source.old)
-        (record {
-          read = S.faults source.old;
-          read_after = S.faults source.new;
-          write = O.faults out.old;
-          write_after = O.faults out.new;
-        })
+        (faults_between S.faults O.faults (source.old, out.old) (source.new, out.new))
         → IsDoneOrWanting result }
 
     // What the ending tells of the counts of faults.
     ensures faults { CountsTell result
-        (record {
-          read = S.faults source.old;
-          read_after = S.faults source.new;
-          write = O.faults out.old;
-          write_after = O.faults out.new;
-        }) }
+        (faults_between S.faults O.faults (source.old, out.old) (source.new, out.new)) }
 {
     let mut list = ItemList::new(alloc);
     list_into(&mut list, wanted, source, out)
 }
 
-// The same by a list without items or refused lines.
+// Lists lines by an item list that has no items or refused lines yet.
 fn list_into<S: Source, O: Sink>(
     list: &mut ItemList,
     wanted: Wanted,
@@ -63,28 +49,13 @@ fn list_into<S: Source, O: Sink>(
 ) -> Ended
     requires { list.old ≡ none_listed }
     ensures ending { EndsWith (listing_of wanted)
-        (record {
-          left = S.left source.old;
-          left_after = S.left source.new;
-          written = O.written out.old;
-          written_after = O.written out.new;
-        })
+        (streams_between S.left O.written (source.old, out.old) (source.new, out.new))
         result }
     ensures complete { IsCalm (S.left source.old)
-        (record {
-          read = S.faults source.old;
-          read_after = S.faults source.new;
-          write = O.faults out.old;
-          write_after = O.faults out.new;
-        })
+        (faults_between S.faults O.faults (source.old, out.old) (source.new, out.new))
         → IsDoneOrWanting result }
     ensures faults { CountsTell result
-        (record {
-          read = S.faults source.old;
-          read_after = S.faults source.new;
-          write = O.faults out.old;
-          write_after = O.faults out.new;
-        }) }
+        (faults_between S.faults O.faults (source.old, out.old) (source.new, out.new)) }
 {
     let ended = enter_lines(list, source, out);
     match ended {

@@ -1,5 +1,5 @@
-//! Canonical tilings of one size, put together; and lines of codes that are listed, with what is written behind them: groups of one size, or
-//! pairs that make a square.
+//! Canonical tilings of one size, put together; and lines of codes that are listed, with what is written behind them:
+//! groups of one size, or pairs that make a square.
 #![tactic(auto)]
 
 ghost use Rattle.std.specs.List.{position_or_len};
@@ -17,8 +17,7 @@ mod item;
 mod listed;
 mod pairs;
 
-use bk_ask::Kind;
-use bk_pair::KeptTiling;
+use bk_pair::{KeptTiling, Kind};
 use bk_sym::canonical;
 use bk_tiling::Tiling;
 pub use command::list_lines;
@@ -82,11 +81,12 @@ impl Alike {
         }
     }
 
-    /// Keeps the canonical tiling of a tiling with its line. `Full` comes exactly where 16,384 items are kept; a refusal
-    /// changes nothing.
+    /// Keeps the canonical tiling of a tiling with its line. `Full` comes exactly where 16,384 items are kept; a
+    /// refusal changes nothing.
     pub fn add(&mut self, line: u64, tiling: &Tiling) -> Result<(), AddFault>
         ensures full { result ≡ Err AddFault.Full ↔ (16_384 ≤ length self.old) }
-        ensures kept { OnOk result ((c : Tiled) × IsCanonicalOf tiling.now c × (self.new ≡ self.old ++ record { line = line; tiling = c } ∷ [])) }
+        ensures kept { OnOk result ((c : Tiled) × IsCanonicalOf tiling.now c
+            × (self.new ≡ self.old ++ record { line = line; tiling = c } ∷ [])) }
         ensures unchanged { OnErr result (self.new ≡ self.old) }
     {
         let n = self.items.len();
@@ -118,7 +118,8 @@ impl Alike {
     /// The item at a place, from 0.
     pub fn item(&self, i: usize) -> (u64, &KeptTiling)
         requires { i < length self.now }
-        ensures { (item : _) × (slice_get self.now i ≡ Some item) × (result.0 ≡ item.line) × (result.1.now ≡ item.tiling) }
+        ensures { (item : _) × (slice_get self.now i ≡ Some item) × (result.0 ≡ item.line)
+            × (result.1.now ≡ item.tiling) }
     {
         let item = &self.items[i];
         (item.line, &item.tiling)
@@ -170,16 +171,13 @@ fn push_item(
     line: u64,
     tiling: &Tiling,
 ) -> Result<(), AllocError>
-    ensures pushed { OnOk result (items.new.items ≡ items.old.items ++ record { line = line; tiling = tiling.now } ∷ []) }
+    ensures pushed { OnOk result (items.new.items
+        ≡ items.old.items ++ record { line = line; tiling = tiling.now } ∷ []) }
     ensures same { OnErr result (items.new.items ≡ items.old.items) }
 {
-    match KeptTiling::new(alloc, tiling) {
-        Ok(tiling) => match items.push(KeptItem { line, tiling }) {
-            Ok(()) => Ok(()),
-            Err(_) => Err(AllocError),
-        },
-        Err(AllocError) => Err(AllocError),
-    }
+    let tiling = KeptTiling::new(alloc, tiling)?;
+    items.push(KeptItem { line, tiling })?;
+    Ok(())
 }
 
 // Puts a place into the group of a size, or into a new one at the end.
@@ -191,9 +189,11 @@ fn put_in_group(
 ) -> Result<(), AllocError>
     ensures sizes { OnOk result (keys groups.new ≡ with_size (keys groups.old) size) }
     ensures groups { OnOk result (map (λ group. group.items) (values groups.new)
-        ≡ with_place (map (λ group. group.items) (values groups.old)) (position_or_len (size_eq size) (keys groups.old)) place) }
+        ≡ with_place (map (λ group. group.items) (values groups.old))
+        (position_or_len (size_eq size) (keys groups.old)) place) }
     ensures same_sizes { OnErr result (keys groups.new ≡ keys groups.old) }
-    ensures same_groups { OnErr result (map (λ group. group.items) (values groups.new) ≡ map (λ group. group.items) (values groups.old)) }
+    ensures same_groups { OnErr result (map (λ group. group.items) (values groups.new)
+        ≡ map (λ group. group.items) (values groups.old)) }
 {
     match groups.get_index_of(&size) {
         Some(g) => match groups[g].push(place) {
@@ -210,8 +210,8 @@ fn put_in_group(
     }
 }
 
-/// Lines have one listing: the replies to them, the items that are kept and the number of refused lines are a function of the
-/// lines, and so is all that is written of them.
+/// Lines have one listing: the replies to them, the items that are kept and the number of refused lines are a function
+/// of the lines, and so is all that is written of them.
 pub fn lines_have_one_listing()
     ensures { LinesHaveOneListing }
 {}

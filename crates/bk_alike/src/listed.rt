@@ -1,7 +1,7 @@
 //! The items of a list, and the lines that are refused.
 
 ghost use Rattle.std.specs.Prelude.{IfOk, OnErr, OnOk, ◌+◌, ◌<◌, ◌^◌, ◌≡◌};
-ghost use Rattle.bk_ports.specs.Answer.{HasOutcome, IsBegun};
+ghost use Rattle.bk_ports.specs.WrittenAnswer.{HasOutcome, IsAnswerBegun};
 ghost use Rattle.bk_ports.specs.Causes.{HasCause};
 
 use crate::{AddFault, Alike};
@@ -12,7 +12,8 @@ use bk_report::{Refused, write_line_refused};
 use std::alloc::Global;
 use std::marker::Model;
 
-// The items that are kept, how many lines were refused, and the desk on which the lines are laid. It is seen without the desk.
+// The items that are kept, how many lines were refused, and the desk on which the lines are laid. It is seen without
+// the desk.
 #[derive(Drop)]
 pub(crate) struct ItemList {
     items: Alike,
@@ -70,8 +71,10 @@ impl ItemList {
     ) -> Result<Outcome, Failed>
         requires { self.old.refused < 2 ^ 63 }
         ensures state { self.new ≡ with_refused self.old }
-        ensures outcome { IfOk result (λ o. (o ≡ Outcome.Refused) × Appends (O.written out.old) (O.written out.new) (refused_line number refused)) }
-        ensures failed { OnErr result (AppendsPrefix (O.written out.old) (O.written out.new) (refused_line number refused)) }
+        ensures outcome { IfOk result (λ o. (o ≡ Outcome.Refused)
+            × Appends (O.written out.old) (O.written out.new) (refused_line number refused)) }
+        ensures failed { OnErr result
+            (AppendsPrefix (O.written out.old) (O.written out.new) (refused_line number refused)) }
         ensures cause { HasCause (O.faults out.old) (O.faults out.new) result }
     {
         self.refused += 1;
@@ -109,7 +112,7 @@ impl Register for ItemList {
         }
     }
 
-    ghost use Rattle.bk_alike.specs.EmptyLine.{empty_skipped, still_ready};
+    ghost use Rattle.bk_alike.specs.EmptyListLine.{empty_skipped, still_ready};
 
     ghost empty_line = { empty_skipped };
 

@@ -5,14 +5,13 @@ ghost use Rattle.bk_ports.specs.Causes.{HasCause};
 ghost use Rattle.bk_alike.specs.declared.item.KeptItem.{KeptItem as Kept};
 ghost use Rattle.bk_alike.specs.LaterLines.{later_lines};
 ghost use Rattle.bk_alike.specs.Pairs.{all_pairs, is_pair, pairs_with};
-ghost use Rattle.bk_alike.specs.Writing.{WritesLines};
+ghost use Rattle.bk_alike.specs.WrittenLines.{WritesLines};
 ghost use Rattle.bk_pair.specs.Pair.{CanBeLaid, joined_square};
 ghost use Rattle.bk_report.specs.ListLines.{pair_line};
 
 use crate::Alike;
-use bk_ask::Kind;
 use bk_grammar::AnswerBuffer;
-use bk_pair::{KeptTiling, lay_pair};
+use bk_pair::{KeptTiling, Kind, lay_pair};
 use bk_ports::{Failed, Sink};
 use bk_report::write_pair;
 
@@ -46,7 +45,8 @@ fn write_pairs_with<O: Sink>(
     requires { i < length items.now }
     ensures lines { (a : Kept) → slice_get items.now i ≡ Some a
         → WritesLines (pairs_with kind a (drop (i + 1) items.now)) (O.written out.old) (O.written out.new) result }
-    ensures count { IfOk result (λ n. (a : Kept) → slice_get items.now i ≡ Some a → n ≡ length (pairs_with kind a (drop (i + 1) items.now))) }
+    ensures count { IfOk result (λ n. (a : Kept) → slice_get items.now i ≡ Some a
+        → n ≡ length (pairs_with kind a (drop (i + 1) items.now))) }
     ensures cause { HasCause (O.faults out.old) (O.faults out.new) result }
 {
     let (_line, tiling) = items.item(i);
@@ -72,7 +72,8 @@ fn write_if_pair<O: Sink>(
     requires second { j < length items.now }
     ensures lines { (a : Kept) → slice_get items.now i ≡ Some a
         → WritesLines (later_lines kind items.now i a j) (O.written out.old) (O.written out.new) result }
-    ensures count { IfOk result (λ n. (a : Kept) → slice_get items.now i ≡ Some a → n ≡ length (later_lines kind items.now i a j)) }
+    ensures count { IfOk result (λ n. (a : Kept) → slice_get items.now i ≡ Some a
+        → n ≡ length (later_lines kind items.now i a j)) }
     ensures few { IfOk result (λ n. n ≤ 1) }
     ensures cause { HasCause (O.faults out.old) (O.faults out.new) result }
 {
@@ -98,7 +99,8 @@ fn is_pair(kind: Kind, a: &KeptTiling, b: &KeptTiling) -> bool
     }
 }
 
-// Writes the square that two items make, with the numbers of their lines. Most two items make none, and its room for tilings is needed only here.
+// Writes the square that two items make, with the numbers of their lines. Most two items make none, and its room for
+// tilings is needed only here.
 #[inline(never)]
 fn write_square<O: Sink>(
     first: u64,
@@ -109,7 +111,8 @@ fn write_square<O: Sink>(
     out: &mut O,
 ) -> Result<(), Failed>
     requires { CanBeLaid a.now b.now }
-    ensures lines { WritesLines (pair_line first second (joined_square a.now b.now) ∷ []) (O.written out.old) (O.written out.new) result }
+    ensures lines { WritesLines (pair_line first second (joined_square a.now b.now) ∷ []) (O.written out.old)
+        (O.written out.new) result }
     ensures cause { HasCause (O.faults out.old) (O.faults out.new) result }
 {
     match lay_pair(&a.tiling(), &b.tiling()) {

@@ -12,15 +12,17 @@ use Rattle.bk_answer.specs.Answer.{AnswersLine, MayWant}
 use Rattle.bk_answer.specs.Checked.{Accepts, IsChecked, IsReplyTo}
 use Rattle.bk_answer.specs.CodeAnswer.{AnswersCodeLine, answers, no_item, refuses}
 use Rattle.bk_answer.specs.Item.{HasItem, HasTiling, IsSize}
-use Rattle.bk_answer.specs.declared.command.CodeCommand.TheVariants.{Check}
+use Rattle.bk_answer.specs.CodeCommand.{by_plain}
 use Rattle.bk_answer.specs.declared.command.Command.{Command}
-use Rattle.bk_answer.specs.declared.command.Command.TheVariants.{Flow, OfCodes, Solve}
+use Rattle.bk_answer.specs.declared.command.Command.TheVariants.{Memory, Plain}
+use Rattle.bk_answer.specs.declared.command.MemoryCommand.TheVariants.{Flow, Solve, Word}
+use Rattle.bk_answer.specs.declared.plain.PlainCommand.TheVariants.{Check}
 use Rattle.bk_answer.proofs.Accepting.{accepted_exactly, first_byte, refusal_byte}
 use Rattle.bk_answer.proofs.KeptFronts.{front_answer}
 
-module _ (bytes : List ℕ) (pieces : List (List ℕ)) (refused : Bool) (an : AnswersCodeLine Check bytes pieces refused) where
+module _ (bytes : List ℕ) (pieces : List (List ℕ)) (refused : Bool) (an : AnswersCodeLine (by_plain Check) bytes pieces refused) where
   -- any line
-  accepts_some : (others : List (List ℕ)) (p : Bool) → AnswersCodeLine Check bytes others p → Accepts others
+  accepts_some : (others : List (List ℕ)) (p : Bool) → AnswersCodeLine (by_plain Check) bytes others p → Accepts others
       → (t : Tiling) × HasTiling bytes t
   accepts_some others p (no_item a) b = absurd (omega (arith, first_byte [] b))
   accepts_some others p (refuses r h) b = absurd (refusal_byte r (first_byte (refusal_line r ++ []) b))
@@ -63,7 +65,7 @@ module _ (bytes : List ℕ) (pieces : List (List ℕ)) (refused : Bool) (an : An
   }
 
 checked_line : (command : Command) (bytes : List ℕ) (pieces : List (List ℕ)) (refused : Bool) → AnswersLine command bytes pieces refused
-    → command ≡ OfCodes Check → IsChecked bytes pieces
+    → command ≡ Plain Check → IsChecked bytes pieces
 checked_line command bytes pieces refused an is =
     is_checked bytes pieces refused (subst (λ (c : Command). AnswersLine c bytes pieces refused) is an)
 
@@ -86,11 +88,12 @@ kept_whole line short = either (two (length line))
     either (inr h) = absurd (omega (arith, length-take-le 8193 line (omega arith)))
 
 wanting_short : (command : Command) (bytes : List ℕ) → MayWant command bytes → length bytes ≤ 8192
-wanting_short (OfCodes command) bytes h = (h.1).is_item.short
-wanting_short Flow bytes h = (h.1).item.short
-wanting_short Solve bytes h = (h.1).item.short
+wanting_short (Plain command) bytes h = (h.1).is_item.short
+wanting_short (Memory Word) bytes h = (h.1).is_item.short
+wanting_short (Memory Flow) bytes h = (h.1).item.short
+wanting_short (Memory Solve) bytes h = (h.1).item.short
 
--- and memory may be wanting at the line where it may at what is kept of it
+-- memory may be wanting at a line where it may at what is kept of it
 pub wants_whole : (command : Command) (line : List ℕ) → MayWant command (kept_front line) → MayWant command line
 wants_whole command line h =
     subst (MayWant command) (kept_whole line (wanting_short command (kept_front line) h)) h

@@ -10,15 +10,17 @@ use Rattle.bk_profile.proofs.RefusalExamples.{second_does_not_fit}
 use Rattle.bk_profile.specs.declared.laying.Refusal.TheVariants.{Gap}
 use Rattle.bk_text.proofs.WhatWasRead.{read_is_line}
 use Rattle.bk_text.specs.CodeLine.{Flat, Item, Line, Skip}
+use Rattle.bk_report.specs.AnswerWords.{ok_word}
 use Rattle.bk_report.specs.declared.refusal.Refused.TheVariants.{Gap as NoGap, Order, Size}
 use Rattle.bk_answer.proofs.CheckedLines.{a_reply}
 use Rattle.bk_answer.specs.Answer.{AnswersLine, MayWant}
 use Rattle.bk_answer.specs.Checked.{Accepts}
+use Rattle.bk_answer.specs.CodeCommand.{by_plain}
 use Rattle.bk_answer.specs.CodeAnswer.{AnswersCodeLine, answers, any_command, no_item, refuses}
 use Rattle.bk_answer.specs.Item.{AllowsOrder, AllowsSize, HasItem, HasTiling, IsStatedBy}
 use Rattle.bk_answer.specs.Refusing.{IsLineRefused, not_laid, other_order, other_size, refused_item}
-use Rattle.bk_answer.specs.declared.command.CodeCommand.TheVariants.{Check, Draw}
-use Rattle.bk_answer.specs.declared.command.Command.TheVariants.{OfCodes}
+use Rattle.bk_answer.specs.declared.command.Command.TheVariants.{Plain}
+use Rattle.bk_answer.specs.declared.plain.PlainCommand.TheVariants.{Check, Draw}
 
 tiling-3x2 : IsTiling rectangle_3x2
 tiling-3x2 = tiling_from_test rectangle_3x2 refl
@@ -90,40 +92,40 @@ order_refused = refused_item other_order_stated (Order 4)
 -- ---- answers
 
 -- what `draw` answers to the code
-drawn : AnswersCodeLine Draw (codes "[2,1][1]") (codes "+-++\n" ∷ codes "| ++\n" ∷ codes "+-++\n" ∷ []) false
+drawn : AnswersCodeLine (by_plain Draw) (codes "[2,1][1]") (codes "+-++\n" ∷ codes "| ++\n" ∷ codes "+-++\n" ∷ []) false
 drawn = answers rectangle_3x2 _ has_tiling (lit≤ tt, lit≤ tt) refl
 
 -- a line of a comment alone has no answer
-comment_skipped : AnswersCodeLine Draw (codes "; 3x2") [] false
+comment_skipped : AnswersCodeLine (by_plain Draw) (codes "; 3x2") [] false
 comment_skipped = no_item (record { short = lit≤ tt; meaning = read_is_line (codes "; 3x2") Skip refl; few = lit≤ tt })
 
 -- a refused line is answered by the cause
-drawing_refused : AnswersCodeLine Draw (codes "[18,15][7,9]") (codes "no gap 2 15 16\n" ∷ []) true
+drawing_refused : AnswersCodeLine (by_plain Draw) (codes "[18,15][7,9]") (codes "no gap 2 15 16\n" ∷ []) true
 unfolding digits
 drawing_refused = refuses (NoGap 2 15 16) (any_command (NoGap 2 15 16) gap_refused)
 
 -- it is the answer of the command `draw`
-drawn_line : AnswersLine (OfCodes Draw) (codes "[2,1][1]") (codes "+-++\n" ∷ codes "| ++\n" ∷ codes "+-++\n" ∷ []) false
+drawn_line : AnswersLine (Plain Draw) (codes "[2,1][1]") (codes "+-++\n" ∷ codes "| ++\n" ∷ codes "+-++\n" ∷ []) false
 drawn_line = drawn
 
 -- at no line memory is wanting for `check`
-never_wanting : (bytes : List ℕ) → MayWant (OfCodes Check) bytes → ⊥
+never_wanting : (bytes : List ℕ) → MayWant (Plain Check) bytes → ⊥
 never_wanting bytes h = h.2
 
 -- ---- what `check` accepts
 
 -- whatever it answers to the code, it begins with `ok`
-accepted_3x2 : (pieces : List (List ℕ)) (refused : Bool) → AnswersLine (OfCodes Check) (codes "[2,1][1]") pieces refused → Accepts pieces
-accepted_3x2 pieces refused an = ((a_reply (OfCodes Check) (codes "[2,1][1]") pieces refused an).checked refl).any_line.1 (rectangle_3x2, has_tiling)
+accepted_3x2 : (pieces : List (List ℕ)) (refused : Bool) → AnswersLine (Plain Check) (codes "[2,1][1]") pieces refused → Accepts pieces
+accepted_3x2 pieces refused an = ((a_reply (Plain Check) (codes "[2,1][1]") pieces refused an).checked refl).any_line.1 (rectangle_3x2, has_tiling)
 
-check_refused : AnswersCodeLine Check (codes "2x3 [2,1][1]") (codes "no size 3x2\n" ∷ []) true
+check_refused : AnswersCodeLine (by_plain Check) (codes "2x3 [2,1][1]") (codes "no size 3x2\n" ∷ []) true
 unfolding digits
 check_refused = refuses (Size 3 2) (any_command (Size 3 2) size_refused)
 
 not_accepted : Accepts (codes "no size 3x2\n" ∷ []) → ⊥
-not_accepted (rest, e) = let first : 110 ≡ 111 = ap (λ (l : List ℕ). get_or l 0 0) e in omega (arith, first)
+not_accepted (rest, e) = let first : 110 ≡ get_or ok_word 0 0 = ap (λ (l : List ℕ). get_or l 0 0) e in omega (arith, first)
 
 -- and since that answer does not, no tiling at all has what the line with the other size states
 none_has_other_size : (t : Tiling) → HasTiling (codes "2x3 [2,1][1]") t → ⊥
 none_has_other_size t has = not_accepted
-    (((a_reply (OfCodes Check) (codes "2x3 [2,1][1]") (codes "no size 3x2\n" ∷ []) true check_refused).checked refl).any_line.1 (t, has))
+    (((a_reply (Plain Check) (codes "2x3 [2,1][1]") (codes "no size 3x2\n" ∷ []) true check_refused).checked refl).any_line.1 (t, has))

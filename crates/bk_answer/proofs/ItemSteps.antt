@@ -7,7 +7,7 @@ use Rattle.bk_profile.specs.declared.laying.Refusal.{Refusal}
 use Rattle.bk_report.specs.declared.refusal.Refused.{Refused}
 use Rattle.bk_report.specs.declared.refusal.Refused.TheVariants.{Order, Size}
 use Rattle.bk_text.specs.CodeLine.{Flat, Item, Line, Skip}
-use Rattle.bk_text.specs.ReadLine.{IsFaultOf}
+use Rattle.bk_text.specs.ReadLine.{IsTextFaultOf}
 use Rattle.bk_text.specs.declared.TextFault.{TextFault}
 use Rattle.bk_text.specs.declared.TextFault.TheVariants as faults
 use Rattle.bk_answer.specs.Item.{AllowsOrder, AllowsSize, HasItem, IsLaidBy, IsLaidItem, IsLaidLine, IsSize, IsStatedBy, side_count}
@@ -31,7 +31,7 @@ handed_on line item f (Ok a) same h refused = tt
 handed_on line item f (Err e) same h refused = subst (λ (l : Line). IsItemRefused l e) (sym same) (subst (IsItemRefused item) (sym h) refused)
 
 -- bytes that are not read
-pub not_read : (bytes : List ℕ) (fault : TextFault) (r : Refused) → length bytes ≤ 8192 → IsFaultOf fault bytes → r ≡ refused_text fault
+pub not_read : (bytes : List ℕ) (fault : TextFault) (r : Refused) → length bytes ≤ 8192 → IsTextFaultOf fault bytes → r ≡ refused_text fault
     → IsLineRefused bytes r
 not_read bytes (faults.Text at) r short h e = subst (IsLineRefused bytes) (sym e) (no_line at short h)
 not_read bytes faults.Many r short (line, is, many) e = subst (IsLineRefused bytes) (sym e) (too_many line short is many)
@@ -46,10 +46,12 @@ module _ (item : Line) (size : Option (ℕ × ℕ)) (t : Tiling) (laid : IsLaidB
     size_is = size_is s;
   }
 
+  -- where the stated size is found to be a tiling's, the item speaks of that tiling
   pub laid_of_size : (r : Result (Unit {0}) Refused) → OnOk r (IsSize size t.width t.height) → OnOk r (IsStatedBy item t)
   laid_of_size (Ok done) h = stated h
   laid_of_size (Err f) h = tt
 
+  -- where the stated size is found not to be a tiling's, the item is refused
   pub refused_of_size : (r : Result (Unit {0}) Refused) → IfErr r (λ f. (f ≡ Size t.width t.height) × (IsSize size t.width t.height → ⊥))
       → IfErr r (IsItemRefused item)
   refused_of_size (Ok o) h = tt
@@ -61,11 +63,13 @@ module _ (bytes : List ℕ) (item : Line) (has : HasItem bytes item) where
   line_laid None h = subst (HasItem bytes) h has
   line_laid (Some t) h = record { item = item; is_item = has; stated = h }
 
+  -- what comes of laying a line's item comes of the line
   pub laid_of_item : (r : Result (Option (Bor Tiling)) Refused) → IfOk r (λ laid. IsLaidItem item (option_copied laid))
       → IfOk r (λ laid. IsLaidLine bytes (option_copied laid))
   laid_of_item (Ok laid) h = line_laid (option_copied laid) h
   laid_of_item (Err f) h = tt
 
+  -- a refusal of a line's item is a refusal of the line
   pub refused_of_item : (r : Result (Option (Bor Tiling)) Refused) → IfErr r (IsItemRefused item) → IfErr r (IsLineRefused bytes)
   refused_of_item (Ok o) h = tt
   refused_of_item (Err f) h = refused_item item f has h

@@ -2,15 +2,17 @@
 use Rattle.std.proofs.Common.{List, [], arith, inl, inr, length, subst, sym, ℕ, ◌<◌, ◌∷◌, ◌≡◌, ◌≤◌, ◌⊎◌}
 use Rattle.std.specs.Prelude.{Bool, true, ◌↔◌}
 use Rattle.std.proofs.lemmas.List.{length-take-le, take_all}
+use Rattle.bk_laws.proofs.NumberOrder.{at_most_or_above_8193}
 use Rattle.bk_ports.specs.Lines.{kept_front}
 use Rattle.bk_report.specs.Refusals.{refusal_line}
 use Rattle.bk_report.specs.declared.refusal.Refused.{Refused}
 use Rattle.bk_report.specs.declared.refusal.Refused.TheVariants.{Long}
 use Rattle.bk_answer.specs.AnswerLaws.{AFrontHasTheAnswer}
 use Rattle.bk_answer.specs.Refusing.{too_long}
-use Rattle.bk_answer.specs.declared.command.CodeCommand.{CodeCommand}
+use Rattle.bk_answer.specs.CodeCommand.{CodeCommand, by_plain, by_word}
 use Rattle.bk_answer.specs.declared.command.Command.{Command}
-use Rattle.bk_answer.specs.declared.command.Command.TheVariants.{Flow, OfCodes, Solve}
+use Rattle.bk_answer.specs.declared.command.Command.TheVariants.{Memory, Plain}
+use Rattle.bk_answer.specs.declared.command.MemoryCommand.TheVariants.{Flow, Solve, Word}
 use Rattle.bk_answer.proofs.OneWordAnswer.{long_word_answer}
 use Rattle.bk_answer.proofs.OneNetAnswer.{long_net_answer}
 use Rattle.bk_answer.proofs.OneAnswer.{Cause, CommandCause, at_item, at_long, at_many, at_text, by_line, by_tiling, cause_of, command_cause}
@@ -40,15 +42,14 @@ long_code_answer command bytes others pieces refused long longer (answers t _ ha
 
 long_answer : (command : Command) (bytes others : List ℕ) (pieces : List (List ℕ)) (refused : Bool) → 8192 < length bytes → 8192 < length others
     → AnswersLine command bytes pieces refused → AnswersLine command others pieces refused
-long_answer (OfCodes command) = long_code_answer command
-long_answer Flow = long_net_answer
-long_answer Solve = long_word_answer
+long_answer (Plain command) = long_code_answer (by_plain command)
+long_answer (Memory Word) = long_code_answer by_word
+long_answer (Memory Flow) = long_net_answer
+long_answer (Memory Solve) = long_word_answer
 
-two : (n : ℕ) → (n ≤ 8193) ⊎ (8193 < n)
-two n = grind arith
-
+-- what is kept of a line has just the answers that the line has
 pub front_answer : AFrontHasTheAnswer
-front_answer command bytes pieces refused = either (two (length bytes))
+front_answer command bytes pieces refused = either (at_most_or_above_8193 (length bytes))
   where
     either : (length bytes ≤ 8193) ⊎ (8193 < length bytes) → AnswersLine command (kept_front bytes) pieces refused ↔ AnswersLine command bytes pieces refused
     either (inl h) =

@@ -21,9 +21,10 @@ use Rattle.bk_answer.specs.AnswerLaws.{ALineHasOneAnswer}
 use Rattle.bk_answer.specs.Item.{AllowsOrder, AllowsSize, HasItem, HasTiling, IsLaidBy, IsStatedBy, side_count}
 use Rattle.bk_answer.specs.Refusing.{IsItemRefused, IsLineRefused, IsNotLaid, no_line, not_laid, other_order, other_size, refused_for, refused_item}
 use Rattle.bk_answer.specs.Refusing.{too_long, too_many}
-use Rattle.bk_answer.specs.declared.command.CodeCommand.{CodeCommand}
-use Rattle.bk_answer.specs.declared.command.CodeCommand.TheVariants.{Canon, Check, Draw, Dual, Images, Net, Word}
-use Rattle.bk_answer.specs.declared.command.Command.TheVariants.{Flow, OfCodes, Solve}
+use Rattle.bk_answer.specs.CodeCommand.{CodeCommand, by_plain, by_word}
+use Rattle.bk_answer.specs.declared.plain.PlainCommand.TheVariants.{Canon, Check, Draw, Dual, Images, Net}
+use Rattle.bk_answer.specs.declared.command.Command.TheVariants.{Memory, Plain}
+use Rattle.bk_answer.specs.declared.command.MemoryCommand.TheVariants.{Flow, Solve, Word}
 use Rattle.bk_word.specs.Word.{Word as Moves}
 use Rattle.bk_lay.proofs.Valleys.{a_tiling_has_one_word as one_word}
 use Rattle.bk_report.specs.Listings.{word_line}
@@ -57,6 +58,7 @@ laid_or_not (Flat order width height sides) t r p q = flat_refused_has_none widt
 squares_count : (t : Tiling) → length (flat (code_of t)) ≡ length t.squares
 squares_count t = ap length (flat_is_sides t) ∙ length-map t.squares (λ (q : Square). q.s)
 
+-- a tiling that an item lays has as many squares as the item has sides
 pub order_is_sides : (item : Line) (t : Tiling) → IsLaidBy item t → length t.squares ≡ side_count item
 order_is_sides Skip t p = absurd p
 order_is_sides (Item order size code) t p =
@@ -81,6 +83,7 @@ pub data Cause (bytes : List ℕ) (r : Refused) : Type 0 where
   at_many : (item : Line) → length bytes ≤ 8192 → IsLine item bytes → 200 < side_count item → r ≡ Many → Cause bytes r
   at_item : (item : Line) → HasItem bytes item → ItemCause item r → Cause bytes r
 
+-- a line that is refused has a cause
 pub cause_of : (bytes : List ℕ) (r : Refused) → IsLineRefused bytes r → Cause bytes r
 cause_of bytes r (too_long h) = at_long h refl
 cause_of bytes r (no_line at h n) = at_text at h n refl
@@ -101,6 +104,7 @@ one_item_cause item r s (by_size t p l n e) (by_size u o k m d) = e ∙ ap (λ (
 one_place : (bytes : List ℕ) (a b : ℕ) → IsNoLine bytes a → IsNoLine bytes b → a ≡ b
 one_place bytes a b p q = omega (arith, p.1.longest b q.1.inside q.1.begins, q.1.longest a p.1.inside p.1.begins)
 
+-- a line has one cause of refusal at most
 pub one_line_cause : (bytes : List ℕ) (r s : Refused) → Cause bytes r → Cause bytes s → r ≡ s
 one_line_cause bytes r s (at_long h e) (at_long k d) = e ∙ sym d
 one_line_cause bytes r s (at_long h e) (at_text at k n d) = absurd (omega arith)
@@ -129,6 +133,7 @@ not_refused_item item t r st (by_laying c o h e) = laid_or_not item t c st.laid 
 not_refused_item item t r st (by_size u o l n e) =
     n (subst (λ (z : Tiling). AllowsSize item z.width z.height) (one_tiling item t u st.laid l) st.size_is)
 
+-- a line with an item that states a tiling has no cause of refusal
 pub not_refused : (bytes : List ℕ) (item : Line) (t : Tiling) (r : Refused) → HasItem bytes item → IsStatedBy item t → Cause bytes r → ⊥
 not_refused bytes item t r has st (at_long h e) = omega (arith, has.short)
 not_refused bytes item t r has st (at_text at h n e) = n.0 (item, has.meaning)
@@ -141,6 +146,7 @@ skip_cause r (by_order n e) = n tt
 skip_cause r (by_laying c o h e) = h
 skip_cause r (by_size t o l n e) = l
 
+-- a line that stands for nothing has no cause of refusal
 pub skip_not_refused : (bytes : List ℕ) (r : Refused) → HasItem bytes Skip → Cause bytes r → ⊥
 skip_not_refused bytes r has (at_long h e) = omega (arith, has.short)
 skip_not_refused bytes r has (at_text at h n e) = n.0 (Skip, has.meaning)
@@ -148,20 +154,21 @@ skip_not_refused bytes r has (at_many other h l m e) = omega (arith, ap side_cou
 skip_not_refused bytes r has (at_item other has' c) =
     skip_cause r (subst (λ (i : Line). ItemCause i r) (one_meaning bytes other Skip has'.meaning has.meaning) c)
 
+-- a line that stands for nothing has no item that states a tiling
 pub skip_not_stated : (bytes : List ℕ) (item : Line) (t : Tiling) → HasItem bytes Skip → HasItem bytes item → IsStatedBy item t → ⊥
 skip_not_stated bytes item t skip has st = subst (λ (i : Line). IsLaidBy i t) (one_meaning bytes item Skip has.meaning skip.meaning) st.laid
 
 -- a tiling has one answer
 same_answer : (command : CodeCommand) (t : Tiling) (pieces others : List (List ℕ)) → IsTiling t → IsAnswerTo command t pieces
     → IsAnswerTo command t others → pieces ≡ others
-same_answer Check t pieces others tiling (line, c, e) (other, d, f) = e ∙ ap (λ (l : List ℕ). l ∷ []) (one_check_line t line other tiling c d) ∙ sym f
-same_answer Canon t pieces others tiling (u, c, e) (v, d, f) = e
+same_answer (by_plain Check) t pieces others tiling (line, c, e) (other, d, f) = e ∙ ap (λ (l : List ℕ). l ∷ []) (one_check_line t line other tiling c d) ∙ sym f
+same_answer (by_plain Canon) t pieces others tiling (u, c, e) (v, d, f) = e
     ∙ ap (λ (z : Tiling). tiling_line z ∷ []) (a_canonical_tiling_is_one t u v tiling c d).1 ∙ sym f
-same_answer Images t pieces others tiling e f = e ∙ sym f
-same_answer Net t pieces others tiling e f = e ∙ sym f
-same_answer Dual t pieces others tiling e f = e ∙ sym f
-same_answer Word t pieces others tiling (w, p, e) (v, q, f) = e ∙ ap (λ (z : Moves). word_line z ∷ []) (one_word t w v p q) ∙ sym f
-same_answer Draw t pieces others tiling e f = e ∙ sym f
+same_answer (by_plain Images) t pieces others tiling e f = e ∙ sym f
+same_answer (by_plain Net) t pieces others tiling e f = e ∙ sym f
+same_answer (by_plain Dual) t pieces others tiling e f = e ∙ sym f
+same_answer by_word t pieces others tiling (w, p, e) (v, q, f) = e ∙ ap (λ (z : Moves). word_line z ∷ []) (one_word t w v p q) ∙ sym f
+same_answer (by_plain Draw) t pieces others tiling e f = e ∙ sym f
 
 -- what an item lays is a tiling
 pub is_tiling : (item : Line) (t : Tiling) → IsLaidBy item t → IsTiling t
@@ -169,6 +176,7 @@ is_tiling Skip t p = absurd p
 is_tiling (Item order size code) t p = p.tiling
 is_tiling (Flat order width height sides) t p = p.tiling
 
+-- a line has one tiling at most
 pub same_tiling : (bytes : List ℕ) (t u : Tiling) → HasTiling bytes t → HasTiling bytes u → u ≡ t
 same_tiling bytes t u has has' =
     one_tiling has.item u t
@@ -180,6 +188,7 @@ pub data CommandCause (command : CodeCommand) (bytes : List ℕ) (r : Refused) :
   by_line : IsLineRefused bytes r → CommandCause command bytes r
   by_tiling : (t : Tiling) → HasTiling bytes t → (Allows command t → ⊥) → r ≡ Large → CommandCause command bytes r
 
+-- a line that a command refuses has a cause for that command
 pub command_cause : (command : CodeCommand) (bytes : List ℕ) (r : Refused) → IsRefusedBy command bytes r → CommandCause command bytes r
 command_cause command bytes r (any_command _ h) = by_line h
 command_cause command bytes r (too_large t has n) = by_tiling t has n refl
@@ -219,7 +228,9 @@ one_code_answer command bytes pieces others refused other (answers t _ has _ an)
   refl,
 )
 
+-- a line has one answer at most
 pub one_answer : ALineHasOneAnswer
-one_answer (OfCodes command) = one_code_answer command
-one_answer Flow = one_net_answer
-one_answer Solve = one_word_answer
+one_answer (Plain command) = one_code_answer (by_plain command)
+one_answer (Memory Word) = one_code_answer by_word
+one_answer (Memory Flow) = one_net_answer
+one_answer (Memory Solve) = one_word_answer

@@ -1,7 +1,8 @@
 -- A line has one item.
 use Rattle.std.specs.List.{AllByRecursion}
-use Rattle.std.specs.Prelude.{List, [], length, refl, slice_range, take, ℕ, ◌++◌, ◌∷◌, ◌≡◌, ◌≢◌, ◌≤◌, ◌<◌}
-use Rattle.std.proofs.Common.{ap, append_assoc, arith, get_or, inl, inr, length-take, subst, sym, ◌∙◌}
+use Rattle.std.specs.Prelude.{List, [], length, refl, slice_range, take, ℕ, ◌++◌, ◌∷◌, ◌≡◌, ◌≢◌, ◌<◌}
+use Rattle.std.proofs.Common.{ap, append_assoc, arith, get_or, inl, inr, subst, sym, ◌∙◌}
+use Rattle.bk_laws.proofs.ListParts.{length-take_before_end}
 use Rattle.bk_grammar.specs.Grammar.{Blanks, Comment, IsBlank, LineEnd, Nothing, ◌or◌}
 use Rattle.bk_word.specs.WordItem.{IsItemAt, IsItemOf}
 
@@ -57,9 +58,6 @@ begins_on : (item rest : List ℕ) → 0 < length item → BeginsBare item → B
 begins_on [] rest some bare b back e blank = absurd (omega arith)
 begins_on (x ∷ item) rest some bare b back e blank = let head : b ≡ x = cc in bare x item refl (subst IsBlank head blank)
 
-long_front : (bytes : List ℕ) (start stop : ℕ) → start ≤ stop → stop ≤ length bytes → length (take start bytes) ≡ start
-long_front bytes start stop order within = omega (arith, length-take start bytes)
-
 -- the parts of a line, from the right
 parts_of : (bytes before item after comment : List ℕ) → IsItemOf bytes before item after comment → bytes ≡ before ++ (item ++ (after ++ comment))
 parts_of bytes before item after comment h = h.whole ∙ regroup
@@ -67,6 +65,7 @@ parts_of bytes before item after comment h = h.whole ∙ regroup
     regroup : ((before ++ item) ++ after) ++ comment ≡ before ++ (item ++ (after ++ comment))
     regroup = simp append_assoc
 
+-- the bytes of a line have one item at most
 pub one_item : (bytes : List ℕ) (start stop start' stop' : ℕ) → IsItemAt bytes start stop → IsItemAt bytes start' stop'
     → (start ≡ start') × (slice_range bytes start stop ≡ slice_range bytes start' stop')
 one_item bytes start stop start' stop' p q =
@@ -76,7 +75,7 @@ one_item bytes start stop start' stop' p q =
     ∙ parts_of bytes (take start' bytes) (slice_range bytes start' stop') q.after q.comment q.item)
     (begins_on (slice_range bytes start stop) (p.after ++ p.comment) p.item.some p.item.begins_bare)
     (begins_on (slice_range bytes start' stop') (q.after ++ q.comment) q.item.some q.item.begins_bare) in (
-      sym (long_front bytes start stop p.order p.within) ∙ fronts.0 ∙ long_front bytes start' stop' q.order q.within,
+      sym (length-take_before_end bytes start stop p.order p.within) ∙ fronts.0 ∙ length-take_before_end bytes start' stop' q.order q.within,
       same_item (slice_range bytes start stop) (slice_range bytes start' stop') p.after q.after p.comment q.comment p.item.no_comment q.item.no_comment
           p.item.ends_bare q.item.ends_bare p.item.blanks_after q.item.blanks_after p.item.rest q.item.rest fronts.1,
     )
@@ -98,6 +97,7 @@ no_end (x ∷ before) [] item r rest p q some u bare (inr (text, is)) e = not_59
 no_end (x ∷ before) (y ∷ front) item r rest p q some u bare k e =
     let tails : before ++ (item ++ r) ≡ front ++ rest = cc in no_end before front item r rest p.1 q.1 some u bare k tails
 
+-- a line that has an item is more than blanks and a comment
 pub item_no_end : (bytes : List ℕ) (start stop : ℕ) → IsItemAt bytes start stop → LineEnd bytes → ⊥
 item_no_end bytes start stop p (front, rest, e, blanks, k) =
     no_end (take start bytes) front (slice_range bytes start stop) (p.after ++ p.comment) rest p.item.blanks_before blanks p.item.some

@@ -2,7 +2,7 @@
 use Rattle.std.proofs.Common.{Bool, List, [], ap, arith, length, refl, subst, ℕ, ◌<◌, ◌∷◌, ◌≡◌, ◌≤◌}
 use Rattle.bk_net.specs.Net.{HasNoLoose, IsLeastLoose, Net}
 use Rattle.bk_net.specs.NetLine.{IsNetLine, IsNoNetLine, Item, NetLine, Skip}
-use Rattle.bk_net.specs.ReadNet.{IsFaultOf, IsFirstFault}
+use Rattle.bk_net.specs.ReadNet.{IsFirstFault, IsNetFaultOf}
 use Rattle.bk_net.specs.declared.NetFault.{NetFault}
 use Rattle.bk_net.specs.declared.NetFault.TheVariants as fault
 use Rattle.bk_net.proofs.NetStopping.{one_meaning}
@@ -56,7 +56,7 @@ one_first nodes wires a b p q = omega (
     no_less : (m n : ℕ) → (m < n → ⊥) → n ≤ m
     no_less m n h = grind (arith, h)
 
-one_fault : (bytes : List ℕ) (f g : NetFault) → IsFaultOf f bytes → IsFaultOf g bytes → f ≡ g
+one_fault : (bytes : List ℕ) (f g : NetFault) → IsNetFaultOf f bytes → IsNetFaultOf g bytes → f ≡ g
 one_fault bytes (fault.Text a) (fault.Text b) p q = ap fault.Text (one_place bytes a b p q)
 one_fault bytes (fault.Text a) fault.Many p (m, v, is, long) = absurd (p.0 (Item m v, is))
 one_fault bytes (fault.Text a) (fault.Nodes n) p (v, is, few, not) = absurd (p.0 (Item n v, is))
@@ -84,7 +84,7 @@ one_fault bytes (fault.Wire k) (fault.Wire l) (m, v, is, few, count, first) (n, 
     (subst (λ (x : ℕ). IsFirstFault x v k) (same_nodes bytes m n v w is is') first)) first')
 
 -- a line that gives a net is at no fault
-no_fault : (bytes : List ℕ) (net : Net) (f : NetFault) → HasNet bytes net → IsFaultOf f bytes → ⊥
+no_fault : (bytes : List ℕ) (net : Net) (f : NetFault) → HasNet bytes net → IsNetFaultOf f bytes → ⊥
 no_fault bytes net (fault.Text a) has p = p.0 (Item net.nodes net.wires, has.item.meaning)
 no_fault bytes net fault.Many has (m, v, is, long) =
     omega (arith, ap (λ (l : List (ℕ × ℕ)). length l) (same_wires bytes m net.nodes v net.wires is has.item.meaning), has.kept.few_wires)
@@ -99,7 +99,7 @@ no_fault bytes net (fault.Wire k) has (m, v, is, few, count, first) =
     at_wire f = f.here (0, 0) (has.kept.is.ends f.before (0, 0) f.within)
 
 -- a line without a net is at no fault
-skip_no_fault : (bytes : List ℕ) (f : NetFault) → IsNetLine Skip bytes → IsFaultOf f bytes → ⊥
+skip_no_fault : (bytes : List ℕ) (f : NetFault) → IsNetLine Skip bytes → IsNetFaultOf f bytes → ⊥
 skip_no_fault bytes (fault.Text a) skip p = p.0 (Skip, skip)
 skip_no_fault bytes fault.Many skip (m, v, is, long) = is_item (one_meaning bytes (Item m v) Skip is skip)
 skip_no_fault bytes (fault.Nodes m) skip (v, is, few, not) = is_item (one_meaning bytes (Item m v) Skip is skip)
@@ -122,6 +122,7 @@ one_of_net net pieces others refused other (solved f n w p') (wide n' w') = absu
 one_of_net net pieces others refused other (solved f n w p') (solved g n' w' q') =
     let same = one_primitive net f.total g.total f.currents g.currents p' q' in ((λ i. flow_line (record { total = same.0 i; currents = same.1 i }) ∷ []), refl)
 
+-- a network line has one answer at most
 pub one_net_answer : (bytes : List ℕ) (pieces others : List (List ℕ)) (refused other : Bool) → AnswersNetLine bytes pieces refused
     → AnswersNetLine bytes others other → (pieces ≡ others) × (refused ≡ other)
 one_net_answer bytes pieces others refused other (net_too_long l) (net_too_long m) = (refl, refl)

@@ -92,6 +92,7 @@ places_same bytes m n a b s t p q l k =
 no_such_word : (bytes : List ℕ) (m n a : ℕ) (s t : List ℕ) (w : Word) → HasText bytes m s → HasText bytes n t → IsNoWordText s a → IsTextOf t w → ⊥
 no_such_word bytes m n a s t w p q l is = l.0 (w, same_text bytes n m t s w q p is)
 
+-- a word line has one answer at most
 pub one_word_answer : (bytes : List ℕ) (pieces others : List (List ℕ)) (refused other : Bool) → AnswersWordLine bytes pieces refused
     → AnswersWordLine bytes others other → (pieces ≡ others) × (refused ≡ other)
 one_word_answer bytes pieces others refused other (word_too_long l) (word_too_long m) = (refl, refl)

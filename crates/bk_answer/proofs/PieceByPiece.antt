@@ -5,8 +5,8 @@ use Rattle.std.specs.Io.KnownBytes.{Appends}
 use Rattle.std.proofs.lemmas.List.{append-nil, append_assoc, take-append-drop, take-append-le, take_all, take_min, take_more}
 use Rattle.std.proofs.lemmas.List.Folds.{concat-append}
 use Rattle.std.proofs.Math.Seq.{take-append-add}
+use Rattle.bk_laws.proofs.Bytes.{appends-then}
 use Rattle.bk_ports.specs.Causes.{AppendsPrefix, HasCause, Rose}
-use Rattle.bk_ports.proofs.KnownSteps.{appends_more}
 
 -- the first k pieces are written
 abbrev pub AreWritten : List (List ℕ) → ℕ → Option (List ℕ) → Option (List ℕ) → Type 0
@@ -20,7 +20,7 @@ module _ (pieces : List (List ℕ)) (k : ℕ) (piece : List ℕ) (a b c : Option
 
   -- one more is written
   pub written_more : AreWritten pieces k a b → Appends b c piece → AreWritten pieces (k + 1) a c
-  written_more done more = appends_more a b c (concat (take k pieces)) piece (concat (take (k + 1) pieces)) done more first_more
+  written_more done more = appends-then a b c (concat (take k pieces)) piece (concat (take (k + 1) pieces)) done more first_more
 
   all_pieces : concat pieces ≡ concat (take k pieces) ++ (piece ++ concat (drop (k + 1) pieces))
   all_pieces =
@@ -38,7 +38,7 @@ module _ (pieces : List (List ℕ)) (k : ℕ) (piece : List ℕ) (a b c : Option
       ap (λ (l : List ℕ). take (length first + m) l) all_pieces
       ∙ take-append-add first (piece ++ later) m
       ∙ ap (λ (l : List ℕ). first ++ l) (take-append-le m piece later (omega arith) ∙ take_min part.0 piece) in
-      (length first + m, appends_more a b c first (take part.0 piece) (take (length first + m) (concat pieces)) done part.1 kept)
+      (length first + m, appends-then a b c first (take part.0 piece) (take (length first + m) (concat pieces)) done part.1 kept)
 
 -- all are written
 pub written_all : (pieces : List (List ℕ)) (k : ℕ) (a b : Option (List ℕ)) → length pieces ≤ k → AreWritten pieces k a b → Appends a b (concat pieces)

@@ -1,11 +1,11 @@
 -- What `images` and `draw` tell of the rectangle of three squares, and which commands take memory.
 use Rattle.std.specs.Fmt.{digits}
-use Rattle.std.specs.Prelude.{List, [], codes, refl, ℕ, ◌++◌, ◌∷◌, ◌≡◌}
+use Rattle.std.specs.Prelude.{List, [], codes, refl, ℕ, ◌++◌, ◌<◌, ◌∷◌, ◌≡◌}
 use Rattle.bk_tiling.proofs.ExampleTilings.{rectangle_3x2}
-use Rattle.bk_answer.specs.Plain.{TakesMemory, code_command}
-use Rattle.bk_answer.specs.Telling.{drawing_lines, image_lines}
-use Rattle.bk_answer.specs.declared.command.CodeCommand.TheVariants as codes_of
-use Rattle.bk_answer.specs.declared.command.Command.TheVariants.{OfCodes}
+use Rattle.bk_tiling.specs.Tiling.{Tiling, order}
+use Rattle.bk_answer.specs.CodeCommand.{by_word}
+use Rattle.bk_answer.specs.Plain.{PlainWants}
+use Rattle.bk_answer.specs.Telling.{WantsMemory, drawing_lines, image_lines}
 use Rattle.bk_answer.specs.declared.plain.PlainCommand.TheVariants.{Draw}
 
 abbrev fed : List ℕ → List ℕ
@@ -20,9 +20,9 @@ images-3x2 = refl
 drawing-3x2 : drawing_lines rectangle_3x2 ≡ fed (codes "+-++") ∷ fed (codes "| ++") ∷ fed (codes "+-++") ∷ []
 drawing-3x2 = refl
 
--- `draw` takes no memory, and is told apart from `word`
-draw_is_plain : code_command Draw ≡ codes_of.Draw
-draw_is_plain = refl
+-- `draw` takes no memory at any line, and `word` may at a tiling of 17 squares
+draw_takes_none : (bytes : List ℕ) → PlainWants Draw bytes → ⊥
+draw_takes_none bytes wants = wants.2
 
-word_takes_memory : TakesMemory (OfCodes codes_of.Word)
-word_takes_memory = refl
+word_takes_some : (t : Tiling) → WantsMemory by_word t ≡ (16 < order t)
+word_takes_some t = refl

@@ -16,8 +16,8 @@ use Rattle.bk_word.specs.declared.Sign.TheVariants.{Even, Under}
 use Rattle.bk_lay.proofs.WordTest.{by_tests, word_by_valleys}
 use Rattle.bk_lay.specs.TilingWord.{IsWordOf}
 use Rattle.bk_skel.proofs.NarrowWords.{no_small_word_is_wide}
-use Rattle.bk_word_net.proofs.PrimitiveTiling.{a_word_has_one_primitive_tiling}
-use Rattle.bk_word_net.proofs.WordNetExamples.{word_3x2}
+use Rattle.bk_word_net.proofs.PlacedSquares.PrimitiveTiling.{a_word_has_one_primitive_tiling}
+use Rattle.bk_word_net.proofs.WordFlows.WordNetExamples.{word_3x2}
 use Rattle.bk_word_net.specs.Realised.{IsTilingOf}
 use Rattle.bk_answer.specs.WordAnswer.{AnswersWord, AnswersWordLine, HasWord, illegal, no_word_item, of_word, realised, unfinished}
 

@@ -1,29 +1,30 @@
--- What `check` accepts, told of tilings alone: `[2,1][1]` and the row `3 3 2 2 1 1` are accepted, since a tiling 3 by 2 of three
--- squares has this code; `2x3 [2,1][1]` is not, since that tiling has another size.
--- Example (CodeAnswerExamples): each answer to `[2,1][1]` begins with `ok`; that to `2x3 [2,1][1]` doesn't, so no tiling has what that
--- line states.
+-- What `check` accepts, told of tilings alone: `[2,1][1]` and the row `3 3 2 2 1 1` are accepted, since a tiling 3 by 2
+-- of three squares has this code; `2x3 [2,1][1]` is not, since that tiling has another size.
+-- Example (CodeAnswerExamples): each answer to `[2,1][1]` begins with `ok`; that to `2x3 [2,1][1]` doesn't, so no
+-- tiling has what that line states.
 use Rattle.std.specs.List.{concat}
-use Rattle.std.specs.Prelude.{Bool, IfSome, List, Option, codes, ℕ, ◌++◌, ◌↔◌, ◌≡◌}
+use Rattle.std.specs.Prelude.{Bool, IfSome, List, Option, ℕ, ◌++◌, ◌↔◌, ◌≡◌}
 use Rattle.bk_tiling.specs.Tiling.{Tiling, order}
 use Rattle.bk_code.specs.Code.{Code}
 use Rattle.bk_profile.specs.Refused.{HasCode, HasFlat}
 use Rattle.bk_text.specs.CodeLine.{Flat, Item}
+use Rattle.bk_report.specs.AnswerWords.{ok_word}
 use Rattle.bk_answer.specs.Answer.{AnswersLine}
 use Rattle.bk_answer.specs.Item.{HasItem, HasTiling, IsSize}
 use Rattle.bk_answer.specs.declared.command.Command.{Command}
-use Rattle.bk_answer.specs.declared.command.CodeCommand.TheVariants.{Check}
-use Rattle.bk_answer.specs.declared.command.Command.TheVariants.{OfCodes}
+use Rattle.bk_answer.specs.declared.command.Command.TheVariants.{Plain}
+use Rattle.bk_answer.specs.declared.plain.PlainCommand.TheVariants.{Check}
 
 -- the text begins so
-abbrev pub BeginsWith : List ℕ → List ℕ → Type 0
-BeginsWith front text = (rest : List ℕ) × (text ≡ front ++ rest)
+abbrev pub TextBeginsWith : List ℕ → List ℕ → Type 0
+TextBeginsWith front text = (rest : List ℕ) × (text ≡ front ++ rest)
 
 -- the answer accepts: it begins with `ok`
 abbrev pub Accepts : List (List ℕ) → Type 0
-Accepts pieces = BeginsWith (codes "ok") (concat pieces)
+Accepts pieces = TextBeginsWith (ok_word) (concat pieces)
 
--- `check` answers a line by these pieces: they begin with `ok` exactly where the squares of the line tile the stated rectangle
--- in code order
+-- `check` answers a line by these pieces: they begin with `ok` exactly where the squares of the line tile the stated
+-- rectangle in code order
 pub record IsChecked (bytes : List ℕ) (pieces : List (List ℕ)) : Type 0 where
   -- any line: it is not too long, and some tiling has what its item states
   pub any_line : Accepts pieces ↔ (t : Tiling) × HasTiling bytes t
@@ -34,7 +35,8 @@ pub record IsChecked (bytes : List ℕ) (pieces : List (List ℕ)) : Type 0 wher
   pub flat : (n width height : ℕ) (sides : List ℕ) → HasItem bytes (Flat n width height sides)
       → Accepts pieces ↔ (t : Tiling) × HasFlat width sides t × (n ≡ order t) × (height ≡ t.height)
 
--- a reply to a line: its answer, which is that of the definitions, and of `check` one that accepts exactly the codes of tilings
+-- a reply to a line: its answer, which is that of the definitions, and of `check` one that accepts exactly the codes of
+-- tilings
 pub record IsReplyTo (command : Command) (bytes : List ℕ) (pieces : List (List ℕ)) (refused : Bool) : Type 0 where
   pub answer : AnswersLine command bytes pieces refused
-  pub checked : command ≡ OfCodes Check → IsChecked bytes pieces
+  pub checked : command ≡ Plain Check → IsChecked bytes pieces

@@ -1,5 +1,6 @@
 -- What a command that reads codes answers to a line, to its item, and to the tiling that is laid for it.
--- Example (CodeAnswerExamples): `draw` answers `[2,1][1]` by three rows, `[18,15][7,9]` by `no gap 2 15 16`, and a comment by nothing.
+-- Example (CodeAnswerExamples): `draw` answers `[2,1][1]` by three rows, `[18,15][7,9]` by `no gap 2 15 16`, and a
+-- comment by nothing.
 use Rattle.std.specs.Prelude.{Bool, List, [], false, true, ℕ, ◌∷◌, ◌≡◌}
 use Rattle.bk_tiling.specs.Tiling.{Tiling}
 use Rattle.bk_report.specs.Refusals.{refusal_line}
@@ -9,7 +10,7 @@ use Rattle.bk_text.specs.CodeLine.{Skip}
 use Rattle.bk_answer.specs.Item.{HasItem, HasTiling}
 use Rattle.bk_answer.specs.Refusing.{IsLineRefused}
 use Rattle.bk_answer.specs.Telling.{Allows, IsAnswerTo, WantsMemory}
-use Rattle.bk_answer.specs.declared.command.CodeCommand.{CodeCommand}
+use Rattle.bk_answer.specs.CodeCommand.{CodeCommand}
 
 -- why a command refuses a line. The first cause counts
 pub data IsRefusedBy (command : CodeCommand) (bytes : List ℕ) : Refused → Type 0 where
@@ -23,7 +24,8 @@ pub data AnswersCodeLine (command : CodeCommand) (bytes : List ℕ) : List (List
   -- a line without an item has no answer
   no_item : HasItem bytes Skip → AnswersCodeLine command bytes [] false
   -- a line that the command refuses is answered by the cause
-  refuses : (refused : Refused) → IsRefusedBy command bytes refused → AnswersCodeLine command bytes (refusal_line refused ∷ []) true
+  refuses : (refused : Refused) → IsRefusedBy command bytes refused
+      → AnswersCodeLine command bytes (refusal_line refused ∷ []) true
   -- any other line has an item that speaks of a tiling, and is answered by it
   answers : (t : Tiling) (pieces : List (List ℕ)) → HasTiling bytes t → Allows command t → IsAnswerTo command t pieces
       → AnswersCodeLine command bytes pieces false

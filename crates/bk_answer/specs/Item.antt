@@ -1,6 +1,6 @@
 -- What the item of a line states, and the tilings that it speaks of.
--- Example (CodeAnswerExamples): the lines `[2,1][1]` and `3 3 2 2 1 1` speak of the rectangle 3x2 of the squares 2, 1, 1; the item of
--- `2x3 [2,1][1]` doesn't.
+-- Example (CodeAnswerExamples): the lines `[2,1][1]` and `3 3 2 2 1 1` speak of the rectangle 3x2 of the squares 2, 1,
+-- 1; the item of `2x3 [2,1][1]` doesn't.
 use Rattle.std.specs.Prelude.{IfSome, List, None, Option, Some, length, ℕ, ◌≡◌, ◌≤◌}
 use Rattle.bk_tiling.specs.Tiling.{Tiling, order}
 use Rattle.bk_profile.specs.Refused.{HasCode, HasFlat}
@@ -56,7 +56,7 @@ abbrev pub IsLaidItem : Line → Option Tiling → Type 0
 IsLaidItem item None = item ≡ Skip
 IsLaidItem item (Some t) = IsStatedBy item t
 
--- and of a line
+-- what comes of laying a line that is not refused: nothing where its item is none, else the tiling that it speaks of
 abbrev pub IsLaidLine : List ℕ → Option Tiling → Type 0
 IsLaidLine bytes None = HasItem bytes Skip
 IsLaidLine bytes (Some t) = HasTiling bytes t

@@ -5,7 +5,7 @@ use Rattle.bk_net.specs.Flow.{IsPrimitiveFlow}
 use Rattle.bk_net.specs.KeptNet.{IsKeptNet}
 use Rattle.bk_net.specs.Net.{HasNoLoose, IsLeastLoose, Net}
 use Rattle.bk_net.specs.NetLine.{IsNetLine, Item, NetLine, Skip}
-use Rattle.bk_net.specs.ReadNet.{IsFaultOf}
+use Rattle.bk_net.specs.ReadNet.{IsNetFaultOf}
 use Rattle.bk_net.specs.declared.NetFault.{NetFault}
 use Rattle.bk_net.specs.declared.NetFault.TheVariants as fault
 use Rattle.bk_flow.specs.FlowNumbers.{FlowNumbers}
@@ -47,7 +47,7 @@ pub data AnswersNetLine (bytes : List ℕ) : List (List ℕ) → Bool → Type 0
   -- more than 8,192 bytes
   net_too_long : 8192 < length bytes → AnswersNetLine bytes (refusal_line Long ∷ []) true
   -- no network line, or none of a net that is not too large
-  no_net : (cause : NetFault) → length bytes ≤ 8192 → IsFaultOf cause bytes
+  no_net : (cause : NetFault) → length bytes ≤ 8192 → IsNetFaultOf cause bytes
       → AnswersNetLine bytes (refusal_line (refused_net cause) ∷ []) true
   -- a line without a net has no answer
   no_net_item : HasNetItem bytes Skip → AnswersNetLine bytes [] false

@@ -1,13 +1,14 @@
 -- Why a line of codes is refused.
--- Example (CodeAnswerExamples): `2x3 [2,1][1]` is refused for its size, which is 3x2; `[18,15][7,9]` for its second group, whose sum 16
--- doesn't fit into a gap of 15 columns; and `3 [18,15][7,9]` for its order, which is 4.
+-- Example (CodeAnswerExamples): `2x3 [2,1][1]` is refused for its size, which is 3x2; `[18,15][7,9]` for its second
+-- group, whose sum 16 doesn't fit into a gap of 15 columns; and `3 [18,15][7,9]` for its order, which is 4.
 use Rattle.std.specs.Prelude.{List, length, ℕ, ◌<◌, ◌≤◌}
 use Rattle.bk_tiling.specs.Tiling.{Tiling}
 use Rattle.bk_profile.specs.Refused.{IsFlatRefused, IsRefused, first_sum}
 use Rattle.bk_profile.specs.declared.laying.Refusal.{Refusal}
 use Rattle.bk_profile.specs.declared.laying.Refusal.TheVariants.{Gap, Open}
 use Rattle.bk_report.specs.declared.refusal.Refused.{Refused}
-use Rattle.bk_report.specs.declared.refusal.Refused.TheVariants.{Gap as NoGap, Long, Many, Open as NoOpen, Order, Size, Text}
+use Rattle.bk_report.specs.declared.refusal.Refused.TheVariants.{Gap as NoGap, Long, Many, Open as NoOpen, Order, Size}
+use Rattle.bk_report.specs.declared.refusal.Refused.TheVariants.{Text}
 use Rattle.bk_text.specs.declared.TextFault.{TextFault}
 use Rattle.bk_text.specs.declared.TextFault.TheVariants as fault
 use Rattle.bk_text.specs.CodeLine.{Flat, IsLine, IsNoLine, Item, Line, Skip}

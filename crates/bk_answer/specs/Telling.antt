@@ -11,8 +11,8 @@ use Rattle.bk_word.specs.Word.{Word as Moves}
 use Rattle.bk_lay.specs.TilingWord.{IsWordOf}
 use Rattle.bk_report.specs.Answers.{IsCheckLine, dual_line, net_line, tiling_line}
 use Rattle.bk_report.specs.Listings.{word_line}
-use Rattle.bk_answer.specs.declared.command.CodeCommand.{CodeCommand}
-use Rattle.bk_answer.specs.declared.command.CodeCommand.TheVariants.{Canon, Check, Draw, Dual, Images, Net, Word}
+use Rattle.bk_answer.specs.CodeCommand.{CodeCommand, by_plain, by_word}
+use Rattle.bk_answer.specs.declared.plain.PlainCommand.TheVariants.{Canon, Check, Draw, Dual, Images, Net}
 
 -- the lines of the eight images of a tiling
 abbrev pub image_lines : Tiling → List (List ℕ)
@@ -24,34 +24,24 @@ drawing_lines t = map (λ y. drawing_row t y ++ 10 ∷ []) (range_with_len 0 (t.
 
 -- what is told of a tiling, as pieces that are written one after another
 abbrev pub IsAnswerTo : CodeCommand → Tiling → List (List ℕ) → Type 0
-IsAnswerTo Check t pieces = (line : List ℕ) × IsCheckLine t line × (pieces ≡ line ∷ [])
-IsAnswerTo Canon t pieces = (c : Tiling) × IsCanonicalOf t c × (pieces ≡ tiling_line c ∷ [])
-IsAnswerTo Images t pieces = pieces ≡ image_lines t
-IsAnswerTo Net t pieces = pieces ≡ net_line t ∷ []
-IsAnswerTo Dual t pieces = pieces ≡ dual_line t ∷ []
-IsAnswerTo Word t pieces = (w : Moves) × IsWordOf t w × (pieces ≡ word_line w ∷ [])
-IsAnswerTo Draw t pieces = pieces ≡ drawing_lines t
+IsAnswerTo (by_plain Check) t pieces = (line : List ℕ) × IsCheckLine t line × (pieces ≡ line ∷ [])
+IsAnswerTo (by_plain Canon) t pieces = (c : Tiling) × IsCanonicalOf t c × (pieces ≡ tiling_line c ∷ [])
+IsAnswerTo (by_plain Images) t pieces = pieces ≡ image_lines t
+IsAnswerTo (by_plain Net) t pieces = pieces ≡ net_line t ∷ []
+IsAnswerTo (by_plain Dual) t pieces = pieces ≡ dual_line t ∷ []
+IsAnswerTo by_word t pieces = (w : Moves) × IsWordOf t w × (pieces ≡ word_line w ∷ [])
+IsAnswerTo (by_plain Draw) t pieces = pieces ≡ drawing_lines t
 
 -- these pieces are told, and they are no refusal
-pub data Tells (command : CodeCommand) (t : Tiling) : List (List ℕ) → Bool → Type 0 where
-  tells : (pieces : List (List ℕ)) → IsAnswerTo command t pieces → Tells command t pieces false
+pub data TellsPieces (command : CodeCommand) (t : Tiling) : List (List ℕ) → Bool → Type 0 where
+  tells : (pieces : List (List ℕ)) → IsAnswerTo command t pieces → TellsPieces command t pieces false
 
 -- the tilings of which a command tells: all, but a drawing is at most 400 wide and 400 high
 abbrev pub Allows : CodeCommand → Tiling → Type 0
-Allows Check t = Unit {0}
-Allows Canon t = Unit {0}
-Allows Images t = Unit {0}
-Allows Net t = Unit {0}
-Allows Dual t = Unit {0}
-Allows Word t = Unit {0}
-Allows Draw t = (t.width ≤ 400) × (t.height ≤ 400)
+Allows (by_plain Draw) t = (t.width ≤ 400) × (t.height ≤ 400)
+Allows _ t = Unit {0}
 
 -- the tilings at which memory may be wanting: none, but a word of more than 16 squares takes memory
 abbrev pub WantsMemory : CodeCommand → Tiling → Type 0
-WantsMemory Check t = ⊥
-WantsMemory Canon t = ⊥
-WantsMemory Images t = ⊥
-WantsMemory Net t = ⊥
-WantsMemory Dual t = ⊥
-WantsMemory Word t = 16 < order t
-WantsMemory Draw t = ⊥
+WantsMemory (by_plain command) t = ⊥
+WantsMemory by_word t = 16 < order t

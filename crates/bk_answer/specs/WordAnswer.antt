@@ -1,6 +1,6 @@
 -- What `solve` answers to a line.
--- Example (WordAnswerExamples): the line `2u.1e` is answered by `3x2 [2,1][1]`, the word 2u by `unfinished`, the word 2u.2e by
--- `illegal 2`, and a line of blanks by nothing.
+-- Example (WordAnswerExamples): the line `2u.1e` is answered by `3x2 [2,1][1]`, the word 2u by `unfinished`, the word
+-- 2u.2e by `illegal 2`, and a line of blanks by nothing.
 use Rattle.std.specs.Prelude.{Bool, List, [], false, length, slice_range, true, ℕ, ◌+◌, ◌<◌, ◌∷◌, ◌≡◌, ◌≤◌}
 use Rattle.bk_grammar.specs.Grammar.{LineEnd}
 use Rattle.bk_tiling.specs.Tiling.{IsTiling, Tiling}
@@ -28,7 +28,8 @@ pub data AnswersWord (w : Word) : List (List ℕ) → Bool → Type 0 where
   no_tiling : IsComplete w → (IsWideWord w → ⊥) → ((t : Tiling) → IsTiling t → IsWordOf t w → ⊥)
       → AnswersWord w (refusal_line Nothing ∷ []) true
   -- its one primitive tiling
-  realised : (t : Tiling) → IsComplete w → (IsWideWord w → ⊥) → IsTilingOf w t → AnswersWord w (tiling_line t ∷ []) false
+  realised : (t : Tiling) → IsComplete w → (IsWideWord w → ⊥) → IsTilingOf w t
+      → AnswersWord w (tiling_line t ∷ []) false
 
 -- the bytes are a line that is not too long, and this text is its item, behind so many bytes
 pub record HasText (bytes : List ℕ) (start : ℕ) (text : List ℕ) : Type 0 where

@@ -7,7 +7,7 @@ ghost use Rattle.bk_report.specs.Refusals.{refusal_line};
 ghost use Rattle.bk_answer.specs.Replies.{accepted_if};
 
 use crate::by_word::answer_by_word;
-use crate::command::Command;
+use crate::command::MemoryCommand;
 use crate::flow::answer_net_line;
 use crate::items::Desk;
 use crate::solve::answer_word_line;
@@ -16,21 +16,22 @@ use bk_ports::{Answerer, Failed, Outcome, Sink};
 use bk_report::{Refused, write_refused};
 use std::alloc::Global;
 
-/// A command that answers lines, and where it takes memory from.
+/// A command that answers lines and takes memory for large items, and where it takes that from.
 #[derive(Clone, Copy)]
-pub struct LineAnswerer {
+pub struct MemoryAnswerer {
     /// What is asked of each line.
-    pub command: Command,
+    pub command: MemoryCommand,
     /// Where memory comes from.
     pub alloc: Global,
 }
 
-impl Answerer for LineAnswerer {
+impl Answerer for MemoryAnswerer {
     ghost use Rattle.bk_answer.specs.Answer.{AnswersLine, MayWant};
+    ghost use Rattle.bk_answer.specs.declared.command.Command.TheVariants.{Memory};
 
-    ghost answers = { λ a. AnswersLine a.command };
+    ghost answers = { λ a. AnswersLine (Memory a.command) };
 
-    ghost may_want = { λ a. MayWant a.command };
+    ghost may_want = { λ a. MayWant (Memory a.command) };
 
     type Desk = Desk;
 
@@ -46,18 +47,15 @@ impl Answerer for LineAnswerer {
         out: &mut O,
     ) -> Result<Outcome, Failed> {
         match self.command {
-            Command::OfCodes(command) => match command.plain() {
-                Some(plain) => plain.answer_line(line, desk, buffer, out),
-                None => answer_by_word(self.alloc, line, desk, buffer, out),
-            },
-            Command::Flow => answer_net_line(self.alloc, line, buffer, out),
-            Command::Solve => answer_word_line(self.alloc, line, desk, buffer, out),
+            MemoryCommand::Word => answer_by_word(self.alloc, line, desk, buffer, out),
+            MemoryCommand::Flow => answer_net_line(self.alloc, line, buffer, out),
+            MemoryCommand::Solve => answer_word_line(self.alloc, line, desk, buffer, out),
         }
     }
 
     ghost use Rattle.bk_answer.specs.EmptyLine.{no_answer_to_empty};
 
-    ghost empty_line = { λ a. no_answer_to_empty a.command };
+    ghost empty_line = { λ a. no_answer_to_empty (Memory a.command) };
 }
 
 // Answers by the line of a refusal.

@@ -4,11 +4,11 @@ ghost use Rattle.std.specs.Prelude.{◌<◌};
 ghost use Rattle.bk_ports.specs.Causes.{HasCause};
 ghost use Rattle.bk_tiling.specs.Tiling.{IsTiling, order};
 ghost use Rattle.bk_answer.specs.CodeAnswer.{AnswersCodeLine, MayWantForCode};
-ghost use Rattle.bk_answer.specs.Replies.{Replies};
-ghost use Rattle.bk_answer.specs.Telling.{Tells};
+ghost use Rattle.bk_answer.specs.CodeCommand.{by_word};
+ghost use Rattle.bk_answer.specs.Replies.{IsReplyWith};
+ghost use Rattle.bk_answer.specs.Telling.{TellsPieces};
 
 use crate::answer::{accepted, refuse};
-use crate::command::CodeCommand;
 use crate::items::{Desk, lay_line};
 use bk_grammar::AnswerBuffer;
 use bk_lay::word_of;
@@ -26,7 +26,7 @@ pub(crate) fn answer_by_word<O: Sink>(
     buffer: &mut AnswerBuffer,
     out: &mut O,
 ) -> Result<Outcome, Failed>
-    ensures reply { Replies (AnswersCodeLine CodeCommand.Word line.now) (MayWantForCode CodeCommand.Word line.now)
+    ensures reply { IsReplyWith (AnswersCodeLine by_word line.now) (MayWantForCode by_word line.now)
         (O.written out.old) (O.written out.new) result }
     ensures cause { HasCause (O.faults out.old) (O.faults out.new) result }
 {
@@ -45,7 +45,8 @@ fn tell_word<O: Sink>(
     out: &mut O,
 ) -> Result<Outcome, Failed>
     requires { IsTiling tiling.now }
-    ensures reply { Replies (Tells CodeCommand.Word tiling.now) (16 < order tiling.now) (O.written out.old) (O.written out.new) result }
+    ensures reply { IsReplyWith (TellsPieces by_word tiling.now) (16 < order tiling.now) (O.written out.old)
+        (O.written out.new) result }
     ensures cause { HasCause (O.faults out.old) (O.faults out.new) result }
 {
     match word_of(alloc, tiling) {

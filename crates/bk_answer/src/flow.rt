@@ -3,7 +3,7 @@
 ghost use Rattle.std.specs.Prelude.{◌≡◌};
 ghost use Rattle.bk_ports.specs.Causes.{HasCause};
 ghost use Rattle.bk_answer.specs.NetAnswer.{AnswersNet, AnswersNetLine, MayWantForNet, NetWants, refused_net};
-ghost use Rattle.bk_answer.specs.Replies.{Replies};
+ghost use Rattle.bk_answer.specs.Replies.{IsReplyWith};
 
 use crate::answer::{accepted, refuse};
 use bk_flow::{FlowFault, solve};
@@ -20,7 +20,8 @@ pub(crate) fn answer_net_line<O: Sink>(
     buffer: &mut AnswerBuffer,
     out: &mut O,
 ) -> Result<Outcome, Failed>
-    ensures reply { Replies (AnswersNetLine line.now) (MayWantForNet line.now) (O.written out.old) (O.written out.new) result }
+    ensures reply { IsReplyWith (AnswersNetLine line.now) (MayWantForNet line.now) (O.written out.old)
+        (O.written out.new) result }
     ensures cause { HasCause (O.faults out.old) (O.faults out.new) result }
 {
     if line.len() > LONGEST_LINE {
@@ -40,7 +41,7 @@ fn answer_net<O: Sink>(
     buffer: &mut AnswerBuffer,
     out: &mut O,
 ) -> Result<Outcome, Failed>
-    ensures reply { Replies (AnswersNet net.now) (NetWants net.now) (O.written out.old) (O.written out.new) result }
+    ensures reply { IsReplyWith (AnswersNet net.now) (NetWants net.now) (O.written out.old) (O.written out.new) result }
     ensures cause { HasCause (O.faults out.old) (O.faults out.new) result }
 {
     match solve(alloc, net) {

@@ -21,7 +21,8 @@ pub(crate) fn write_images<O: Sink>(
     out: &mut O,
 ) -> Result<(), Failed>
     ensures written { OnOk result (Appends (O.written out.old) (O.written out.new) (concat (image_lines tiling.now))) }
-    ensures failed { OnErr result (AppendsPrefix (O.written out.old) (O.written out.new) (concat (image_lines tiling.now))) }
+    ensures failed { OnErr result
+        (AppendsPrefix (O.written out.old) (O.written out.new) (concat (image_lines tiling.now))) }
     ensures cause { HasCause (O.faults out.old) (O.faults out.new) result }
 {
     for which in Turn::ALL {
@@ -35,8 +36,10 @@ pub(crate) fn write_images<O: Sink>(
 pub(crate) fn write_drawing<O: Sink>(tiling: &Tiling, out: &mut O) -> Result<(), Failed>
     requires width { tiling.now.width ≤ 400 }
     requires height { tiling.now.height ≤ 400 }
-    ensures written { OnOk result (Appends (O.written out.old) (O.written out.new) (concat (drawing_lines tiling.now))) }
-    ensures failed { OnErr result (AppendsPrefix (O.written out.old) (O.written out.new) (concat (drawing_lines tiling.now))) }
+    ensures written { OnOk result
+        (Appends (O.written out.old) (O.written out.new) (concat (drawing_lines tiling.now))) }
+    ensures failed { OnErr result
+        (AppendsPrefix (O.written out.old) (O.written out.new) (concat (drawing_lines tiling.now))) }
     ensures cause { HasCause (O.faults out.old) (O.faults out.new) result }
 {
     let mut row = ArrayVec::new();

@@ -4,7 +4,7 @@ ghost use Rattle.std.specs.Option.{option_copied};
 ghost use Rattle.std.specs.Prelude.{IfErr, IfOk, IfSome, IsTrue, OnOk, length, ◌<◌, ◌↔◌, ◌≡◌, ◌≤◌};
 ghost use Rattle.bk_text.specs.CodeLine.{Flat, Item};
 ghost use Rattle.bk_code.specs.Code.{flat};
-ghost use Rattle.bk_text.specs.Gathered.{line_gathered};
+ghost use Rattle.bk_text.specs.GatheredSides.{line_gathered};
 ghost use Rattle.bk_text.specs.ReadLine.{IsInRange};
 ghost use Rattle.bk_answer.specs.Item.{IsLaidItem, IsLaidLine, IsSize, IsStatedBy, side_count};
 ghost use Rattle.bk_answer.specs.Refusing.{IsItemRefused, IsLineRefused, refused_for, refused_text};
@@ -38,9 +38,9 @@ impl Desk {
     }
 }
 
-/// The tiling that a line of codes speaks of, by Bouwkamp's notation (1946-47) or as a row of a table, or `None` where it has
-/// no item. It is laid on the desk. A line is refused exactly where no tiling has the code, the order and the size that it
-/// states, or it is no line of at most 8,192 bytes and 200 sides; the first cause is told.
+/// The tiling that a line of codes speaks of, by Bouwkamp's notation (1946-47) or as a row of a table, or `None` where
+/// it has no item. It is laid on the desk. A line is refused exactly where no tiling has the code, the order and the
+/// size that it states, or it is no line of at most 8,192 bytes and 200 sides; the first cause is told.
 pub fn lay_line<'a>(line: &[u8], desk: &'a mut Desk) -> Result<Option<&'a Tiling>, Refused>
     ensures laid { IfOk result (λ laid. IsLaidLine line.now (option_copied laid)) }
     ensures refused { IfErr result (IsLineRefused line.now) }

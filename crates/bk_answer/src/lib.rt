@@ -12,9 +12,9 @@ mod items;
 mod plain;
 mod solve;
 
-pub use answer::LineAnswerer;
+pub use answer::MemoryAnswerer;
 pub use bk_ports::LONGEST_LINE;
-pub use command::{CodeCommand, Command};
+pub use command::{Command, MemoryCommand};
 pub use items::{Desk, lay_line};
 pub use plain::{PlainAnswerer, PlainCommand};
 

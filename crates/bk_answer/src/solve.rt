@@ -3,7 +3,7 @@
 ghost use Rattle.std.specs.Prelude.{length, ◌<◌};
 ghost use Rattle.bk_ports.specs.Causes.{HasCause};
 ghost use Rattle.bk_word.specs.Word.{order_of};
-ghost use Rattle.bk_answer.specs.Replies.{Replies};
+ghost use Rattle.bk_answer.specs.Replies.{IsReplyWith};
 ghost use Rattle.bk_answer.specs.WordAnswer.{AnswersWord, AnswersWordLine, MayWantForWord};
 
 use crate::answer::{accepted, refuse};
@@ -23,7 +23,8 @@ pub(crate) fn answer_word_line<O: Sink>(
     buffer: &mut AnswerBuffer,
     out: &mut O,
 ) -> Result<Outcome, Failed>
-    ensures reply { Replies (AnswersWordLine line.now) (MayWantForWord line.now) (O.written out.old) (O.written out.new) result }
+    ensures reply { IsReplyWith (AnswersWordLine line.now) (MayWantForWord line.now) (O.written out.old)
+        (O.written out.new) result }
     ensures cause { HasCause (O.faults out.old) (O.faults out.new) result }
 {
     if line.len() > LONGEST_LINE {
@@ -52,7 +53,8 @@ fn answer_word<O: Sink>(
     out: &mut O,
 ) -> Result<Outcome, Failed>
     requires { 0 < length word.now }
-    ensures reply { Replies (AnswersWord word.now) (16 < order_of word.now) (O.written out.old) (O.written out.new) result }
+    ensures reply { IsReplyWith (AnswersWord word.now) (16 < order_of word.now) (O.written out.old)
+        (O.written out.new) result }
     ensures cause { HasCause (O.faults out.old) (O.faults out.new) result }
 {
     match realise_in(alloc, word, &mut desk.room, &mut desk.tiling) {

@@ -3,6 +3,7 @@ use Rattle.std.specs.Fmt.{digits}
 use Rattle.std.specs.Prelude.{None, Some, codes}
 use Rattle.std.proofs.Common.{List, [], ap, arith, false, length, lit<, lit≤, nat_eq, refl, slice_index, ℕ, ◌∷◌, ◌≡◌}
 use Rattle.std.proofs.lemmas.Bool.Decides.{nat_tests}
+use Rattle.bk_laws.proofs.Membership.{contains-none}
 use Rattle.bk_word.proofs.WordExamples.{staircase}
 use Rattle.bk_word.specs.declared.Class.TheVariants.{Imperfect, Perfect}
 use Rattle.bk_ask.specs.Asked.{Asks, AsksNothing, verify_names}
@@ -10,8 +11,8 @@ use Rattle.bk_ask.specs.Help.{usage}
 use Rattle.bk_ask.specs.OptionValues.{IsClassName, IsCursor, IsNumberWithin}
 use Rattle.bk_ask.specs.Options.{AreOptions, options_in}
 use Rattle.bk_ask.specs.declared.Ask.TheVariants as asks
-use Rattle.bk_ask.specs.declared.Kind.TheVariants as kinds
-use Rattle.bk_ask.proofs.OptionLaws.{none_stands, option_of}
+use Rattle.bk_pair.specs.declared.Kind.TheVariants as kinds
+use Rattle.bk_ask.proofs.OptionLaws.{option_of}
 use Rattle.bk_ask.proofs.Unasked.{nothing_listed, nothing_with_options}
 
 -- texts that differ at a place differ
@@ -104,7 +105,7 @@ list_nine = record {
 
 -- an order is wanted
 pub list_alone : AsksNothing (codes "list" ∷ [])
-list_alone = nothing_listed [] (λ order class from limit l. none_stands (option_of (codes "--order") l.has_order.value) l.has_order.stands)
+list_alone = nothing_listed [] (λ order class from limit l. contains-none (option_of (codes "--order") l.has_order.value) l.has_order.stands)
 
 -- `check` stands alone
 pub check_with_order : AsksNothing (codes "check" ∷ codes "--order" ∷ codes "9" ∷ [])

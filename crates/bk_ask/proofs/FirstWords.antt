@@ -3,14 +3,10 @@ use Rattle.std.specs.Prelude.{IfNone, IfSome, List, Option, String, [], drop, le
 use Rattle.std.specs.declared.alloc.Global.{Global}
 use Rattle.std.proofs.Common.{ap, arith, eqb-true, false, get_or, refl, subst, sym, ◌∙◌}
 use Rattle.std.proofs.lemmas.Bool.{false≢true}
-use Rattle.std.proofs.lemmas.List.{take_rest}
+use Rattle.bk_laws.proofs.ListItems.{cons-first_and_rest}
 use Rattle.bk_ask.specs.Asked.{Asks, AsksNothing}
 use Rattle.bk_ask.specs.declared.Ask.{Ask}
 use Rattle.bk_ask.proofs.Unasked.{HasNoOptions, nothing_with_options}
-
-cut_one : {A : Type 0} (l : List A) (a : A) → 1 ≤ length l → a ≡ get_or l 0 a → l ≡ a ∷ take (length l - 1) (drop 1 l)
-cut_one [] a one is = absurd (omega arith)
-cut_one (x ∷ xs) a one is = rw (take_rest (x ∷ xs) 1) (ap (λ z. z ∷ xs) (sym is))
 
 -- the words behind the first one
 abbrev pub later_words : List (String Global) → List (List ℕ)
@@ -20,7 +16,8 @@ later_words words = map string_bytes (take (length words - 1) (drop 1 words))
 pub split_words : (words : List (String Global)) (command : String Global) (name : List ℕ) → 1 ≤ length words → command ≡ get_or words 0 command
     → name ≡ string_bytes command
     → map string_bytes words ≡ name ∷ later_words words
-split_words words command name one is same = ap (map string_bytes) (cut_one words command one is) ∙ ap (λ (n : List ℕ). n ∷ later_words words) (sym same)
+split_words words command name one is same =
+    ap (map string_bytes) (cons-first_and_rest words command one is) ∙ ap (λ (n : List ℕ). n ∷ later_words words) (sym same)
 
 -- where there are no words, there are no bytes of words
 pub no_words : (words : List (String Global)) → true ≡ nat_eq (length words) 0 → map string_bytes words ≡ []

@@ -6,11 +6,13 @@ use Rattle.std.specs.Str.{bytes_eq}
 use Rattle.std.proofs.Common.{Bool, Bor, ap, arith, inl, inr, sym, ◌||◌, ◌∙◌}
 use Rattle.std.proofs.lemmas.Bool.{cases_Bool}
 use Rattle.std.proofs.lemmas.Slice.Eq.{bytes_eq-Decides}
-use Rattle.bk_ask.proofs.OptionLaws.{first_or_later, later_stands, none_stands}
+use Rattle.bk_laws.proofs.Membership.{contains-first_or_later, contains-later, contains-none}
 
+-- the bytes of names as the code holds them
 abbrev pub texts_of : List (Bor (List ℕ)) → List (List ℕ)
 texts_of names = map (λ name. name.now) names
 
+-- whether a name is among those that the code holds
 abbrev pub is_among : List (Bor (List ℕ)) → List ℕ → Bool
 is_among names name = list_any (λ known. bytes_eq known.now name) names
 
@@ -19,15 +21,15 @@ pub found : (names : List (Bor (List ℕ))) (name : List ℕ) → is_among names
 found [] name e = absurd cc
 found (known ∷ names) name e = elim (cases_Bool (bytes_eq known.now name)) [
   | inl same ↦ (0, omega arith, (bytes_eq-Decides known.now name).0 same)
-  | inr other ↦ later_stands known.now (texts_of names) name (found names name (sym (ap (λ (v : Bool). v || is_among names name) other) ∙ e))
+  | inr other ↦ contains-later known.now (texts_of names) name (found names name (sym (ap (λ (v : Bool). v || is_among names name) other) ∙ e))
 ]
 
 -- and one that stands there is found
 pub finds : (names : List (Bor (List ℕ))) (name : List ℕ) → Contains (texts_of names) name → is_among names name ≡ true
-finds [] name has = absurd (none_stands name has)
+finds [] name has = absurd (contains-none name has)
 finds (known ∷ names) name has = elim (cases_Bool (bytes_eq known.now name)) [
   | inl same ↦ ap (λ (v : Bool). v || is_among names name) same
-  | inr other ↦ elim (first_or_later known.now (texts_of names) name has) [
+  | inr other ↦ elim (contains-first_or_later known.now (texts_of names) name has) [
     | inl is ↦ ap (λ (v : Bool). v || is_among names name) ((bytes_eq-Decides known.now name).1 is)
     | inr later ↦ ap (λ (v : Bool). v || is_among names name) other ∙ finds names name later
   ]

@@ -9,8 +9,8 @@ use Rattle.bk_ask.specs.OptionValues.{IsClassName, IsCursor, IsKindName, IsNumbe
 use Rattle.bk_ask.specs.Options.{NamesDiffer, options_in, or_else}
 use Rattle.bk_ask.specs.declared.Ask.{Ask}
 use Rattle.bk_ask.specs.declared.Ask.TheVariants as asks
-use Rattle.bk_ask.specs.declared.Kind.{Kind}
-use Rattle.bk_ask.specs.declared.Kind.TheVariants as kinds
+use Rattle.bk_pair.specs.declared.Kind.{Kind}
+use Rattle.bk_pair.specs.declared.Kind.TheVariants as kinds
 use Rattle.bk_ask.proofs.OptionLaws.{given_once, may_have_once}
 use Rattle.bk_ask.proofs.ValueLaws.{one_class, one_cursor, one_kind, one_number}
 
@@ -44,6 +44,7 @@ place_by_mark n =
     cond (nat_eq n 522) 8 (cond (nat_eq n 615) 9 (cond (nat_eq n 529) 10 (cond (nat_eq n 552) 11 (
     cond (nat_eq n 656) 12 (cond (nat_eq n 779) 13 14)))))))))))))
 
+-- the name of a command tells which command it is
 pub place_of_name : (a : Ask) → place a ≡ place_by_mark (mark (command_name a))
 place_of_name asks.Check = refl
 place_of_name _ = refl
@@ -129,6 +130,7 @@ both_alone a b at few =
     let few' : place b < 11 = omega (arith, at, few) in
     alone a few ∙ ap alone_at at ∙ sym (alone b few')
 
+-- options that say two asks of one command say one ask
 pub same_options : (words : List (List ℕ)) (a b : Ask) → place a ≡ place b → OptionsSay words a → OptionsSay words b → a ≡ b
 same_options words (asks.List order class from limit) b at say say' = same_listing words order class from limit say b at say'
 same_options words (asks.Trial seed count) b at say say' = same_trial words seed count say b at say'
@@ -136,14 +138,17 @@ same_options words (asks.Verify order) b at say say' = same_verify words order s
 same_options words (asks.Pair kind) b at say say' = same_pair words kind say b at say'
 same_options words a b at say say' = both_alone a b at (omega arith)
 
+-- the words behind the first one
 abbrev pub rest_of : List (List ℕ) → List (List ℕ)
 rest_of [] = []
 rest_of (word ∷ words) = words
 
+-- the first word, which is empty if there are no words
 abbrev pub first_of : List (List ℕ) → List ℕ
 first_of [] = []
 first_of (word ∷ words) = word
 
+-- words ask one thing at most
 pub one_ask : (words : List (List ℕ)) (a b : Ask) → Asks words a → Asks words b → a ≡ b
 one_ask words a b first second =
     let line : command_name a ∷ first.options ≡ command_name b ∷ second.options = sym first.line ∙ second.line in

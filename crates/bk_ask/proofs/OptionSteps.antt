@@ -3,10 +3,13 @@ use Rattle.std.specs.Prelude.{Contains, List, String, [], drop, length, map, ref
 use Rattle.std.specs.Str.{bytes_eq}
 use Rattle.std.specs.declared.alloc.Global.{Global}
 use Rattle.std.proofs.Common.{Bool, ap, arith, eq-eqb, eqb-true, false, get_or, nat_eq, subst, sym, true, ◌∙◌}
-use Rattle.std.proofs.lemmas.List.{length-drop, length-map, length-take, take_rest}
+use Rattle.std.proofs.lemmas.List.{length-map}
 use Rattle.std.proofs.lemmas.Slice.Eq.{bytes_eq-Decides}
+use Rattle.bk_laws.proofs.ListItems.{cons-first_two_and_rest, cons-two_and_drop}
+use Rattle.bk_laws.proofs.ListParts.{other_name-from_bytes_eq}
+use Rattle.bk_laws.proofs.Membership.{contains-later}
 use Rattle.bk_ask.specs.Options.{AreOptions, IsLeftOut, NamedValue, options_in}
-use Rattle.bk_ask.proofs.OptionLaws.{later_stands, option_of}
+use Rattle.bk_ask.proofs.OptionLaws.{option_of}
 
 -- all words are options of these names just where those that are left are
 pub record StandOrFall (names all left : List (List ℕ)) : Type 0 where
@@ -23,7 +26,7 @@ pub say_more : (name : List ℕ) (all : List (List ℕ)) (first value : List ℕ
     → SayTheSame name all (first ∷ value ∷ words) → SayTheSame name all words
 say_more name all first value words other so = record {
   out = λ out. so.out (other, out);
-  has = λ v has. so.has v (later_stands (option_of first value) (options_in words) (option_of name v) has);
+  has = λ v has. so.has v (contains-later (option_of first value) (options_in words) (option_of name v) has);
 }
 
 -- fewer than two words have no option
@@ -45,27 +48,15 @@ end_falls names (word ∷ next ∷ words) few are = absurd (omega arith)
 
 -- ---- the words as the code holds them
 
--- a list of at least two, cut behind them
-pub cut_two : {A : Type 0} (l : List A) (a : A) → 2 ≤ length l → a ≡ get_or l 0 a → l ≡ a ∷ get_or l 1 a ∷ take (length l - 2) (drop 2 l)
-cut_two [] a two is = absurd (omega arith)
-cut_two (x ∷ []) a two is = absurd (omega arith)
-cut_two (x ∷ y ∷ ys) a two is = rw (take_rest (x ∷ y ∷ ys) 2) (ap (λ z. z ∷ y ∷ ys) (sym is))
-
--- a name that the test tells apart is another
-pub other_name : (text name : List ℕ) → false ≡ bytes_eq text name → text ≢ name
-other_name text name test same =
-    let true' : bytes_eq text name ≡ true = (bytes_eq-Decides text name).1 same in
-    cc
-
 -- where the first word isn't the name, the words behind the first two say the same of it
 pub say_rest : (name : List ℕ) (all : List (List ℕ)) (words : List (String Global)) (first : String Global) (text : List ℕ) → 2 ≤ length words
     → first ≡ get_or words 0 first
     → text ≡ string_bytes first → false ≡ bytes_eq text name → SayTheSame name all (map string_bytes words)
     → SayTheSame name all (map string_bytes (take (length words - 2) (drop 2 words)))
 say_rest name all words first text two is same test so =
-    let cut : words ≡ first ∷ get_or words 1 first ∷ take (length words - 2) (drop 2 words) = cut_two words first two is in
+    let cut : words ≡ first ∷ get_or words 1 first ∷ take (length words - 2) (drop 2 words) = cons-first_two_and_rest words first two is in
     say_more name all (string_bytes first) (string_bytes (get_or words 1 first)) (map string_bytes (take (length words - 2) (drop 2 words)))
-    (λ e. other_name text name test (same ∙ e)) (subst (λ (w : List (String Global)). SayTheSame name all (map string_bytes w)) cut so)
+    (λ e. other_name-from_bytes_eq text name test (same ∙ e)) (subst (λ (w : List (String Global)). SayTheSame name all (map string_bytes w)) cut so)
 
 -- where fewer than two words are left, the option is left out
 pub say_none : (name : List ℕ) (all : List (List ℕ)) (words : List (String Global)) → length words < 2 → SayTheSame name all (map string_bytes words)
@@ -84,21 +75,11 @@ stand_end names all words empty few is so =
       λ are. is ∙ eq-eqb (length words) 0 (sym same ∙ end_falls names (map string_bytes words) (omega arith) (so.fall are)),
     )
 
--- the first two of a list
-cut_both : {A : Type 0} (l : List A) (a b : A) → 2 ≤ length l → a ≡ get_or l 0 a → b ≡ get_or l 1 b → l ≡ a ∷ b ∷ drop 2 l
-cut_both [] a b two is next = absurd (omega arith)
-cut_both (x ∷ []) a b two is next = absurd (omega arith)
-cut_both (x ∷ y ∷ ys) a b two is next = λ i. sym is i ∷ sym next i ∷ ys
-
 -- where the first word is the name, the next one is the value
 pub say_found : (name : List ℕ) (all : List (List ℕ)) (words : List (String Global)) (first second : String Global) (text value : List ℕ)
     → 2 ≤ length words → first ≡ get_or words 0 first → second ≡ get_or words 1 second → text ≡ string_bytes first → value ≡ string_bytes second
     → true ≡ bytes_eq text name → SayTheSame name all (map string_bytes words) → Contains (options_in all) (option_of name value)
 say_found name all words first second text value two is next same means test so =
     so.has value (subst (λ (w : List (String Global)). Contains (options_in (map string_bytes w)) (option_of name value))
-    (sym (cut_both words first second two is next))
+    (sym (cons-two_and_drop words first second two is next))
     (0, omega arith, λ i. option_of ((sym same ∙ (bytes_eq-Decides text name).0 (sym test)) i) (sym means i)))
-
--- fewer words are left
-pub fewer_left : {A : Type 0} (l : List A) → 2 ≤ length l → length (take (length l - 2) (drop 2 l)) < length l
-fewer_left l two = omega (arith, two, length-take (length l - 2) (drop 2 l), length-drop 2 l)

@@ -1,18 +1,21 @@
 -- When words ask nothing.
 use Rattle.std.specs.Prelude.{List, Option, [], codes, ℕ, ◌∷◌, ◌≡◌}
 use Rattle.std.proofs.Common.{ap, arith, subst, sym, ◌∙◌}
+use Rattle.bk_laws.proofs.Membership.{contains-none}
 use Rattle.bk_word.specs.Word.{Word}
 use Rattle.bk_word.specs.declared.Class.{Class}
 use Rattle.bk_ask.specs.Asked.{Asks, AsksListing, AsksNothing, AsksPair, AsksTrial, AsksVerify, OptionsSay, command_name}
 use Rattle.bk_ask.specs.declared.Ask.{Ask}
 use Rattle.bk_ask.specs.declared.Ask.TheVariants as asks
-use Rattle.bk_ask.specs.declared.Kind.{Kind}
-use Rattle.bk_ask.proofs.OptionLaws.{none_stands, option_of}
+use Rattle.bk_pair.specs.declared.Kind.{Kind}
+use Rattle.bk_ask.proofs.OptionLaws.{option_of}
 use Rattle.bk_ask.proofs.OneAsk.{first_of, mark, place, place_by_mark, place_of_name, rest_of}
 
+-- words that ask something begin with the name of that command
 pub named_place : (name : List ℕ) (options : List (List ℕ)) (ask : Ask) → Asks (name ∷ options) ask → place_by_mark (mark name) ≡ place ask
 named_place name options ask is = ap (λ (words : List (List ℕ)). place_by_mark (mark (first_of words))) is.line ∙ sym (place_of_name ask)
 
+-- the words behind the name of a command say what is asked
 pub options_say : (name : List ℕ) (options : List (List ℕ)) (ask : Ask) → Asks (name ∷ options) ask → OptionsSay options ask
 options_say name options ask is = subst (λ (rest : List (List ℕ)). OptionsSay rest ask) (sym (ap rest_of is.line)) is.say
 
@@ -20,12 +23,15 @@ options_say name options ask is = subst (λ (rest : List (List ℕ)). OptionsSay
 abbrev pub NoListing : List (List ℕ) → Type 0
 NoListing options = (order : ℕ) (class : Class) (from : Option Word) (limit : Option ℕ) → AsksListing options order class from limit → ⊥
 
+-- the options ask for no trial
 abbrev pub NoTrial : List (List ℕ) → Type 0
 NoTrial options = (seed count : ℕ) → AsksTrial options seed count → ⊥
 
+-- the options ask for no list to be verified
 abbrev pub NoVerify : List (List ℕ) → Type 0
 NoVerify options = (order : ℕ) → AsksVerify options order → ⊥
 
+-- the options ask for no pairs
 abbrev pub NoPair : List (List ℕ) → Type 0
 NoPair options = (kind : Kind) → AsksPair options kind → ⊥
 
@@ -45,18 +51,22 @@ paired : (options : List (List ℕ)) → NoPair options → (ask : Ask) → 14 �
 paired options none (asks.Pair kind) at say = none kind say
 paired options none _ at say = omega arith
 
+-- `list` with options that ask for no listing asks nothing
 pub nothing_listed : (options : List (List ℕ)) → NoListing options → AsksNothing (codes "list" ∷ options)
 nothing_listed options none ask is =
     listed options none ask (named_place (codes "list") options ask is) (options_say (codes "list") options ask is)
 
+-- `trial` with options that ask for no trial asks nothing
 pub nothing_tried : (options : List (List ℕ)) → NoTrial options → AsksNothing (codes "trial" ∷ options)
 nothing_tried options none ask is =
     tried options none ask (named_place (codes "trial") options ask is) (options_say (codes "trial") options ask is)
 
+-- `verify` with options that name no order asks nothing
 pub nothing_verified : (options : List (List ℕ)) → NoVerify options → AsksNothing (codes "verify" ∷ options)
 nothing_verified options none ask is =
     verified options none ask (named_place (codes "verify") options ask is) (options_say (codes "verify") options ask is)
 
+-- `pair` with options that ask for no pairs asks nothing
 pub nothing_paired : (options : List (List ℕ)) → NoPair options → AsksNothing (codes "pair" ∷ options)
 nothing_paired options none ask is =
     paired options none ask (named_place (codes "pair") options ask is) (options_say (codes "pair") options ask is)
@@ -75,6 +85,7 @@ other name word options none (asks.Verify order) named say = none.no_verify name
 other name word options none (asks.Pair kind) named say = none.no_pair named
 other name word options none _ named say = cc
 
+-- a command without options, with a word behind it, asks nothing
 pub nothing_with_options : (name word : List ℕ) (options : List (List ℕ)) → HasNoOptions name → AsksNothing (name ∷ word ∷ options)
 nothing_with_options name word options none ask is =
     other name word options none ask (ap first_of is.line) (options_say name (word ∷ options) ask is)
@@ -106,11 +117,12 @@ none_alone name none asks.Draw named say = none.no_draw named
 none_alone name none asks.Dual named say = none.no_dual named
 none_alone name none asks.Alike named say = none.no_alike named
 none_alone name none asks.Help named say = none.no_help named
-none_alone name none (asks.List order class from limit) named say = none_stands (option_of (codes "--order") say.has_order.value) say.has_order.stands
-none_alone name none (asks.Trial seed count) named say = none_stands (option_of (codes "--seed") say.has_seed.value) say.has_seed.stands
-none_alone name none (asks.Verify order) named say = none_stands (option_of (codes "--order") say.has_order.value) say.has_order.stands
+none_alone name none (asks.List order class from limit) named say = contains-none (option_of (codes "--order") say.has_order.value) say.has_order.stands
+none_alone name none (asks.Trial seed count) named say = contains-none (option_of (codes "--seed") say.has_seed.value) say.has_seed.stands
+none_alone name none (asks.Verify order) named say = contains-none (option_of (codes "--order") say.has_order.value) say.has_order.stands
 none_alone name none (asks.Pair kind) named say = none.no_pair named
 
+-- a word that names no command without options asks nothing alone
 pub nothing_alone : (name : List ℕ) → IsNoneAlone name → AsksNothing (name ∷ [])
 nothing_alone name none ask is = none_alone name none ask (ap first_of is.line) (options_say name [] ask is)
 

@@ -7,13 +7,15 @@ use Rattle.bk_word.specs.declared.Class.{Class}
 use Rattle.bk_word.specs.declared.Class.TheVariants.{Imperfect, Perfect, Simple}
 use Rattle.bk_word.proofs.WordsRead.{one_word}
 use Rattle.bk_ask.specs.OptionValues.{IsClassName, IsCursor, IsKindName, IsNumberWithin, class_name, kind_name}
-use Rattle.bk_ask.specs.declared.Kind.{Kind}
-use Rattle.bk_ask.specs.declared.Kind.TheVariants as kinds
+use Rattle.bk_pair.specs.declared.Kind.{Kind}
+use Rattle.bk_pair.specs.declared.Kind.TheVariants as kinds
 
+-- bytes mean one number at most
 pub one_number : (least most : ℕ) → most < 2 ^ 64 → (bytes : List ℕ) (a b : ℕ) → IsNumberWithin least most bytes a → IsNumberWithin least most bytes b → a ≡ b
 one_number least most fits bytes a b first second =
     decimal_injective a b (omega (arith, first.at_most)) (omega (arith, second.at_most)) (sym first.text ∙ second.text)
 
+-- bytes mean one cursor at most
 pub one_cursor : (bytes : List ℕ) (v w : Word) → IsCursor bytes v → IsCursor bytes w → v ≡ w
 one_cursor bytes v w first second = one_word bytes v w first.text second.text
 
@@ -27,6 +29,7 @@ by_length Perfect = refl
 by_length Imperfect = refl
 by_length Simple = refl
 
+-- bytes name one class at most
 pub one_class : (bytes : List ℕ) (a b : Class) → IsClassName bytes a → IsClassName bytes b → a ≡ b
 one_class bytes a b first second =
     by_length a ∙ ap (λ (name : List ℕ). class_of_length (length name)) (sym first ∙ second) ∙ sym (by_length b)
@@ -40,6 +43,7 @@ unfolding kind_of_length
 kind_by_length kinds.Perfect = refl
 kind_by_length kinds.Any = refl
 
+-- bytes name one kind of pairs at most
 pub one_kind : (bytes : List ℕ) (a b : Kind) → IsKindName bytes a → IsKindName bytes b → a ≡ b
 one_kind bytes a b first second =
     kind_by_length a ∙ ap (λ (name : List ℕ). kind_of_length (length name)) (sym first ∙ second) ∙ sym (kind_by_length b)

@@ -1,5 +1,6 @@
 -- What a command line asks.
--- Examples (AskExamples): `check` asks for the answers of check, and `list --limit 1 --order 9` for one entry of order 9, class perfect.
+-- Examples (AskExamples): `check` asks for the answers of check, and `list --limit 1 --order 9` for one entry of order
+-- 9, class perfect.
 use Rattle.std.specs.Prelude.{List, Option, [], codes, ℕ, ◌∷◌, ◌≡◌}
 use Rattle.bk_word.specs.Word.{Word}
 use Rattle.bk_word.specs.declared.Class.{Class}
@@ -8,8 +9,8 @@ use Rattle.bk_ask.specs.Options.{AreOptions, Given, MayHave, NamedValue, options
 use Rattle.bk_ask.specs.OptionValues.{IsClassName, IsCursor, IsKindName, IsNumberWithin}
 use Rattle.bk_ask.specs.declared.Ask.{Ask}
 use Rattle.bk_ask.specs.declared.Ask.TheVariants as asks
-use Rattle.bk_ask.specs.declared.Kind.{Kind}
-use Rattle.bk_ask.specs.declared.Kind.TheVariants as kinds
+use Rattle.bk_pair.specs.declared.Kind.{Kind}
+use Rattle.bk_pair.specs.declared.Kind.TheVariants as kinds
 
 -- the word that names the command
 abbrev pub command_name : Ask → List ℕ
@@ -49,7 +50,8 @@ pub record MayHaveClass (options : List NamedValue) (class : Class) : Type 0 whe
   pub is : class ≡ or_else named Perfect
 
 -- list: an order from 2 to 16; and it may have a class, a word after which to start, and a limit
-pub record AsksListing (words : List (List ℕ)) (order : ℕ) (class : Class) (from : Option Word) (limit : Option ℕ) : Type 0 where
+pub record AsksListing (words : List (List ℕ)) (order : ℕ) (class : Class) (from : Option Word)
+    (limit : Option ℕ) : Type 0 where
   pub options : AreOptions listing_names words
   pub has_order : Given (options_in words) (codes "--order") (IsNumberWithin 2 16) order
   pub has_class : MayHaveClass (options_in words) class

@@ -1,13 +1,13 @@
 -- The values that options may have.
--- Example (AskExamples): `16` is a number within 2 and 16, `17` is not, and `09` is not the number 9; `2u.2eu.1e` is a cursor, and
--- `imperfect` names a class.
+-- Example (AskExamples): `16` is a number within 2 and 16, `17` is not, and `09` is not the number 9; `2u.2eu.1e` is a
+-- cursor, and `imperfect` names a class.
 use Rattle.std.specs.Prelude.{List, [], codes, decimal, slice_index, ℕ, ◌∷◌, ◌≡◌, ◌≤◌, ◌⊎◌}
 use Rattle.bk_word.specs.Word.{Word, order_of}
 use Rattle.bk_word.specs.WordText.{IsTextOf}
 use Rattle.bk_word.specs.declared.Class.{Class}
 use Rattle.bk_word.specs.declared.Class.TheVariants.{Imperfect, Perfect, Simple}
-use Rattle.bk_ask.specs.declared.Kind.{Kind}
-use Rattle.bk_ask.specs.declared.Kind.TheVariants as kinds
+use Rattle.bk_pair.specs.declared.Kind.{Kind}
+use Rattle.bk_pair.specs.declared.Kind.TheVariants as kinds
 
 -- a number from `least` to `most`, written in digits without a sign and without a leading 0
 pub record IsNumberWithin (least most : ℕ) (bytes : List ℕ) (n : ℕ) : Type 0 where

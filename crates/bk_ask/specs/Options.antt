@@ -1,6 +1,6 @@
 -- Options: names and values that stand behind a command.
--- Example (AskExamples): in `--order 9 --class` stands one option, since the last name has no value. `--order` alone is no option of
--- `verify`, and neither is `--order 9 --order 9`, in which the name stands twice.
+-- Example (AskExamples): in `--order 9 --class` stands one option, since the last name has no value. `--order` alone is
+-- no option of `verify`, and neither is `--order 9 --order 9`, in which the name stands twice.
 use Rattle.std.specs.List.{AllByRecursion}
 use Rattle.std.specs.Prelude.{Contains, List, None, Option, Some, [], flat_map, ℕ, ⊤, ◌∷◌, ◌≡◌, ◌≢◌}
 
@@ -35,7 +35,8 @@ pub record AreOptions (names words : List (List ℕ)) : Type 0 where
   pub once : NamesDiffer (options_in words)
 
 -- one of the options has this name, and its value means a
-pub record Given {A : Type 0} (options : List NamedValue) (name : List ℕ) (Means : List ℕ → A → Type 0) (a : A) : Type 0 where
+pub record Given {A : Type 0} (options : List NamedValue) (name : List ℕ) (Means : List ℕ → A
+    → Type 0) (a : A) : Type 0 where
   pub value : List ℕ
   pub stands : Contains options (record { name = name; value = value })
   pub means : Means value a

@@ -3,7 +3,7 @@
 ghost use Rattle.std.specs.Prelude.{IfErr, IfNone, IfOk, IfSome, [], codes, map, string_bytes, Option, ℕ, ◌∷◌, ◌≢◌};
 ghost use Rattle.bk_word.specs.Word.{Word as Moves};
 ghost use Rattle.bk_word.specs.declared.Class.{Class as ClassOf};
-ghost use Rattle.bk_ask.specs.declared.Kind.{Kind as KindOf};
+ghost use Rattle.bk_pair.specs.declared.Kind.{Kind as KindOf};
 ghost use Rattle.bk_ask.specs.Asked.{Asks, AsksNothing, MayHaveClass, MayHaveKind};
 ghost use Rattle.bk_ask.specs.Options.{Given, MayHave, NamesDiffer, options_in};
 ghost use Rattle.bk_ask.specs.OptionValues.{IsCursor, IsNumberWithin};
@@ -11,8 +11,19 @@ ghost use Rattle.bk_ask.specs.OptionValues.{IsCursor, IsNumberWithin};
 use crate::options::{are_options, value_of};
 use crate::values::{class_named, cursor_in, kind_named, number_within};
 use crate::{Ask, Kind};
-use bk_word::{Class, INLINE_ORDER, Word};
+use bk_word::{Class, Word};
 use std::alloc::Global;
+
+// The orders of catalogues.
+const LEAST_ORDER: u64 = 2;
+
+const GREATEST_ORDER: u64 = 16;
+
+// At most so many entries are listed, where a limit is asked.
+const MOST_ENTRIES: u64 = 1_000_000_000;
+
+// At most so many trial codes are tried.
+const MOST_CODES: u64 = 100_000;
 
 // The words ask nothing.
 #[derive(Clone, Copy, Drop)]
@@ -69,7 +80,7 @@ pub(crate) fn trial(options: &[String]) -> Option<Ask>
         return None;
     }
     let seed = number_given(options, "--seed", 0, u64::MAX)?;
-    let count = number_given(options, "--count", 0, 100_000)? as u32;
+    let count = number_given(options, "--count", 0, MOST_CODES)? as u32;
     Some(Ask::Trial { seed, count })
 }
 
@@ -103,29 +114,26 @@ fn order_given(options: &[String]) -> Option<u8>
     ensures some { IfSome result (Given (options_in (map string_bytes options.now)) (codes "--order") (IsNumberWithin 2 16)) }
     ensures none { IfNone result ((n : ℕ) → Given (options_in (map string_bytes options.now)) (codes "--order") (IsNumberWithin 2 16) n → ⊥) }
 {
-    match number_given(options, "--order", 2, INLINE_ORDER as u64) {
-        Some(order) => Some(order as u8),
-        None => None,
-    }
+    Some(number_given(options, "--order", LEAST_ORDER, GREATEST_ORDER)? as u8)
 }
 
 // The number of the option of this name, where its value is a number in this range.
 fn number_given(options: &[String], name: &str, least: u64, most: u64) -> Option<u64>
     requires { NamesDiffer (options_in (map string_bytes options.now)) }
-    ensures some { IfSome result (Given (options_in (map string_bytes options.now)) name.now (IsNumberWithin least most)) }
-    ensures none { IfNone result ((n : ℕ) → Given (options_in (map string_bytes options.now)) name.now (IsNumberWithin least most) n → ⊥) }
+    ensures some { IfSome result
+        (Given (options_in (map string_bytes options.now)) name.now (IsNumberWithin least most)) }
+    ensures none { IfNone result ((n : ℕ)
+        → Given (options_in (map string_bytes options.now)) name.now (IsNumberWithin least most) n → ⊥) }
 {
-    match value_of(options, name) {
-        Some(value) => number_within(least, most, value),
-        None => None,
-    }
+    number_within(least, most, value_of(options, name)?)
 }
 
 // The class, which is perfect where none is named.
 fn class_in(options: &[String]) -> Result<Class, Unasked>
     requires { NamesDiffer (options_in (map string_bytes options.now)) }
     ensures ok { IfOk result (MayHaveClass (options_in (map string_bytes options.now))) }
-    ensures err { IfErr result (λ _. (class : ClassOf) → MayHaveClass (options_in (map string_bytes options.now)) class → ⊥) }
+    ensures err { IfErr result (λ _. (class : ClassOf) → MayHaveClass (options_in (map string_bytes options.now)) class
+        → ⊥) }
 {
     match value_of(options, "--class") {
         Some(name) => class_named(name).ok_or(Unasked),
@@ -137,7 +145,8 @@ fn class_in(options: &[String]) -> Result<Class, Unasked>
 fn kind_in(options: &[String]) -> Result<Kind, Unasked>
     requires { NamesDiffer (options_in (map string_bytes options.now)) }
     ensures ok { IfOk result (MayHaveKind (options_in (map string_bytes options.now))) }
-    ensures err { IfErr result (λ _. (kind : KindOf) → MayHaveKind (options_in (map string_bytes options.now)) kind → ⊥) }
+    ensures err { IfErr result (λ _. (kind : KindOf) → MayHaveKind (options_in (map string_bytes options.now)) kind
+        → ⊥) }
 {
     match value_of(options, "--kind") {
         Some(name) => kind_named(name).ok_or(Unasked),
@@ -168,7 +177,7 @@ fn limit_in(options: &[String]) -> Result<Option<u64>, Unasked>
         (IsNumberWithin 0 1_000_000_000) limit → ⊥) }
 {
     match value_of(options, "--limit") {
-        Some(text) => match number_within(0, 1_000_000_000, text) {
+        Some(text) => match number_within(0, MOST_ENTRIES, text) {
             Some(limit) => Ok(Some(limit)),
             None => Err(Unasked),
         },

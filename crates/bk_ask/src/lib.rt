@@ -12,6 +12,7 @@ mod values;
 mod words;
 
 use bk_grammar::{AnswerBuffer, push_bytes};
+pub use bk_pair::Kind;
 use bk_word::{Class, Word};
 use commands::{command_alone, listing, pair, trial, verify};
 use std::alloc::Global;
@@ -38,8 +39,8 @@ pub enum Ask {
     Draw,
     /// The dual diagram of each code.
     Dual,
-    /// The catalogue of an order, 2 to 16, and a class: what comes after a word of order at most 16, and at most so many
-    /// entries.
+    /// The catalogue of an order, 2 to 16, and a class: what comes after a word of order at most 16, and at most so
+    /// many entries.
     List {
         order: u8,
         class: Class,
@@ -65,24 +66,15 @@ pub enum Ask {
     Help,
 }
 
-/// Which squares count that are made of two rectangles. The kinds are our own.
-#[derive(Clone, Copy, PartialEq, Eq)]
-pub enum Kind {
-    /// The perfect ones.
-    Perfect,
-    /// All of them.
-    Any,
-}
-
 /// What the words of a command line ask, without the program's name. The first word is the command. `check`, `canon`,
-/// `images`, `net`, `flow`, `word`, `solve`, `draw`, `dual`, `alike` and `help` stand alone. After `list`, `trial`, `verify`
-/// and `pair` come pairs of a name and a value, in any order and each name at most once.
+/// `images`, `net`, `flow`, `word`, `solve`, `draw`, `dual`, `alike` and `help` stand alone. After `list`, `trial`,
+/// `verify` and `pair` come pairs of a name and a value, in any order and each name at most once.
 ///
 /// `list` has `--order` with 2 to 16, and may have `--class` with `perfect`, `imperfect` or `simple`, which is else
 /// `perfect`, `--from` with the text of a word of order at most 16, and `--limit` with 0 to 1,000,000,000. `trial` has
-/// `--seed` with 0 to 18,446,744,073,709,551,615 and `--count` with 0 to 100,000. `verify` has `--order` with 2 to 16. `pair`
-/// may have `--kind` with `perfect` or `any`, which is else `perfect`. A number is `0`, or digits without a leading 0 and
-/// without a sign.
+/// `--seed` with 0 to 18,446,744,073,709,551,615 and `--count` with 0 to 100,000. `verify` has `--order` with 2 to 16.
+/// `pair` may have `--kind` with `perfect` or `any`, which is else `perfect`. A number is `0`, or digits without a
+/// leading 0 and without a sign.
 ///
 /// `None` comes exactly where the words ask nothing. It takes no memory. The form is our own.
 pub fn asked(alloc: Global, words: &[String]) -> Option<Ask>
@@ -131,8 +123,8 @@ pub fn write_usage(out: &mut AnswerBuffer)
     push_bytes(USAGE, out);
 }
 
-/// Clears the buffer and leaves the text of `help`: how a command line is built, and a line for each command. The text is
-/// our own.
+/// Clears the buffer and leaves the text of `help`: how a command line is built, and a line for each command. The text
+/// is our own.
 pub fn write_help(out: &mut AnswerBuffer)
     ensures { out.new.items ≡ help_text }
 {

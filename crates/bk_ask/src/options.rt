@@ -19,7 +19,8 @@ pub(crate) fn are_options<'a>(names: &[&'a str], words: &'a [String]) -> bool
 
 // The value of the first option of this name, none where the option is left out.
 pub(crate) fn value_of<'a>(words: &'a [String], name: &str) -> Option<&'a str>
-    ensures some { IfSome result (λ value. Contains (options_in (map string_bytes words.now)) (record { name = name.now; value = value.now })) }
+    ensures some { IfSome result
+        (λ value. Contains (options_in (map string_bytes words.now)) (record { name = name.now; value = value.now })) }
     ensures none { IfNone result (IsLeftOut (options_in (map string_bytes words.now)) name.now) }
 {
     let mut left = words;

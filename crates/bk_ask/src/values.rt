@@ -3,7 +3,7 @@
 ghost use Rattle.std.specs.Prelude.{IfNone, IfSome, IsTrue, ℕ, ◌↔◌};
 ghost use Rattle.bk_word.specs.Word.{Word as Moves};
 ghost use Rattle.bk_word.specs.declared.Class.{Class as ClassOf};
-ghost use Rattle.bk_ask.specs.declared.Kind.{Kind as KindOf};
+ghost use Rattle.bk_pair.specs.declared.Kind.{Kind as KindOf};
 ghost use Rattle.bk_ask.specs.OptionValues.{BeginsNumber, IsClassName, IsCursor, IsKindName, IsNumberWithin};
 
 use crate::Kind;

@@ -6,8 +6,8 @@ ghost use Rattle.std.specs.Vec.Iter.{into_iter_items};
 use std::alloc::{AllocError, Global};
 use std::env::Args;
 
-/// The words of a command line: the arguments of the process but the first, which is the program's name, each as it is and
-/// in their order. Memory may be wanting for them.
+/// The words of a command line: the arguments of the process but the first, which is the program's name, each as it is
+/// and in their order. Memory may be wanting for them.
 pub fn words_of(alloc: Global, mut args: Args) -> Result<Vec<String>, AllocError>
     ensures { IfOk result (λ words. words.items ≡ drop 1 (into_iter_items args)) }
 {

@@ -1,18 +1,18 @@
 -- What the crate says.
+pub mod BoundCuts
+pub mod CanonicalCorners
+pub mod Catalogue
+pub mod ClosingBound
+pub mod Cuts
+pub mod Following
+pub mod NextMove
+pub mod Once
+pub mod Qualifying
+pub mod Repeated
+pub mod SingleValleys
 pub mod Tree
 pub mod TreeLaws
-pub mod NextMove
-pub mod WordBounds
-pub mod ClosingBound
-pub mod SingleValleys
 pub mod VerticalCut
-pub mod Catalogue
-pub mod Following
-pub mod Once
-pub mod Repeated
-pub mod Cuts
-pub mod BoundCuts
-pub mod Corners
-pub mod Qualifying
+pub mod WordBounds
 -- How its code keeps it.
 pub mod Tally

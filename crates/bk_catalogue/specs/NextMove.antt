@@ -1,8 +1,9 @@
--- Which move comes next. The legal moves at one state go by their counts, and those of one count have the same number of
--- signs and go by these.
--- Example (TreeExamples): behind all that begin with 2au comes 2e, and behind 2u comes 3; at a valley with one open side the
--- least legal move that is not before 2 is 2aa.
-use Rattle.std.specs.Prelude.{List, None, Option, Some, [], cond, length, nat_lt, replicate, take, ℕ, ◌++◌, ◌+◌, ◌-◌, ◌∷◌, ◌≡◌}
+-- Which move comes next. The legal moves at one state go by their counts, and those of one count have the same number
+-- of signs and go by these.
+-- Example (TreeExamples): behind all that begin with 2au comes 2e, and behind 2u comes 3; at a valley with one open
+-- side the least legal move that is not before 2 is 2aa.
+use Rattle.std.specs.Prelude.{List, None, Option, Some, [], cond, length, nat_lt, replicate, take, ℕ, ◌++◌, ◌+◌, ◌-◌}
+use Rattle.std.specs.Prelude.{◌∷◌, ◌≡◌}
 use Rattle.std.specs.declared.cmp.Ordering.TheVariants.{Less}
 use Rattle.bk_word.specs.Outline.{IsLegalMove, Outline, has_left_wall, has_right_wall, open_side}
 use Rattle.bk_word.specs.Word.{Move, move_cmp}
@@ -26,20 +27,20 @@ raised Above None = Some (Even ∷ [])
 raised Even None = Some (Under ∷ [])
 raised Under None = None
 
--- the signs that are next after all that begin with these: the last that is not under is raised, and those behind it are
--- dropped. There are none where all are under
+-- the signs that are next after all that begin with these: the last that is not under is raised, and those behind it
+-- are dropped. There are none where all are under
 abbrev pub signs_after : List Sign → Option (List Sign)
 signs_after [] = None
 signs_after (s ∷ signs) = raised s (signs_after signs)
 
 -- the move of so many squares with these signs, or else of one square more and no sign
-abbrev pub move_of : ℕ → Option (List Sign) → Move
-move_of count (Some signs) = record { count = count; signs = signs }
-move_of count None = record { count = count + 1; signs = [] }
+abbrev pub move_with_signs : ℕ → Option (List Sign) → Move
+move_with_signs count (Some signs) = record { count = count; signs = signs }
+move_with_signs count None = record { count = count + 1; signs = [] }
 
 -- the move that is next after all of the same count whose signs begin with these
 abbrev pub move_after : Move → Move
-move_after m = move_of m.count (signs_after m.signs)
+move_after m = move_with_signs m.count (signs_after m.signs)
 
 -- how many sides of the leftmost valley are no walls
 abbrev pub open_sides : Outline → ℕ

@@ -1,5 +1,6 @@
 -- Words that no member has, and numbers that stand at two places of a list: those of a perfect tiling's word don't.
--- Example (RepeatedExamples): the word 2e, whose net has the currents 1 and 1, is that of no member of order 2 and the class perfect.
+-- Example (RepeatedExamples): the word 2e, whose net has the currents 1 and 1, is that of no member of order 2 and the
+-- class perfect.
 use Rattle.std.specs.Prelude.{List, Some, slice_get, ℕ, ℤ, ◌<◌, ◌≡◌}
 use Rattle.bk_word.specs.Word.{Word, order_of}
 use Rattle.bk_word.specs.declared.Class.{Class}

@@ -1,5 +1,7 @@
--- Each part of the tree has a tree count, which is one number, and it is additive. Statements alone; each is proved apart.
--- Example (TreeExamples): of order 1 there is one word, 1. Up to it there is one, behind it none, and 1 + 0 is the count of all.
+-- Each part of the tree has a tree count, which is one number, and it is additive. Statements alone; each is proved
+-- apart.
+-- Example (TreeExamples): of order 1 there is one word, 1. Up to it there is one, behind it none, and 1 + 0 is the
+-- count of all.
 use Rattle.std.specs.Prelude.{Option, Some, length, ℕ, ◌+◌, ◌<◌, ◌≡◌, ◌≤◌}
 use Rattle.bk_word.specs.Play.{IsLegal}
 use Rattle.bk_word.specs.Word.{Follows, Word, order_of}
@@ -7,7 +9,8 @@ use Rattle.bk_catalogue.specs.Tree.{HasAtLeast, IsNotAfter, IsTreeCount}
 
 -- a part of the tree, after a cursor and not after a bound, has a tree count
 abbrev pub EachPartOfTheTreeHasACount : Type 0
-EachPartOfTheTreeHasACount = (n : ℕ) (cursor : Word) (bound : Option Word) → (number : ℕ) × IsTreeCount n cursor bound number
+EachPartOfTheTreeHasACount = (n : ℕ) (cursor : Word) (bound : Option Word)
+    → (number : ℕ) × IsTreeCount n cursor bound number
 
 -- a list of words of the tree has at most as many as the tree
 abbrev pub TheTreeCountIsMost : Type 0
@@ -25,7 +28,7 @@ TreeCountsAdd = (n : ℕ) (cursor between : Word) (bound : Option Word) (a b : �
     → IsNotAfter bound between
     → IsTreeCount n cursor (Some between) a → IsTreeCount n between bound b → IsTreeCount n cursor bound (a + b)
 
--- and so do lists of words in them
+-- numbers of words that the tree has at least in two parts add up
 abbrev pub AtLeastAdds : Type 0
 AtLeastAdds = (n : ℕ) (cursor between : Word) (bound : Option Word) (a b : ℕ) → (Follows cursor between → ⊥)
     → IsNotAfter bound between

@@ -1,7 +1,7 @@
 -- How many squares are still to hang at least, where vertical lines run between squares of the first move: a line that
 -- runs from the top down to the last segment cuts the tiling in two. So it ends on a segment that a later move closes.
--- Example (BoundExamples): 2u.1e, drawn below, where the line behind square 1 runs down from the top. It bounds the last segment,
--- of the squares 1 and 3, so one more must be closed: the bound after these moves is 1.
+-- Example (BoundExamples): 2u.1e, drawn below, where the line behind square 1 runs down from the top. It bounds the
+-- last segment, of the squares 1 and 3, so one more must be closed: the bound after these moves is 1.
 --
 --     +-----+--+
 --     |     |2 |
@@ -9,7 +9,8 @@
 --     |     |3 |
 --     +-----+--+
 use Rattle.std.specs.List.{list_any}
-use Rattle.std.specs.Prelude.{Bool, List, [], cond, count_by, drop, false, length, max, nat_eq, replicate, slice_index_or, take, ℕ, ◌||◌, ◌++◌, ◌+◌}
+use Rattle.std.specs.Prelude.{Bool, List, [], cond, count_by, drop, false, length, max, nat_eq, replicate}
+use Rattle.std.specs.Prelude.{slice_index_or, take, ℕ, ◌||◌, ◌++◌, ◌+◌}
 use Rattle.std.specs.Prelude.{◌-◌, ◌<◌, ◌∷◌, ◌≡◌, ◌≤◌}
 use Rattle.bk_word.specs.Outline.{Outline, start, valley_of}
 use Rattle.bk_word.specs.Play.{IsLegal, after_move, outline_of}
@@ -31,7 +32,8 @@ begins_on_line lines (square ∷ segment) = on_line lines square
 -- the squares of a move: at the first move a line stands at the left of each square but the first; later the first
 -- square goes on with the line at the left of the valley, where one stands there
 abbrev pub lines_after : Outline → List Bool → Move → List Bool
-lines_after o lines m = lines ++ begins_on_line lines (valley_of o) ∷ replicate (m.count - 1) (nat_eq (length o.closed) 0)
+lines_after o lines m = lines
+    ++ begins_on_line lines (valley_of o) ∷ replicate (m.count - 1) (nat_eq (length o.closed) 0)
 
 -- the squares of moves, one after another
 abbrev pub lines_along : Outline → List Bool → Word → List Bool
@@ -56,7 +58,8 @@ next_on_line lines (segment ∷ segments) = begins_on_line lines segment
 -- of the next segment
 abbrev pub touched : List Bool → List (List ℕ) → List Bool
 touched lines [] = []
-touched lines (segment ∷ segments) = (list_any (on_line lines) segment || next_on_line lines segments) ∷ touched lines segments
+touched lines (segment ∷ segments) =
+    (list_any (on_line lines) segment || next_on_line lines segments) ∷ touched lines segments
 
 -- the greatest number of closings, where a segment that a line touches has one more
 abbrev pub line_bound : List Sign → List Bool → ℕ

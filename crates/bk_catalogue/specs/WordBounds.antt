@@ -1,7 +1,7 @@
 -- How many squares a complete word has at least, by what stands open after its first moves. Statements alone; each is
 -- proved apart.
--- Example (BoundExamples): after 2u.2aa two segments must be closed, and one valley has one square: a word that goes on so has at
--- least seven squares.
+-- Example (BoundExamples): after 2u.2aa two segments must be closed, and one valley has one square: a word that goes on
+-- so has at least seven squares.
 use Rattle.std.specs.List.{list_any}
 use Rattle.std.specs.Prelude.{List, [], length, true, ℕ, ⊤, ◌++◌, ◌+◌, ◌∷◌, ◌≡◌, ◌≤◌}
 use Rattle.bk_word.specs.Outline.{Outline, sizes_of, start, valley_of}
@@ -32,7 +32,8 @@ pub record IsWithoutPairs (w : Word) : Type 0 where
 -- a complete word without pairs hangs one more for each valley of one square
 abbrev pub SinglesAreHung : Type 0
 SinglesAreHung = (front rest : Word) → IsComplete (front ++ rest) → IsWithoutPairs (front ++ rest)
-    → order_of front + closing_bound (outline_of front).signs + single_valleys (outline_of front).signs (sizes_of (outline_of front))
+    → order_of front + closing_bound (outline_of front).signs + single_valleys (outline_of front).signs
+    (sizes_of (outline_of front))
     ≤ order_of (front ++ rest)
 
 -- no line from the top comes down to the last segment
@@ -41,5 +42,7 @@ EndsNoLine w = (s : List ℕ) → (outline_of w).segments ≡ s ∷ [] → list_
 
 -- then it hangs one more where lines from the top end on a segment
 abbrev pub LinesAreHung : Type 0
-LinesAreHung = (front rest : Word) → IsComplete (front ++ rest) → IsWithoutPairs (front ++ rest) → EndsNoLine (front ++ rest)
-    → order_of front + line_bound_of front + single_valleys (outline_of front).signs (sizes_of (outline_of front)) ≤ order_of (front ++ rest)
+LinesAreHung = (front rest : Word) → IsComplete (front ++ rest) → IsWithoutPairs (front ++ rest)
+    → EndsNoLine (front ++ rest)
+    → order_of front + line_bound_of front + single_valleys (outline_of front).signs
+    (sizes_of (outline_of front)) ≤ order_of (front ++ rest)

@@ -1,14 +1,16 @@
 //! The catalogue of simple tilings, the tree of legal words, and what a search for the members may pass over.
 #![tactic(auto)]
 
-ghost use Rattle.bk_catalogue.specs.TreeLaws.{ALegalWordIsOne, AtLeastAdds, EachPartOfTheTreeHasACount, TheTreeCountIsMost, TheTreeCountIsOne, TreeCountsAdd};
+ghost use Rattle.bk_catalogue.specs.TreeLaws.{ALegalWordIsOne, AtLeastAdds, EachPartOfTheTreeHasACount};
+ghost use Rattle.bk_catalogue.specs.TreeLaws.{TheTreeCountIsMost, TheTreeCountIsOne, TreeCountsAdd};
 ghost use Rattle.bk_catalogue.specs.ClosingBound.{TheClosingBoundIsMost};
 ghost use Rattle.bk_catalogue.specs.VerticalCut.{TheLineBoundIsMost};
 ghost use Rattle.bk_catalogue.specs.WordBounds.{ClosingsAreHung, LinesAreHung, SinglesAreHung};
 ghost use Rattle.bk_catalogue.specs.Once.{EachSimpleTilingIsListedOnce};
-ghost use Rattle.bk_catalogue.specs.Cuts.{EvenSquaresAreBarren, OneSegmentIsBarren, OneUnderOneIsBarren, ShorterFirstIsBarren};
+ghost use Rattle.bk_catalogue.specs.Cuts.{EvenSquaresAreBarren, OneSegmentIsBarren, OneUnderOneIsBarren};
+ghost use Rattle.bk_catalogue.specs.Cuts.{ShorterFirstIsBarren};
 ghost use Rattle.bk_catalogue.specs.BoundCuts.{TooManyLinesIsBarren, TooManySinglesIsBarren, TooManyToCloseIsBarren};
-ghost use Rattle.bk_catalogue.specs.Corners.{CornersAreNoLonger};
+ghost use Rattle.bk_catalogue.specs.CanonicalCorners.{CornersAreNoLonger};
 
 mod lines;
 mod singles;
@@ -40,7 +42,7 @@ pub fn tree_counts_add()
     ensures { TreeCountsAdd }
 {}
 
-/// And so do numbers of words of the tree.
+/// Numbers of words of the tree add up.
 pub fn at_least_adds()
     ensures { AtLeastAdds }
 {}
@@ -124,7 +126,8 @@ pub fn too_many_lines_is_barren()
     ensures { TooManyLinesIsBarren }
 {}
 
-/// No square that comes to the top left corner in a lying image of a canonical tiling is longer than its top left square.
+/// No square that comes to the top left corner in a lying image of a canonical tiling is longer than its top left
+/// square.
 pub fn corners_are_no_longer()
     ensures { CornersAreNoLonger }
 {}

@@ -1,4 +1,5 @@
-//! How many squares are still to hang at least, by the vertical lines that run from the top between squares of the first move.
+//! How many squares are still to hang at least, by the vertical lines that run from the top between squares of the
+//! first move.
 
 ghost use Rattle.std.specs.List.{list_any};
 ghost use Rattle.std.specs.Prelude.{cond, drop, length, sum, take, ◌||◌, ◌+◌, ◌≡◌, ◌≤◌};
@@ -16,10 +17,10 @@ fn on_line(lines: &[bool], square: u8) -> bool
     }
 }
 
-/// The closing bound, where a segment that a line bounds or ended on has one closing more: such a line ends on a segment that
-/// a later move closes. It takes the signs between the open segments, how many squares each segment has, the numbers of these
-/// squares, all from left to right, and of each square whether its left edge lies on a line. There is one segment more than
-/// signs. (Own.)
+/// The closing bound, where a segment that a line bounds or ended on has one closing more: such a line ends on a
+/// segment that a later move closes. It takes the signs between the open segments, how many squares each segment has,
+/// the numbers of these squares, all from left to right, and of each square whether its left edge lies on a line. There
+/// is one segment more than signs.
 pub fn line_bound(signs: &[Sign], sizes: &[u8], ends: &[u8], lines: &[bool]) -> usize
     requires long { length sizes.now ≡ length signs.now + 1 }
     requires enough { sum sizes.now ≤ length ends.now }
@@ -40,8 +41,8 @@ pub fn line_bound(signs: &[Sign], sizes: &[u8], ends: &[u8], lines: &[bool]) -> 
     most.max(aboves + line_closing(ends, start, sizes[signs.len()], 0, lines))
 }
 
-// One where a line bounds the segment of so many of the squares from a place on, in front of a segment of as many as is said
-// next, or ended on it.
+// One where a line bounds the segment of so many of the squares from a place on, in front of a segment of as many as is
+// said next, or ended on it.
 fn line_closing(ends: &[u8], start: usize, size: u8, next: u8, lines: &[bool]) -> usize
     requires { start + size + next ≤ length ends.now }
     ensures few { result ≤ 1 }
@@ -61,7 +62,8 @@ fn is_line_in(segment: &[u8], lines: &[bool]) -> bool
     segment.iter().any(|square| on_line(lines, *square))
 }
 
-/// Whether the left edge of the segment of these squares, by their numbers from 1, lies on a line, where the list says it of all squares. (Own.)
+/// Whether the left edge of the segment of these squares, by their numbers from 1, lies on a line, where the list says
+/// it of all squares.
 pub fn begins_on_line(segment: &[u8], lines: &[bool]) -> bool
     ensures { result ≡ begins_on_line lines.now segment.now }
 {

@@ -6,8 +6,9 @@ ghost use Rattle.bk_catalogue.specs.SingleValleys.{single_valley, single_valleys
 
 use bk_word::Sign;
 
-/// How many valleys have just one square: the signs between the open segments, and how many squares each segment has, from
-/// left to right. There is one segment more than signs. A move that closes such a valley hangs at least two squares. (Own.)
+/// How many valleys have just one square: the signs between the open segments, and how many squares each segment has,
+/// from left to right. There is one segment more than signs. A move that closes such a valley hangs at least two
+/// squares.
 pub fn single_valleys(signs: &[Sign], sizes: &[u8]) -> usize
     requires { length sizes.now ≡ length signs.now + 1 }
     ensures { result ≡ single_valleys signs.now sizes.now }

@@ -1,7 +1,8 @@
 //! The closing bound of signs, counted sign by sign.
 #![tactic(auto)]
 
-ghost use Rattle.std.specs.Prelude.{IfNone, IfSome, List, [], count_by, drop, length, take, ◌++◌, ◌+◌, ◌<◌, ◌^◌, ◌∷◌, ◌≡◌, ◌≤◌};
+ghost use Rattle.std.specs.Prelude.{IfNone, IfSome, List, [], count_by, drop, length, take, ◌++◌, ◌+◌, ◌<◌, ◌^◌, ◌∷◌};
+ghost use Rattle.std.specs.Prelude.{◌≡◌, ◌≤◌};
 ghost use Rattle.bk_word.specs.Outline.{valley_place};
 ghost use Rattle.bk_word.specs.Signs.{is_under};
 ghost use Rattle.bk_word.specs.declared.Sign.{Sign as SeenSign};
@@ -39,7 +40,7 @@ fn tally_with(tally: Tally, sign: Sign) -> Tally
     }
 }
 
-/// The closing bound of signs: how many of the segments between which they stand must be closed at least. (Own.)
+/// The closing bound of signs: how many of the segments between which they stand must be closed at least.
 pub fn closing_bound(signs: &[Sign]) -> usize
     requires { length signs.now < 1000 }
     ensures { result ≡ bound_of signs.now }
@@ -75,8 +76,8 @@ fn tally_of(signs: &[Sign], room: usize) -> Option<Tally>
     Some(tally)
 }
 
-/// How many of the signs bring the closing bound of those before and these above the room that there is; `None` exactly where all of them
-/// don't. It looks no further than to the first that does. (Own.)
+/// How many of the signs bring the closing bound of those before and these above the room that there is; `None` exactly
+/// where all of them don't. It looks no further than to the first that does.
 pub fn first_over(before: &[Sign], signs: &[Sign], room: usize) -> Option<usize>
     requires { room < 1000 }
     ensures over { IfSome result (λ kept. room < bound_of (before.now ++ take kept signs.now)) }
@@ -95,7 +96,7 @@ pub fn first_over(before: &[Sign], signs: &[Sign], room: usize) -> Option<usize>
     None
 }
 
-/// The place of the first sign above, or how many signs there are: where the leftmost valley stands. (Own.)
+/// The place of the first sign above, or how many signs there are: where the leftmost valley stands.
 pub fn first_above(signs: &[Sign]) -> usize
     ensures value { result ≡ valley_place signs.now }
     ensures within { result ≤ length signs.now }
@@ -109,7 +110,7 @@ pub fn first_above(signs: &[Sign]) -> usize
     signs.len()
 }
 
-/// How many signs are under behind the one at the place. (Own.)
+/// How many signs are under behind the one at the place.
 pub fn unders_behind(signs: &[Sign], place: usize) -> usize
     requires { place ≤ length signs.now }
     ensures { result ≡ count_by is_under (drop (place + 1) signs.now) }

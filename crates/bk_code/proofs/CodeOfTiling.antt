@@ -4,13 +4,13 @@ use Rattle.std.proofs.lemmas.List.{length-map}
 use Rattle.std.specs.List.{AllByRecursion, onto_first}
 use Rattle.bk_tiling.proofs.GroupCount.{some_group}
 use Rattle.bk_tiling.specs.CodeOrder.{stands_beside}
-use Rattle.bk_tiling.specs.Kept.{IsKept, IsSide}
+use Rattle.bk_tiling.specs.KeptTiling.{IsKept, IsSide}
 use Rattle.bk_tiling.specs.SquareGroups.{square_groups}
 use Rattle.bk_tiling.specs.Tiling.{IsTiling, Tiling}
 use Rattle.bk_tiling.specs.declared.Square.{Square}
 use Rattle.bk_code.proofs.FlatList.{flat_is_sides}
 use Rattle.bk_code.specs.Code.{Code, code_of}
-use Rattle.bk_code.specs.Kept.{IsKeptCode, IsSideGroup}
+use Rattle.bk_code.specs.KeptCode.{IsKeptCode, IsSideGroup}
 
 -- a tiling's code has a group
 pub code_some : (t : Tiling) → IsTiling t → 0 < length (code_of t)

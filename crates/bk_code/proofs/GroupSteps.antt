@@ -4,7 +4,7 @@ use Rattle.std.proofs.Common.{Bool, List, [], ap, arith, cond, drop, false, get_
 use Rattle.std.specs.Prelude.{not}
 use Rattle.std.proofs.lemmas.List.{drop_more, length-map, length-take-le, take-append-drop, take_more}
 use Rattle.bk_tiling.specs.CodeOrder.{begins_group, stands_beside}
-use Rattle.bk_tiling.specs.Kept.{IsKept}
+use Rattle.bk_tiling.specs.KeptTiling.{IsKept}
 use Rattle.bk_tiling.specs.SquareGroups.{square_groups}
 use Rattle.bk_tiling.specs.Tiling.{Tiling}
 use Rattle.bk_tiling.specs.declared.Square.{Square}

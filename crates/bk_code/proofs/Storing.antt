@@ -1,14 +1,16 @@
 -- Groups cut from one list of sides at the places where they begin.
 use Rattle.std.specs.List.{AllByRecursion}
-use Rattle.std.proofs.Common.{List, [], ap, arith, drop, get_or, length, refl, subst, suc, sym, take, zero, ℕ, ◌++◌, ◌+◌, ◌-◌, ◌<◌, ◌∙◌, ◌∷◌, ◌≡◌, ◌≤◌}
+use Rattle.std.proofs.Common.{List, [], ap, arith, drop, get_or, length, refl, subst, suc, sym, zero, ℕ, ◌++◌, ◌+◌, ◌-◌, ◌<◌, ◌∙◌, ◌∷◌, ◌≡◌, ◌≤◌}
 use Rattle.std.specs.Prelude.{slice_range}
 use Rattle.std.proofs.lemmas.List.{append-nil, append_assoc, drop-append-le, drop-drop, drop_at, length-append, length-drop, take-append-drop}
-use Rattle.std.proofs.lemmas.List.{take-append-le, take_all}
+use Rattle.std.proofs.lemmas.List.{take_all}
 use Rattle.bk_laws.proofs.AllOfLists.{all_append}
-use Rattle.bk_tiling.specs.Kept.{IsSide}
+use Rattle.bk_laws.proofs.ListItems.{get_or-cons_one_more}
+use Rattle.bk_laws.proofs.ListParts.{slice_range-append_left}
+use Rattle.bk_tiling.specs.KeptTiling.{IsSide}
 use Rattle.bk_code.specs.Code.{Code, flat, with_side}
-use Rattle.bk_code.specs.Kept.{IsKeptCode, IsSideGroup}
-use Rattle.bk_code.specs.Stored.{AreStarts, IsStoredCode, Rise, groups_at, groups_from}
+use Rattle.bk_code.specs.KeptCode.{IsKeptCode, IsSideGroup}
+use Rattle.bk_code.specs.StoredCode.{AreStarts, IsStoredCode, Rise, groups_at, groups_from}
 
 -- as many places as rise between two numbers lie between them
 pub rise_below : (from : ℕ) (starts : List ℕ) (end : ℕ) → Rise from starts end → from + length starts < end
@@ -20,22 +22,17 @@ pub starts_below : (starts : List ℕ) (end : ℕ) → AreStarts starts end → 
 starts_below [] end h = omega arith
 starts_below (start ∷ starts) end h = omega (arith, rise_below start starts end h.1)
 
--- a part that ends within the first list
-range_left : (xs ys : List ℕ) (a b : ℕ) → a ≤ b → b ≤ length xs → slice_range (xs ++ ys) a b ≡ slice_range xs a b
-range_left xs ys a b l m =
-    ap (take (b - a)) (drop-append-le a xs ys (omega arith)) ∙ take-append-le (b - a) (drop a xs) ys (omega (arith, length-drop a xs))
-
 -- a further group
 from_more : (from : ℕ) (starts xs ys : List ℕ) → Rise from starts (length xs)
     → groups_from from (starts ++ length xs ∷ []) (xs ++ ys) ≡ groups_from from starts xs ++ ys ∷ []
 from_more from [] xs ys h =
-    let first : slice_range (xs ++ ys) from (length xs) ≡ drop from xs = range_left xs ys from (length xs) (omega arith) (omega arith)
+    let first : slice_range (xs ++ ys) from (length xs) ≡ drop from xs = slice_range-append_left xs ys from (length xs) (omega arith) (omega arith)
     ∙ take_all (length xs - from) (drop from xs) (omega (arith, length-drop from xs)) in
     let last : drop (length xs) (xs ++ ys) ≡ ys = drop_at xs ys (length xs) refl in
     λ i. first i ∷ last i ∷ []
 from_more from (start ∷ starts) xs ys h =
     let first : slice_range (xs ++ ys) from start ≡ slice_range xs from start =
-    range_left xs ys from start (omega (arith, h.0)) (omega (arith, rise_below start starts (length xs) h.1)) in
+    slice_range-append_left xs ys from start (omega (arith, h.0)) (omega (arith, rise_below start starts (length xs) h.1)) in
     let rest : groups_from start (starts ++ length xs ∷ []) (xs ++ ys) ≡ groups_from start starts xs ++ ys ∷ [] = from_more start starts xs ys h.1 in
     λ i. first i ∷ rest i
 
@@ -51,7 +48,7 @@ from_side from [] xs s h = ap (λ (l : List ℕ). l ∷ []) (drop-append-le from
 from_side from (start ∷ starts) xs s h = shape starts h.1 (from_side start starts xs s h.1)
   where
     first : slice_range (xs ++ s ∷ []) from start ≡ slice_range xs from start
-    first = range_left xs (s ∷ []) from start (omega (arith, h.0)) (omega (arith, rise_below start starts (length xs) h.1))
+    first = slice_range-append_left xs (s ∷ []) from start (omega (arith, h.0)) (omega (arith, rise_below start starts (length xs) h.1))
 
     shape : (starts : List ℕ) → Rise start starts (length xs) → groups_from start starts (xs ++ s ∷ []) ≡ with_side (groups_from start starts xs) s
         → groups_from from (start ∷ starts) (xs ++ s ∷ []) ≡ with_side (groups_from from (start ∷ starts) xs) s
@@ -176,17 +173,12 @@ from_last : (from : ℕ) (starts xs : List ℕ) → Rise from starts (length xs)
 from_last from [] xs h = take_all (length xs - from) (drop from xs) (omega (arith, length-drop from xs))
 from_last from (start ∷ starts) xs h = from_last start starts xs h.1
 
-after : (start : ℕ) (starts : List ℕ) (g : ℕ) → get_or (start ∷ starts) (g + 1) 0 ≡ get_or starts g 0
-after start starts g = ap (λ n. get_or (start ∷ starts) n 0) next
-  where
-    next : g + 1 ≡ suc g
-    next = omega arith
-
 -- a group but the last runs from its start to the next one
 pub group_at : (starts xs : List ℕ) (g : ℕ) → AreStarts starts (length xs) → g + 1 < length starts
     → slice_range xs (get_or starts g 0) (get_or starts (g + 1) 0) ≡ get_or (groups_at starts xs) g []
 group_at [] xs g h l = absurd (omega arith)
-group_at (start ∷ starts) xs g h l = ap (slice_range xs (get_or (start ∷ starts) g 0)) (after start starts g) ∙ from_at start starts xs g h.1 (omega arith)
+group_at (start ∷ starts) xs g h l =
+    ap (slice_range xs (get_or (start ∷ starts) g 0)) (get_or-cons_one_more start starts g) ∙ from_at start starts xs g h.1 (omega arith)
 
 -- the last group runs from its start to the end
 pub group_last : (starts xs : List ℕ) (g : ℕ) → AreStarts starts (length xs) → g + 1 ≡ length starts
@@ -214,7 +206,7 @@ pub starts_at : (starts : List ℕ) (end g : ℕ) → AreStarts starts end → g
 starts_at [] end g h l = absurd (omega arith)
 starts_at (start ∷ starts) end g h l =
     let both : (get_or (start ∷ starts) g 0 < get_or starts g 0) × (get_or starts g 0 < end) = rise_at start starts end g h.1 (omega arith) in
-    let next : get_or (start ∷ starts) (g + 1) 0 ≡ get_or starts g 0 = after start starts g in
+    let next : get_or (start ∷ starts) (g + 1) 0 ≡ get_or starts g 0 = get_or-cons_one_more start starts g in
     (omega (arith, both.0), omega (arith, both.1))
 
 -- each start comes before the end

@@ -1,6 +1,6 @@
 -- What the crate says.
 pub mod Code
 pub mod CodeLaws
-pub mod Kept
+pub mod KeptCode
 -- How its code keeps it.
-pub mod Stored
+pub mod StoredCode

@@ -3,11 +3,11 @@
 
 ghost use Rattle.std.specs.List.{AllByRecursion};
 ghost use Rattle.std.specs.Prelude.{[], length, slice_index_or, slice_range, ◌+◌, ◌++◌, ◌<◌, ◌≡◌, ◌≤◌, ◌∷◌};
-ghost use Rattle.bk_tiling.specs.Kept.{IsSide};
+ghost use Rattle.bk_tiling.specs.KeptTiling.{IsSide};
 ghost use Rattle.bk_code.specs.Code.{code_cmp, code_of, flat, with_side};
 ghost use Rattle.bk_code.specs.CodeLaws.{AFlatListFixesATiling, CodesAreOrdered};
-ghost use Rattle.bk_code.specs.Kept.{IsKeptCode};
-ghost use Rattle.bk_code.specs.Stored.{AreStarts, groups_at};
+ghost use Rattle.bk_code.specs.KeptCode.{IsKeptCode};
+ghost use Rattle.bk_code.specs.StoredCode.{AreStarts, groups_at};
 
 use arrayvec::ArrayVec;
 use bk_tiling::{MOST_SQUARES, Tiling};
@@ -25,7 +25,7 @@ pub struct Code {
 
 impl Model for Code {
     ghost use Rattle.bk_code.specs.Code.{Code as Groups};
-    ghost use Rattle.bk_code.specs.Stored.{IsStoredCode, groups_at};
+    ghost use Rattle.bk_code.specs.StoredCode.{IsStoredCode, groups_at};
 
     ghost Value = { Groups };
 
@@ -72,7 +72,7 @@ impl Code {
     pub fn add_group(&mut self, sides: &[u64])
         requires some { 0 < length sides.now }
         requires sides { AllByRecursion IsSide sides.now }
-        requires room { length (flat self.old) + length sides.now ≤ 200 }
+        requires room { length (flat self.old) + length sides.now ≤ MOST_SQUARES }
         ensures group { self.new ≡ self.old ++ sides.now ∷ [] }
         ensures flat { flat self.new ≡ flat self.old ++ sides.now }
     {
@@ -84,7 +84,7 @@ impl Code {
     /// Appends a group of one side.
     pub fn begin_group(&mut self, first: u64)
         requires side { IsSide first }
-        requires room { length (flat self.old) < 200 }
+        requires room { length (flat self.old) < MOST_SQUARES }
         ensures group { self.new ≡ self.old ++ (first ∷ []) ∷ [] }
         ensures flat { flat self.new ≡ flat self.old ++ first ∷ [] }
     {
@@ -96,7 +96,7 @@ impl Code {
     pub fn push_side(&mut self, side: u64)
         requires some { 0 < length self.old }
         requires side { IsSide side }
-        requires room { length (flat self.old) < 200 }
+        requires room { length (flat self.old) < MOST_SQUARES }
         ensures group { self.new ≡ with_side self.old side }
         ensures flat { flat self.new ≡ flat self.old ++ side ∷ [] }
     {
@@ -147,7 +147,7 @@ fn bounds(starts: &[usize], sides: &[u64], g: usize) -> (usize, usize)
 
 // Appends sides, for which there is room.
 fn append(sides: &mut ArrayVec<u64, MOST_SQUARES>, more: &[u64])
-    requires { length sides.old.items + length more.now ≤ 200 }
+    requires { length sides.old.items + length more.now ≤ MOST_SQUARES }
     ensures { sides.new.items ≡ sides.old.items ++ more.now }
 {
     if sides.try_extend_from_slice(more).is_err() {

@@ -1,4 +1,5 @@
-//! One call for each answer: where the write of a number fails, the answers before it stand written, and no part of more.
+//! One call for each answer: where the write of a number fails, the answers before it stand written, and no part of
+//! more.
 
 use crate::command_runs::*;
 use arrayvec::ArrayVec;
@@ -178,7 +179,8 @@ fn each_line_of_a_list_is_one_call(rt: HostRuntime) {
     }
 }
 
-// Whether a command refuses each of two squares behind 16,384 by one call: the second call fails, and the first line stands.
+// Whether a command refuses each of two squares behind 16,384 by one call: the second call fails, and the first line
+// stands.
 fn refuses_by_one_call(alloc: Global, command: &str) -> Result<bool, AllocError> {
     let input = repeated(alloc, b"[1]\n", 16_386)?;
     let first = b"line 16385 no more\n";

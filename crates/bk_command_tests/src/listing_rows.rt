@@ -200,8 +200,8 @@ fn order_ten(rt: HostRuntime) -> Result<(), Fail> {
     Ok(())
 }
 
-// The listing of order 11 in three parts, each after the last word of the part before: two of eight entries, and what is left.
-// Beside each stands how its last line begins.
+// The listing of order 11 in three parts, each after the last word of the part before: two of eight entries, and what
+// is left. Beside each stands how its last line begins.
 fn parts_of_eleven() -> &'static [(&'static str, &'static str)] {
     &[
         ("list --order 11 --limit 8", "limit order 11 listed 8\n"),

@@ -8,6 +8,7 @@ use Rattle.std.proofs.lemmas.Bool.{lt-ltb, ne_eqb, or_from, or_parts}
 use Rattle.std.proofs.lemmas.Bool.Decides.{nat_tests}
 use Rattle.std.proofs.lemmas.List.{get_or-set_other, get_or-set_same}
 use Rattle.std.proofs.lemmas.List.Folds.{list_any_more}
+use Rattle.bk_laws.proofs.NumberOrder.{lt_or_eq_or_gt}
 use Rattle.bk_tiling.specs.Point.{is_at_edge, is_at_side, is_corner}
 use Rattle.bk_tiling.specs.declared.Square.{Square}
 use Rattle.bk_draw.specs.Drawing.{drawn, is_across, is_along}
@@ -98,14 +99,11 @@ pub at_other : (q : Square) (y from to : ℕ) (before after : List ℕ) → IsDr
 at_other q y from to before after drawn x below (inl h) = drawn x below ∙ cond-false _ _ _ (and_left _ _ (lt-leb from x h))
 at_other q y from to before after drawn x below (inr h) = drawn x below ∙ cond-false _ _ _ (and_right _ _ (le-ltb x to h))
 
-three : (x k : ℕ) → (x < k) ⊎ ((x ≡ k) ⊎ (k < x))
-three x k = grind arith
-
 -- one more point was drawn
 pub between-more : (q : Square) (y from k : ℕ) (before now : List ℕ) (v : ℕ) → IsDrawnBetween q y from k before now → from ≤ k → k < length before
     → length now ≡ length before
     → v ≡ seen (slice_index now k) (mark_of q k y) → IsDrawnBetween q y from (k + 1) before (set now k v)
-between-more q y from k before now v drawn order within same is x below = cases (three x k)
+between-more q y from k before now v drawn order within same is x below = cases (lt_or_eq_or_gt x k)
   where
     unchanged : (b : Bool) → nat_lt x k ≡ b → nat_lt x (k + 1) ≡ b
         → (if nat_le from x && nat_lt x k then seen (slice_index before x) (mark_of q x y) else slice_index before x)
@@ -138,7 +136,7 @@ drawn_over-more squares k d y before after below same drawn over x within =
 
 -- all points from the left to the right side were drawn: so the square was
 pub over_from_edge : (q : Square) (y : ℕ) (before after : List ℕ) → IsDrawnBetween q y q.x (q.x + q.s + 1) before after → IsDrawnOver q y before after
-over_from_edge q y before after drawn x below = cases (three x q.x) (three x (q.x + q.s))
+over_from_edge q y before after drawn x below = cases (lt_or_eq_or_gt x q.x) (lt_or_eq_or_gt x (q.x + q.s))
   where
     outside : (x < q.x) ⊎ (q.x + q.s < x) → (x < q.x) ⊎ (q.x + q.s + 1 ≤ x) → slice_index after x ≡ seen (slice_index before x) (mark_of q x y)
     outside a b = at_other q y q.x (q.x + q.s + 1) before after drawn x below b
@@ -159,7 +157,7 @@ over_from_edge q y before after drawn x below = cases (three x q.x) (three x (q.
 -- a square that the row meets between its edges is drawn by the points of its two sides
 pub over_from_sides : (q : Square) (y : ℕ) (before mid after : List ℕ) → is_along q y ≡ true → is_at_edge q y ≡ false → length mid ≡ length before
     → IsDrawnBetween q y q.x (q.x + 1) before mid → IsDrawnBetween q y (q.x + q.s) (q.x + q.s + 1) mid after → IsDrawnOver q y before after
-over_from_sides q y before mid after along edge same left right x below = cases (three x q.x) (three x (q.x + q.s))
+over_from_sides q y before mid after along edge same left right x below = cases (lt_or_eq_or_gt x q.x) (lt_or_eq_or_gt x (q.x + q.s))
   where
     some : 0 < q.s
     some =

@@ -13,9 +13,9 @@ use bk_tiling::{Square, Tiling};
 /// No rectangle that is wider or higher is drawn.
 pub const LARGEST_DRAWN: u64 = 400;
 
-/// Leaves in `row` one row of the drawing of a tiling, whose width is at most 400: a character for each point of the grid
-/// at level `y`, from left to right, and a line feed. A point is `+` at a corner of a square, else `-` on an upper or lower
-/// side, else `|` on a left or right side, else a space. This drawing is our own.
+/// Leaves in `row` one row of the drawing of a tiling, whose width is at most 400: a character for each point of the
+/// grid at level `y`, from left to right, and a line feed. A point is `+` at a corner of a square, else `-` on an upper
+/// or lower side, else `|` on a left or right side, else a space. This drawing is our own.
 pub fn draw_row(tiling: &Tiling, y: u64, row: &mut ArrayVec<u8, 402>)
     requires width { tiling.now.width ≤ 400 }
     ensures { row.new.items ≡ drawing_row tiling.now y ++ 10 ∷ [] }

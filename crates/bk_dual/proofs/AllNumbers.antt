@@ -1,11 +1,10 @@
 -- The numbers of the squares in the order of the dual diagram: each from 1 to the order stands there once.
 use Rattle.std.specs.List.{AllByRecursion, position_or_len}
 use Rattle.std.specs.Prelude.{All, count_by}
-use Rattle.std.proofs.Common.{Bool, List, [], ap, arith, cond, false, get_or, inl, inr, length, map, refl, slice_index_or, suc, sym, take, true}
-use Rattle.std.proofs.Common.{zero, ℕ, ◌+◌, ◌<◌, ◌==◌, ◌∙◌, ◌∷◌, ◌≡◌, ◌≤◌, ◌⊎◌}
-use Rattle.std.proofs.lemmas.Bool.Decides.{nat_tests}
+use Rattle.std.proofs.Common.{List, [], ap, arith, get_or, inl, inr, length, map, refl, slice_index_or, suc, sym, take}
+use Rattle.std.proofs.Common.{zero, ℕ, ◌+◌, ◌<◌, ◌==◌, ◌∙◌, ◌∷◌, ◌≡◌, ◌≤◌}
 use Rattle.std.proofs.lemmas.List.Elements.{All-from_recursion}
-use Rattle.std.proofs.lemmas.List.Sums.{position_or_len_is, sum_by-cons}
+use Rattle.std.proofs.lemmas.List.Sums.{position_or_len_is}
 use Rattle.std.proofs.lemmas.List.{length-map, take_all}
 use Rattle.bk_tiling.proofs.OrderLaws.{in_code_order-count}
 use Rattle.bk_tiling.proofs.Places.{later_place}
@@ -14,56 +13,10 @@ use Rattle.bk_tiling.specs.Tiling.{IsOneOf, Tiling, order}
 use Rattle.bk_tiling.specs.declared.Square.{Square}
 use Rattle.bk_sym.specs.Image.{image, image_square}
 use Rattle.bk_sym.specs.declared.Turn.TheVariants.{Swap}
-use Rattle.bk_laws.proofs.Counts.{count_by-map}
+use Rattle.bk_laws.proofs.Counts.{count_by-eq_in_counting_list, count_by-map}
 use Rattle.bk_dual.proofs.Numbers.{earlier_stands_apart, first_within, from_image, stands_at, stands_itself}
 use Rattle.bk_dual.specs.Dual.{dual_order, number_at}
 use Rattle.bk_dual.specs.DualWires.{exchanged}
-
-count_first : (n x : ℕ) (xs : List ℕ) → count_by (λ m. m == n) (x ∷ xs) ≡ cond {A = ℕ} (x == n) 1 0 + count_by (λ m. m == n) xs
-count_first n x xs = sum_by-cons (λ (m : ℕ). cond {A = ℕ} (m == n) 1 0) x xs
-
--- in a list that counts on from a number
-count_below : (n from : ℕ) (xs : List ℕ) → ((k : ℕ) → k < length xs → get_or xs k 0 ≡ from + k) → n < from → count_by (λ m. m == n) xs ≡ 0
-count_below n from [] all less = refl
-count_below n from (x ∷ xs) all less = omega (
-  arith,
-  count_first n x xs,
-  ap (λ (b : Bool). cond {A = ℕ} b 1 0) (apart x n (omega (arith, all 0 (omega arith), less))),
-  count_below n (from + 1) xs (λ k h. omega (arith, all (suc k) (omega (arith, h)))) (omega (arith, less)),
-)
-  where
-    apart : (a b : ℕ) → b < a → (a == b) ≡ false
-    apart a b h = grind (arith, nat_tests)
-
-count_once : (n from : ℕ) (xs : List ℕ) → ((k : ℕ) → k < length xs → get_or xs k 0 ≡ from + k) → from ≤ n → n < from + length xs → count_by (λ m. m == n) xs ≡ 1
-count_once n from [] all low high = absurd (omega (arith, low, high))
-count_once n from (x ∷ xs) all low high = by (least from n low) (λ h. count_once n (from + 1) xs next h (omega (arith, high)))
-  where
-    least : (a b : ℕ) → a ≤ b → (a ≡ b) ⊎ (a + 1 ≤ b)
-    least a b h = grind arith
-
-    same : (a b : ℕ) → a ≡ b → (a == b) ≡ true
-    same a b e = grind (arith, nat_tests)
-
-    apart : (a b : ℕ) → a < b → (a == b) ≡ false
-    apart a b h = grind (arith, nat_tests)
-
-    next : (k : ℕ) → k < length xs → get_or xs k 0 ≡ from + 1 + k
-    next k h = omega (arith, all (suc k) (omega (arith, h)))
-
-    by : (from ≡ n) ⊎ (from + 1 ≤ n) → (from + 1 ≤ n → count_by (λ m. m == n) xs ≡ 1) → count_by (λ m. m == n) (x ∷ xs) ≡ 1
-    by (inl e) rest = omega (
-      arith,
-      count_first n x xs,
-      ap (λ (b : Bool). cond {A = ℕ} b 1 0) (same x n (omega (arith, all 0 (omega arith), e))),
-      count_below n (from + 1) xs next (omega (arith, e)),
-    )
-    by (inr h) rest = omega (
-      arith,
-      count_first n x xs,
-      ap (λ (b : Bool). cond {A = ℕ} b 1 0) (apart x n (omega (arith, all 0 (omega arith), h))),
-      rest h,
-    )
 
 -- the number of a square in code order is one more than its place
 place_is : (squares : List Square) → InCodeOrder squares → (k : ℕ) (d : Square) → k < length squares
@@ -96,7 +49,7 @@ module _ (t : Tiling) (ordered : InCodeOrder t.squares) where
       ∙ in_code_order-count (λ q. number_at t q.y q.x == n) (map (image_square Swap t.width t.height) t.squares)
       ∙ count_by-map (λ (q : Square). number_at t q.y q.x == n) (image_square Swap t.width t.height) t.squares
       ∙ sym (count_by-map (λ m. m == n) (λ (q : Square). number_at t q.x q.y) t.squares)
-      ∙ count_once n 1 (map (λ q. number_at t q.x q.y) t.squares) counts_on (omega (arith, some))
+      ∙ count_by-eq_in_counting_list n 1 (map (λ q. number_at t q.x q.y) t.squares) counts_on (omega (arith, some))
       (omega (arith, most, length-map t.squares (λ (q : Square). number_at t q.x q.y)))
 
   -- and none besides

@@ -1,21 +1,13 @@
 -- At the left side and the top of a tiling no square ends, and where four squares have a corner one begins.
-use Rattle.std.proofs.Common.{Bool, arith, count_by, false, refl, suc, true, zero, ℕ, ◌&&◌, ◌-◌, ◌<◌, ◌≡◌}
+use Rattle.std.proofs.Common.{Bool, arith, count_by, suc, true, zero, ℕ, ◌&&◌, ◌-◌, ◌<◌, ◌≡◌}
 use Rattle.std.proofs.lemmas.Bool.Decides.{nat_tests}
+use Rattle.bk_laws.proofs.Truth.{and-left_true, and-right_true}
 use Rattle.bk_tiling.proofs.Cells.{none_counted}
 use Rattle.bk_tiling.proofs.TilingLaws.{cell_most, side_of}
 use Rattle.bk_tiling.specs.Point.{is_corner}
 use Rattle.bk_tiling.specs.Tiling.{IsTiling, Tiling}
 use Rattle.bk_tiling.specs.declared.Square.{Square}
 use Rattle.bk_dual.proofs.CornerCounts.{among, between, corners, on_bottom, on_left, on_right, on_top, over_above, over_both, over_here, over_left, top_left}
-
--- at the left side of the tiling no square ends, and none lies over it
-and_left_true : (a b : Bool) → (a && b) ≡ true → a ≡ true
-and_left_true true b e = refl
-and_left_true false b e = e
-
-and_right_true : (a b : Bool) → (a && b) ≡ true → b ≡ true
-and_right_true true b e = e
-and_right_true false b e = absurd (cc)
 
 no_right : (q : Square) → 0 < q.s → on_right 0 q ≡ true → ⊥
 no_right q some e = grind (arith, nat_tests)
@@ -32,20 +24,20 @@ no_among q e = grind (arith, nat_tests)
 module _ (t : Tiling) (tiling : IsTiling t) (other : Square → Bool) where
   -- no right side is at column 0
   pub none_right : count_by (λ q. on_right 0 q && other q) t.squares ≡ 0
-  none_right = none_counted (λ q. on_right 0 q && other q) t.squares (λ q h e. no_right q (side_of t tiling q h) (and_left_true (on_right 0 q) (other q) e))
+  none_right = none_counted (λ q. on_right 0 q && other q) t.squares (λ q h e. no_right q (side_of t tiling q h) (and-left_true (on_right 0 q) (other q) e))
 
   -- and no inside
   pub none_between : count_by (λ q. between 0 q && other q) t.squares ≡ 0
-  none_between = none_counted (λ q. between 0 q && other q) t.squares (λ q h e. no_between q (and_left_true (between 0 q) (other q) e))
+  none_between = none_counted (λ q. between 0 q && other q) t.squares (λ q h e. no_between q (and-left_true (between 0 q) (other q) e))
 
   -- no lower side is at level 0
   pub none_bottom : count_by (λ q. other q && on_bottom 0 q) t.squares ≡ 0
   none_bottom = none_counted (λ q. other q && on_bottom 0 q) t.squares
-      (λ q h e. no_bottom q (side_of t tiling q h) (and_right_true (other q) (on_bottom 0 q) e))
+      (λ q h e. no_bottom q (side_of t tiling q h) (and-right_true (other q) (on_bottom 0 q) e))
 
   -- and no inside
   pub none_among : count_by (λ q. other q && among 0 q) t.squares ≡ 0
-  none_among = none_counted (λ q. other q && among 0 q) t.squares (λ q h e. no_among q (and_right_true (other q) (among 0 q) e))
+  none_among = none_counted (λ q. other q && among 0 q) t.squares (λ q h e. no_among q (and-right_true (other q) (among 0 q) e))
 
 -- where four squares have a corner, one has its top left corner
 pub crossing_begins : (t : Tiling) → IsTiling t → (x y : ℕ) → count_by (is_corner x y) t.squares ≡ 4 → count_by (top_left x y) t.squares ≡ 1

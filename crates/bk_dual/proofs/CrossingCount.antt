@@ -1,8 +1,10 @@
 -- Each crossing of a tiling is the top left corner of one square.
 use Rattle.std.specs.List.{range_with_len}
-use Rattle.std.proofs.Common.{Bool, List, [], ap, arith, cond, count_by, false, inl, inr, refl, sum_by, true, ℕ, ◌+◌, ◌==◌, ◌∙◌, ◌∷◌, ◌≡◌, ◌≢◌, ◌≤◌}
+use Rattle.std.proofs.Common.{Bool, List, [], ap, arith, cond, count_by, false, inl, inr, refl, sum_by, true, ℕ, ◌+◌, ◌∙◌, ◌∷◌, ◌≡◌, ◌≢◌, ◌≤◌}
 use Rattle.std.proofs.lemmas.Bool.Decides.{nat_tests}
 use Rattle.std.proofs.lemmas.List.Sums.{sum_by-cons}
+use Rattle.bk_laws.proofs.NumberTests.{eq_four-from_test}
+use Rattle.bk_laws.proofs.Sums.{sum_by-add, sum_by-same_terms, sum_by-zero_terms, sum_by_range-one_counts}
 use Rattle.bk_tiling.proofs.Cells.{count-cons}
 use Rattle.bk_tiling.proofs.TilingLaws.{within_of}
 use Rattle.bk_tiling.specs.Point.{is_corner}
@@ -11,7 +13,6 @@ use Rattle.bk_tiling.specs.declared.Square.{Square}
 use Rattle.bk_dual.proofs.CrossingBegins.{crossing_begins}
 use Rattle.bk_dual.proofs.SquareCorners.{own_corner}
 use Rattle.bk_dual.proofs.CornerCounts.{top_left}
-use Rattle.bk_dual.proofs.PointSums.{one_counts, sum_none, sum_plus, sum_same}
 use Rattle.bk_dual.specs.Dual.{crossings, is_crossing}
 
 elsewhere_x : (x y : ℕ) (q : Square) → x ≢ q.x → top_left x y q ≡ false
@@ -45,24 +46,25 @@ module _ (width height : ℕ) (test : ℕ → ℕ → Bool) where
   grid f = sum_by (λ y. row f y) (range_with_len 0 (height + 1))
 
   grid_same : (f g : ℕ → ℕ → ℕ) → ((x y : ℕ) → f x y ≡ g x y) → grid f ≡ grid g
-  grid_same f g each = sum_same (λ y. row f y) (λ y. row g y) (range_with_len 0 (height + 1))
-      (λ y. sum_same (λ x. f x y) (λ x. g x y) (range_with_len 0 (width + 1)) (λ x. each x y))
+  grid_same f g each = sum_by-same_terms (λ y. row f y) (λ y. row g y) (range_with_len 0 (height + 1))
+      (λ y. sum_by-same_terms (λ x. f x y) (λ x. g x y) (range_with_len 0 (width + 1)) (λ x. each x y))
 
   grid_plus : (f g : ℕ → ℕ → ℕ) → grid (λ x y. f x y + g x y) ≡ grid f + grid g
   grid_plus f g =
-      sum_same (λ y. row (λ x y. f x y + g x y) y) (λ y. row f y + row g y) (range_with_len 0 (height + 1))
-      (λ y. sum_plus (λ x. f x y) (λ x. g x y) (range_with_len 0 (width + 1)))
-      ∙ sum_plus (λ y. row f y) (λ y. row g y) (range_with_len 0 (height + 1))
+      sum_by-same_terms (λ y. row (λ x y. f x y + g x y) y) (λ y. row f y + row g y) (range_with_len 0 (height + 1))
+      (λ y. sum_by-add (λ x. f x y) (λ x. g x y) (range_with_len 0 (width + 1)))
+      ∙ sum_by-add (λ y. row f y) (λ y. row g y) (range_with_len 0 (height + 1))
 
   grid_none : (f : ℕ → ℕ → ℕ) → ((x y : ℕ) → f x y ≡ 0) → grid f ≡ 0
-  grid_none f each = sum_none (λ y. row f y) (range_with_len 0 (height + 1)) (λ y. sum_none (λ x. f x y) (range_with_len 0 (width + 1)) (λ x. each x y))
+  grid_none f each =
+      sum_by-zero_terms (λ y. row f y) (range_with_len 0 (height + 1)) (λ y. sum_by-zero_terms (λ x. f x y) (range_with_len 0 (width + 1)) (λ x. each x y))
 
   grid_one : (q : Square) → q.x ≤ width → q.y ≤ height → grid (λ x y. if_passing (test x y) (cond (top_left x y q) 1 0)) ≡ cond {A = ℕ} (test q.x q.y) 1 0
   grid_one q wide low =
-      one_counts (λ y. row (λ x y. if_passing (test x y) (cond (top_left x y q) 1 0)) y) q.y 0 (height + 1) (omega arith) (omega arith)
-      (λ y h. sum_none (λ x. if_passing (test x y) (cond (top_left x y q) 1 0)) (range_with_len 0 (width + 1))
+      sum_by_range-one_counts (λ y. row (λ x y. if_passing (test x y) (cond (top_left x y q) 1 0)) y) q.y 0 (height + 1) (omega arith) (omega arith)
+      (λ y h. sum_by-zero_terms (λ x. if_passing (test x y) (cond (top_left x y q) 1 0)) (range_with_len 0 (width + 1))
       (λ x. passing_none (test x y) (top_left x y q) (elsewhere_y x y q h)))
-      ∙ one_counts (λ x. if_passing (test x q.y) (cond (top_left x q.y q) 1 0)) q.x 0 (width + 1) (omega arith) (omega arith)
+      ∙ sum_by_range-one_counts (λ x. if_passing (test x q.y) (cond (top_left x q.y q) 1 0)) q.x 0 (width + 1) (omega arith) (omega arith)
       (λ x h. passing_none (test x q.y) (top_left x q.y q) (elsewhere_x x q.y q h))
       ∙ passing_one (test q.x q.y) (top_left q.x q.y q) (own_corner q)
 
@@ -86,16 +88,13 @@ module _ (width height : ℕ) (test : ℕ → ℕ → Bool) where
     sum_by-cons (λ q. cond {A = ℕ} (test q.x q.y) 1 0) q squares,
   )
 
-four_true : (n : ℕ) → (n == 4) ≡ true → n ≡ 4
-four_true n e = grind (arith, nat_tests)
-
 -- there are as many crossings as squares with a crossing at their top left corner
 pub crossings_at_squares : (t : Tiling) → IsTiling t → crossings t ≡ sum_by (λ q. cond {A = ℕ} (is_crossing t q.x q.y) 1 0) t.squares
 crossings_at_squares t tiling =
     grid_same t.width t.height (is_crossing t) (λ x y. cond {A = ℕ} (is_crossing t x y) 1 0)
     (λ x y. if_passing (is_crossing t x y) (count_by (top_left x y) t.squares))
     (λ x y. begins (is_crossing t x y) (count_by (top_left x y) t.squares)
-    (λ e. crossing_begins t tiling x y (four_true (count_by (is_corner x y) t.squares) e)))
+    (λ e. crossing_begins t tiling x y (eq_four-from_test (count_by (is_corner x y) t.squares) e)))
     ∙ grid_squares t.width t.height (is_crossing t) t.squares (λ q h. inside q h)
   where
     begins : (b : Bool) (n : ℕ) → (b ≡ true → n ≡ 1) → ◌≡◌ {A = ℕ} (cond b 1 0) (if_passing b n)

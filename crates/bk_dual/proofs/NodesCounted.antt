@@ -4,6 +4,7 @@ use Rattle.std.proofs.Common.{Bool, List, [], ap, arith, cond, count_by, length,
 use Rattle.std.proofs.lemmas.Bool.Decides.{nat_tests}
 use Rattle.std.proofs.lemmas.List.Sums.{sum_by-cons}
 use Rattle.std.proofs.lemmas.List.{length-map}
+use Rattle.bk_laws.proofs.Sums.{sum_by-add, sum_by-same_terms}
 use Rattle.bk_tiling.proofs.GroupCount.{AreLaid, groups_counted}
 use Rattle.bk_tiling.proofs.OrderLaws.{in_code_order-count, in_code_order-length, sum_ordered}
 use Rattle.bk_tiling.proofs.TilingLaws.{cell_most, cell_once, side_of, wide_enough}
@@ -18,7 +19,7 @@ use Rattle.bk_dual.proofs.CornerCounts.{among, bottom_left, on_left, on_top, ove
 use Rattle.bk_dual.proofs.SquareCorners.{at_square}
 use Rattle.bk_dual.proofs.CrossingBegins.{none_among, none_between}
 use Rattle.bk_dual.proofs.CrossingCount.{crossings_at_squares}
-use Rattle.bk_dual.proofs.PointSums.{sum_plus, sum_same, sum_same_in}
+use Rattle.bk_dual.proofs.PointSums.{sum_same_in}
 use Rattle.bk_dual.specs.Dual.{is_crossing}
 use Rattle.bk_dual.specs.NodeSum.{NodesAndCrossings}
 
@@ -33,7 +34,8 @@ turned_beside_is w h p r = both_ways (stands_beside (image_square Swap w h p) (i
     (λ e. grind (arith, nat_tests)) (λ e. grind (arith, nat_tests))
 
 count_same : (f g : Square → Bool) (squares : List Square) → ((q : Square) → f q ≡ g q) → count_by f squares ≡ count_by g squares
-count_same f g squares each = sum_same (λ q. cond {A = ℕ} (f q) 1 0) (λ q. cond {A = ℕ} (g q) 1 0) squares (λ q. ap (λ (b : Bool). cond {A = ℕ} b 1 0) (each q))
+count_same f g squares each =
+    sum_by-same_terms (λ q. cond {A = ℕ} (f q) 1 0) (λ q. cond {A = ℕ} (g q) 1 0) squares (λ q. ap (λ (b : Bool). cond {A = ℕ} b 1 0) (each q))
 
 sum_map : (f : Square → ℕ) (g : Square → Square) (squares : List Square) → sum_by f (map g squares) ≡ sum_by (λ q. f (g q)) squares
 sum_map f g [] = refl
@@ -49,7 +51,7 @@ module _ (t : Tiling) (tiling : IsTiling t) where
   own_groups = omega (
     arith,
     groups_counted t.squares (laid t tiling),
-    sum_same (λ r. count_by (λ p. stands_beside p r) t.squares) (λ r. count_by (top_right r.x r.y) t.squares) t.squares
+    sum_by-same_terms (λ r. count_by (λ p. stands_beside p r) t.squares) (λ r. count_by (top_right r.x r.y) t.squares) t.squares
         (λ r. count_same (λ p. stands_beside p r) (top_right r.x r.y) t.squares (λ p. beside_is p r)),
   )
 
@@ -66,7 +68,7 @@ module _ (t : Tiling) (tiling : IsTiling t) where
     length-map t.squares (image_square Swap t.width t.height),
     sum_ordered (λ r. count_by (λ p. stands_beside p r) (image Swap t).squares) (map (image_square Swap t.width t.height) t.squares),
     sum_map (λ r. count_by (λ p. stands_beside p r) (image Swap t).squares) (image_square Swap t.width t.height) t.squares,
-    sum_same (λ r. count_by (λ p. stands_beside p (image_square Swap t.width t.height r)) (image Swap t).squares)
+    sum_by-same_terms (λ r. count_by (λ p. stands_beside p (image_square Swap t.width t.height r)) (image Swap t).squares)
         (λ r. count_by (bottom_left r.x r.y) t.squares) t.squares
         (λ r. turned_count (λ p. stands_beside p (image_square Swap t.width t.height r))
         ∙ count_same (λ p. stands_beside (image_square Swap t.width t.height p) (image_square Swap t.width t.height r)) (bottom_left r.x r.y) t.squares
@@ -97,10 +99,10 @@ module _ (t : Tiling) (tiling : IsTiling t) where
     arith,
     sum_same_in (λ q. count_by (top_right q.x q.y) t.squares + count_by (bottom_left q.x q.y) t.squares + cond {A = ℕ} ((q.x == 0) && (q.y == 0)) 1 0)
         (λ q. 1 + cond {A = ℕ} (is_crossing t q.x q.y) 1 0) t.squares (at_square t tiling),
-    sum_plus (λ q. count_by (top_right q.x q.y) t.squares + count_by (bottom_left q.x q.y) t.squares) (λ q. cond {A = ℕ} ((q.x == 0) && (q.y == 0)) 1 0)
+    sum_by-add (λ q. count_by (top_right q.x q.y) t.squares + count_by (bottom_left q.x q.y) t.squares) (λ q. cond {A = ℕ} ((q.x == 0) && (q.y == 0)) 1 0)
         t.squares,
-    sum_plus (λ q. count_by (top_right q.x q.y) t.squares) (λ q. count_by (bottom_left q.x q.y) t.squares) t.squares,
-    sum_plus (λ q. 1) (λ q. cond {A = ℕ} (is_crossing t q.x q.y) 1 0) t.squares,
+    sum_by-add (λ q. count_by (top_right q.x q.y) t.squares) (λ q. count_by (bottom_left q.x q.y) t.squares) t.squares,
+    sum_by-add (λ q. 1) (λ q. cond {A = ℕ} (is_crossing t q.x q.y) 1 0) t.squares,
     sum_ones t.squares,
     one_first,
   )

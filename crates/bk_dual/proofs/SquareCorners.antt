@@ -1,6 +1,7 @@
 -- How many corners lie at the top left corner of a square, and that there are four exactly at a crossing.
-use Rattle.std.proofs.Common.{arith, cond, count_by, suc, true, zero, ℕ, ◌&&◌, ◌+◌, ◌-◌, ◌<◌, ◌==◌, ◌≡◌, ◌≢◌, ◌≤◌}
+use Rattle.std.proofs.Common.{arith, cond, count_by, suc, true, zero, ℕ, ◌&&◌, ◌+◌, ◌-◌, ◌<◌, ◌==◌, ◌≡◌, ◌≤◌}
 use Rattle.std.proofs.lemmas.Bool.Decides.{nat_tests}
+use Rattle.bk_laws.proofs.TestsAsNumbers.{cond_count-four, cond_count-not_four, cond_count-not_origin}
 use Rattle.bk_tiling.proofs.Cells.{one_counted}
 use Rattle.bk_tiling.proofs.TilingLaws.{cell_most, cell_once, side_of, within_of}
 use Rattle.bk_tiling.specs.Point.{is_corner}
@@ -11,18 +12,6 @@ use Rattle.bk_dual.proofs.CornerCounts.{among, between, bottom_left, bottom_righ
 use Rattle.bk_dual.proofs.CornerCounts.{over_here, over_left, top_left, top_right}
 use Rattle.bk_dual.proofs.CrossingBegins.{none_among, none_between, none_bottom, none_right}
 
--- a crossing, as a number
-no_four : (n : ℕ) → n ≢ 4 → ◌≡◌ {A = ℕ} (cond (n == 4) 1 0) 0
-no_four n h = grind (arith, nat_tests)
-
-is_four : (n k : ℕ) → n ≡ 2 + k + k → k ≤ 1 → ◌≡◌ {A = ℕ} (cond (n == 4) 1 0) k
-is_four n zero e h = no_four n (λ f. omega arith)
-is_four n (suc zero) e h = grind (arith, nat_tests)
-is_four n (suc (suc k)) e h = absurd (omega arith)
-
-not_origin : (x y : ℕ) → 0 < x + y → ◌≡◌ {A = ℕ} (cond ((x == 0) && (y == 0)) 1 0) 0
-not_origin x y h = grind (arith, nat_tests)
-
 -- at the top left corner of a square another has its top right corner or another its bottom left corner, and both
 -- exactly at a crossing; at the corner of the tiling none has
 at_corner : (t : Tiling) → IsTiling t → (x y : ℕ) → x < t.width → y < t.height → 0 < count_by (top_left x y) t.squares
@@ -31,7 +20,7 @@ at_corner : (t : Tiling) → IsTiling t → (x y : ℕ) → x < t.width → y < 
 at_corner t tiling zero zero wide low some = omega (
   arith,
   some,
-  no_four (count_by (is_corner 0 0) t.squares)
+  cond_count-not_four (count_by (is_corner 0 0) t.squares)
       (λ e. omega (
         arith,
         e,
@@ -48,10 +37,10 @@ at_corner t tiling zero zero wide low some = omega (
 )
 at_corner t tiling zero (suc y) wide low some = omega (
   arith,
-  not_origin 0 (suc y) (omega arith),
+  cond_count-not_origin 0 (suc y) (omega arith),
   left,
   none_right t tiling (on_top (suc y)),
-  no_four (count_by (is_corner 0 (suc y)) t.squares)
+  cond_count-not_four (count_by (is_corner 0 (suc y)) t.squares)
       (λ e. omega (
         arith,
         e,
@@ -78,10 +67,10 @@ at_corner t tiling zero (suc y) wide low some = omega (
     )
 at_corner t tiling (suc x) zero wide low some = omega (
   arith,
-  not_origin (suc x) 0 (omega arith),
+  cond_count-not_origin (suc x) 0 (omega arith),
   above,
   none_bottom t tiling (on_left (suc x)),
-  no_four (count_by (is_corner (suc x) 0) t.squares)
+  cond_count-not_four (count_by (is_corner (suc x) 0) t.squares)
       (λ e. omega (
         arith,
         e,
@@ -108,9 +97,9 @@ at_corner t tiling (suc x) zero wide low some = omega (
     )
 at_corner t tiling (suc x) (suc y) wide low some = omega (
   arith,
-  not_origin (suc x) (suc y) (omega arith),
+  cond_count-not_origin (suc x) (suc y) (omega arith),
   meet,
-  is_four (count_by (is_corner (suc x) (suc y)) t.squares)
+  cond_count-four (count_by (is_corner (suc x) (suc y)) t.squares)
       (count_by (bottom_right (suc x) (suc y)) t.squares) many few,
 )
   where

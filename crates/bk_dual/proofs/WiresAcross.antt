@@ -1,13 +1,13 @@
 -- Each wire of the dual diagram leads from the vertical segment at its square's left to the one at its right.
 use Rattle.std.specs.List.{AllZip, enumerate_from, flat_map}
-use Rattle.std.specs.Prelude.{IsSomeAnd}
-use Rattle.std.proofs.Common.{List, Option, Some, [], ap, arith, count_by, inl, inr, length, map, nat_eq, refl, slice_get, slice_index}
+use Rattle.std.proofs.Common.{List, Some, [], ap, arith, count_by, inl, inr, length, map, nat_eq, refl, slice_get, slice_index}
 use Rattle.std.proofs.Common.{slice_index_or, subst, suc, sym, true, zero, ℕ, ◌&&◌, ◌+◌, ◌-◌, ◌<◌, ◌∙◌, ◌∷◌, ◌≡◌, ◌⊎◌}
 use Rattle.std.proofs.lemmas.Bool.Decides.{nat_tests}
 use Rattle.std.proofs.lemmas.List.{length-map}
 use Rattle.std.proofs.lemmas.Option.{get_or_from_slice_get, slice_get-get_or, slice_get_within}
 use Rattle.bk_laws.proofs.ListPlaces.{get_map, get_some}
 use Rattle.bk_laws.proofs.ZippedLists.{zip_append}
+use Rattle.bk_laws.proofs.Outcomes.{is_some_and-intro}
 use Rattle.bk_tiling.proofs.Cells.{counted_one}
 use Rattle.bk_tiling.proofs.Groups.{row_of}
 use Rattle.bk_tiling.proofs.Members.{one_at}
@@ -27,9 +27,6 @@ use Rattle.bk_net.specs.GroupNumbers.{group_numbers, numbered}
 use Rattle.bk_dual.proofs.Numbers.{HasPlace, from_image, has_place}
 use Rattle.bk_dual.specs.Dual.{dual_diagram, dual_order, number_at}
 use Rattle.bk_dual.specs.DualWires.{IsAtLeft, IsAtRight, IsBeside, LeadsAcross, WiresLeadAcross, exchanged, vertical_segments}
-
-some_and : {A : Type 0} (P : A → Type 0) (o : Option A) (x : A) → o ≡ Some x → P x → IsSomeAnd o P
-some_and {A} P o x e p = subst (λ (r : Option A). IsSomeAnd r P) (sym e) p
 
 -- a square below another, in the tiling with columns and levels exchanged, is at its right
 beside : (q r : Square) → (nat_eq r.y (q.y + q.s) && covers_column q.x r) ≡ true → IsBeside (exchanged q) (exchanged r)
@@ -71,7 +68,7 @@ module _ (t : Tiling) (tiling : IsTiling (image Swap t)) where
   at_left : (m : ℕ) (q : Square) → m < length (image Swap t).squares → slice_index_or (image Swap t).squares m q ≡ q
       → IsAtLeft t (exchanged q) (slice_index (group_numbers (image Swap t).squares) m)
   at_left m q within is =
-      some_and (λ (squares : List Square). IsOneOf (exchanged q) squares)
+      is_some_and-intro (λ (squares : List Square). IsOneOf (exchanged q) squares)
       (slice_get (vertical_segments t) (slice_index (group_numbers (image Swap t).squares) m)) (map exchanged g.0)
       (segment (slice_index (group_numbers (image Swap t).squares) m) g.0 g.1)
       (in_map exchanged g.0 q (subst (λ (r : Square). IsOneOf r g.0) is g.2))
@@ -90,7 +87,7 @@ module _ (t : Tiling) (tiling : IsTiling (image Swap t)) where
           (node_below (square_groups (image Swap t).squares) q)
       inner g e some =
           let r = counted_one (λ r. nat_eq r.y (q.y + q.s) && covers_column q.x r) g some in
-          inl (some_and (λ (squares : List Square). (r : Square) × IsOneOf r squares × IsBeside (exchanged q) r)
+          inl (is_some_and-intro (λ (squares : List Square). (r : Square) × IsOneOf r squares × IsBeside (exchanged q) r)
           (slice_get (vertical_segments t) (node_below (square_groups (image Swap t).squares) q)) (map exchanged g)
           (segment (node_below (square_groups (image Swap t).squares) q) g e)
           (exchanged r.0, in_map exchanged g r.0 r.1, beside q r.0 r.2))

@@ -1,6 +1,6 @@
 -- How many nodes a diagram and its dual have. A statement alone; it is proved apart.
--- Example (DualExamples): the nine squares of the rectangle 33x32 have 6 and 6 nodes and no crossing, four squares of side 1 have 3 and 3
--- nodes and one crossing.
+-- Example (DualExamples): the nine squares of the rectangle 33x32 have 6 and 6 nodes and no crossing, four squares of
+-- side 1 have 3 and 3 nodes and one crossing.
 use Rattle.std.specs.Prelude.{◌+◌, ◌≡◌}
 use Rattle.bk_tiling.specs.Tiling.{IsTiling, Tiling, order}
 use Rattle.bk_net.specs.Diagram.{smith_diagram}

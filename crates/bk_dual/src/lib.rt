@@ -8,7 +8,7 @@ ghost use Rattle.bk_dual.specs.NodeSum.{NodesAndCrossings};
 ghost use Rattle.bk_net.specs.Flow.{IsOneFlow};
 ghost use Rattle.bk_net.specs.GroupNumbers.{is_no_later};
 ghost use Rattle.bk_net.specs.Net.{HasNoLoose};
-ghost use Rattle.bk_tiling.specs.Kept.{IsKept};
+ghost use Rattle.bk_tiling.specs.KeptTiling.{IsKept};
 ghost use Rattle.bk_tiling.specs.Tiling.{IsOneOf, order};
 
 use arrayvec::ArrayVec;
@@ -17,9 +17,9 @@ use bk_sym::{Turn, image};
 use bk_tiling::{MOST_SQUARES, Square, Tiling};
 
 /// The dual diagram of a tiling (Brooks, Smith, Stone and Tutte 1940): the Smith diagram of the tiling with columns and
-/// levels exchanged. Its nodes are the vertical segments, from left to right, and then the right side of the rectangle. A
-/// square's wire leads from the vertical segment at its left to the one at its right; the wires come in the code order of
-/// that image. No node is loose, and the sides are the one flow of the diagram, at a total of the height.
+/// levels exchanged. Its nodes are the vertical segments, from left to right, and then the right side of the rectangle.
+/// A square's wire leads from the vertical segment at its left to the one at its right; the wires come in the code
+/// order of that image. No node is loose, and the sides are the one flow of the diagram, at a total of the height.
 pub fn dual_of(tiling: &Tiling) -> Net
     ensures diagram { result ≡ dual_diagram tiling.now }
     ensures joined { HasNoLoose result }
@@ -29,9 +29,9 @@ pub fn dual_of(tiling: &Tiling) -> Net
     net
 }
 
-/// For each wire of the dual diagram the number, from 1, of its square in the tiling (own). Each number up to the order stands
-/// there once, and no other. The wire leads from the vertical segment at the left of that square to the one at its right, which
-/// is the right side of the rectangle where the square ends there.
+/// For each wire of the dual diagram the number, from 1, of its square in the tiling (own). Each number up to the order
+/// stands there once, and no other. The wire leads from the vertical segment at the left of that square to the one at
+/// its right, which is the right side of the rectangle where the square ends there.
 pub fn dual_order(tiling: &Tiling) -> ArrayVec<u16, MOST_SQUARES>
     ensures value { result.items ≡ dual_order tiling.now }
     ensures once { (n : ℕ) → 0 < n → n ≤ order tiling.now → count_by (λ m. m == n) result.items ≡ 1 }
@@ -69,7 +69,8 @@ fn exchanged(q: Square) -> Square
     }
 }
 
-// The number of a square of the tiling. The squares stand in code order, so it is how many come no later than the square.
+// The number of a square of the tiling. The squares stand in code order, so it is how many come no later than the
+// square.
 fn number_of(tiling: &Tiling, q: Square) -> u16
     requires one { IsOneOf q tiling.now.squares }
     ensures { result ≡ number_at tiling.now q.x q.y }
@@ -85,7 +86,8 @@ fn is_no_later(r: &Square, q: Square) -> bool
     r.y < q.y || (r.y == q.y && r.x <= q.x)
 }
 
-/// The nodes of the Smith diagram, those of the dual diagram, and the crossings are three more than the squares (Euler).
+/// The nodes of the Smith diagram, those of the dual diagram, and the crossings are three more than the squares
+/// (Euler).
 pub fn nodes_and_crossings()
     ensures { NodesAndCrossings }
 {}

@@ -1,6 +1,6 @@
 -- What the crate says. Its code is kept by what proofs/ says alone.
+pub mod FlowLaws
+pub mod FlowNumbers
+pub mod RefusedNet
 pub mod Table
 pub mod Wide
-pub mod FlowNumbers
-pub mod Refusal
-pub mod FlowLaws

@@ -1,8 +1,7 @@
--- What the crate says.
-pub mod Form
+-- What the crate says. Its code is kept by what proofs/ says alone.
 pub mod Claim
-pub mod Reduction
-pub mod Answer
+pub mod Form
 pub mod FormLaws
--- How its code keeps it.
-pub mod Kept
+pub mod KeptEquations
+pub mod LedgerAnswer
+pub mod Reduction

@@ -5,17 +5,20 @@ use Rattle.std.proofs.Common.{slice_index, subst}
 use Rattle.std.proofs.Common.{suc, sym, take, zero, ℕ, ◌++◌, ◌+◌, ◌/◌, ◌<◌, ◌∷◌, ◌≡◌, ◌≤◌, ◌⊎◌, ◌↔◌}
 use Rattle.std.proofs.lemmas.List.{take-append-drop}
 use Rattle.std.proofs.lemmas.List.Elements.{All-contains, All-from_recursion, All-get_or}
-use Rattle.bk_found.specs.Kept.{AreAscendingNumbers}
+use Rattle.bk_found.specs.KeptNumbers.{AreAscendingNumbers}
 
 -- ---- lists of numbers all of which pass a test
 
+-- each number of the list passes the test
 abbrev pub All : (ℕ → Type 0) → List ℕ → Type 0
 All P xs = AllByRecursion P xs
 
+-- numbers that pass a test pass each test that follows from it
 pub all_map : (P Q : ℕ → Type 0) (xs : List ℕ) → ((y : ℕ) → P y → Q y) → All P xs → All Q xs
 all_map P Q [] f all = tt
 all_map P Q (x ∷ xs) f all = (f x all.0, all_map P Q xs f all.1)
 
+-- two lists of numbers that pass a test, put together, pass it
 pub all_join : (P : ℕ → Type 0) (xs ys : List ℕ) → All P xs → All P ys → All P (xs ++ ys)
 all_join P [] ys a b = b
 all_join P (x ∷ xs) ys a b = (a.0, all_join P xs ys a.1 b)
@@ -34,14 +37,17 @@ all_take P k xs all = all_front P (take k xs) (drop k xs) (subst (All P) (sym (t
 all_drop : (P : ℕ → Type 0) (k : ℕ) (xs : List ℕ) → All P xs → All P (drop k xs)
 all_drop P k xs all = all_back P (take k xs) (drop k xs) (subst (All P) (sym (take-append-drop k xs)) all)
 
+-- a list passes a test if its first numbers and the ones left do
 pub all_again : (P : ℕ → Type 0) (k : ℕ) (xs : List ℕ) → All P (take k xs) → All P (drop k xs) → All P xs
 all_again P k xs a b = subst (All P) (take-append-drop k xs) (all_join P (take k xs) (drop k xs) a b)
 
 -- ---- one more at its place
 
+-- a list with a number put in at a place
 abbrev pub with_one : ℕ → ℕ → List ℕ → List ℕ
 with_one place x xs = take place xs ++ x ∷ drop place xs
 
+-- a number put in behind all lesser ones and before all greater ones leaves the list ascending
 pub one_ascends : (x place : ℕ) (xs : List ℕ) → AreAscendingNumbers xs → All (λ y. y < x) (take place xs) → All (λ y. x < y) (drop place xs)
     → AreAscendingNumbers (with_one place x xs)
 one_ascends x zero xs asc before from = (from, asc)
@@ -51,9 +57,11 @@ one_ascends x (suc place) (y ∷ xs) asc before from = (
   one_ascends x place xs asc.1 before.1 from,
 )
 
+-- numbers that pass a test, with one more that does put in, pass it
 pub all_one : (P : ℕ → Type 0) (x place : ℕ) (xs : List ℕ) → P x → All P xs → All P (with_one place x xs)
 all_one P x place xs one all = all_join P (take place xs) (x ∷ drop place xs) (all_take P place xs all) (one, all_drop P place xs all)
 
+-- a list with a number put in is longer by one
 pub long_one : (x place : ℕ) (xs : List ℕ) → length (with_one place x xs) ≡ length xs + 1
 long_one x place xs = omega (
   arith,
@@ -75,14 +83,14 @@ less_before (x ∷ xs) (suc place) asc few = (at xs place (omega arith) asc.0, l
     at (z ∷ zs) zero h all = all.0
     at (z ∷ zs) (suc i) h all = at zs i (omega arith) all.1
 
--- and those from there on aren't
+-- of ascending numbers those from a place on are not less than the one there
 pub from_place : (xs : List ℕ) (place : ℕ) → AreAscendingNumbers xs → All (λ y. slice_index xs place ≤ y) (drop place xs)
 from_place [] zero asc = tt
 from_place [] (suc place) asc = tt
 from_place (x ∷ xs) zero asc = (omega arith, all_map (λ z. x < z) (λ z. x ≤ z) xs (λ z h. omega arith) asc.0)
 from_place (x ∷ xs) (suc place) asc = from_place xs place asc.1
 
--- those of the lower half are less than the least of the upper one
+-- of ascending numbers the lower half is less than the least of the upper one
 pub low_half : (xs : List ℕ) → AreAscendingNumbers xs → All (λ y. y < slice_index xs (length xs / 2)) (take (length xs / 2) xs)
 low_half [] asc = tt
 low_half (x ∷ xs) asc = less_before (x ∷ xs) (suc (length xs) / 2) asc (omega arith)
@@ -99,6 +107,7 @@ pub record IsNewPlace (xs : List ℕ) (x : ℕ) : Type 0 where
   pub before : All (λ y. y < x) (take place xs)
   pub from : All (λ y. x < y) (drop place xs)
 
+-- a number that is not in an ascending list has a new place there
 pub place_in : (xs : List ℕ) (x : ℕ) → AreAscendingNumbers xs → (Contains xs x → ⊥) → IsNewPlace xs x
 place_in [] x asc not = record { place = 0; before = tt; from = tt }
 place_in (y ∷ ys) x asc not = cases (three x y) (place_in ys x asc.1 (λ (k, low, is). not (suc k, omega (arith, low), is)))
@@ -117,6 +126,7 @@ place_in (y ∷ ys) x asc not = cases (three x y) (place_in ys x asc.1 (λ (k, l
 abbrev pub AreSame : List ℕ → List ℕ → Type 0
 AreSame xs ys = (y : ℕ) → Contains xs y ↔ Contains ys y
 
+-- a list keeps just the numbers that it keeps
 pub same_itself : (xs : List ℕ) → AreSame xs xs
 same_itself xs y = (λ h. h, λ h. h)
 
@@ -131,7 +141,7 @@ all_same P xs ys same all = all_from P ys (λ y h. All-contains P xs y (All-from
 
 -- ---- finding the place
 
--- those from a number on that isn't less aren't less
+-- of ascending numbers those from one that isn't less than another on are not less either
 pub no_less_from : (x place : ℕ) (xs : List ℕ) → AreAscendingNumbers xs → place < length xs → x ≤ slice_index xs place → All (λ y. x ≤ y) (drop place xs)
 no_less_from x place [] asc few more = absurd (omega arith)
 no_less_from x zero (y ∷ xs) asc few more = (more, all_map (λ z. y < z) (λ z. x ≤ z) xs (λ z h. omega (arith, more)) asc.0)

@@ -1,25 +1,11 @@
 -- Digits of base 4: the first one in which two numbers differ decides, and a number is written digit by digit.
-use Rattle.std.specs.Cmp.{nat_cmp_is}
-use Rattle.std.specs.Ordering.{nat_cmp, ordering_then}
-use Rattle.std.specs.declared.cmp.Ordering.TheVariants.{Equal, Greater, Less}
-use Rattle.std.proofs.Common.{List, [], ap, arith, drop, get_or, inl, inr, length, subst, suc, sym, take, zero, ℕ, ◌*◌, ◌+◌, ◌-◌, ◌/◌, ◌<◌, ◌^◌, ◌∙◌, ◌∷◌}
-use Rattle.std.proofs.Common.{◌≡◌, ◌≤◌, ◌⊎◌}
+use Rattle.std.proofs.Common.{List, [], ap, arith, drop, get_or, length, subst, suc, sym, take, zero, ℕ, ◌*◌, ◌+◌, ◌-◌, ◌/◌, ◌<◌, ◌^◌, ◌∙◌, ◌∷◌}
+use Rattle.std.proofs.Common.{◌≡◌, ◌≤◌}
 use Rattle.std.proofs.lemmas.List.{drop_more, length-drop, take-append-drop}
-use Rattle.std.proofs.Math.Nat.{mul-le-mul_right, one-le-pow, pow-succ'}
+use Rattle.std.proofs.Math.Nat.{one-le-pow}
 use Rattle.bk_laws.proofs.AllOfLists.{all_right}
+use Rattle.bk_laws.proofs.Multiples.{digit_times-le_four_times, pow_four-suc}
 use Rattle.bk_found.specs.Packed.{AreDigits, begun_by}
-
--- a number is below another, the other, or above it
-pub three : (x y : ℕ) → (x < y) ⊎ ((x ≡ y) ⊎ (y < x))
-three x y = grind arith
-
--- a power of 4 is four times the one before
-pub four_times : (room : ℕ) → 4 ^ (suc room) ≡ 4 * 4 ^ room
-four_times room = pow-succ' 4 room
-
--- a digit times a power, and that power once more, are at most four times it
-pub three_at_most : (d p : ℕ) → d < 4 → d * p + p ≤ 4 * p
-three_at_most d p h = let k : d + 1 ≤ 4 = omega arith in let l = mul-le-mul_right p k in omega (arith, l)
 
 -- the first digit, and those behind it
 pub begun-cons : (room d : ℕ) (ds : List ℕ) → begun_by (suc room) (d ∷ ds) ≡ d * 4 ^ room + begun_by room ds
@@ -30,33 +16,7 @@ pub digits_small : (room : ℕ) (ds : List ℕ) → AreDigits ds → length ds �
 digits_small room [] digits few = omega (arith, one-le-pow room 4 (omega arith))
 digits_small zero (d ∷ ds) digits few = absurd (omega arith)
 digits_small (suc room) (d ∷ ds) digits few =
-    omega (arith, begun-cons room d ds, four_times room, three_at_most d (4 ^ room) digits.0, digits_small room ds digits.1 (omega arith))
-
--- the first digit decides, else the rest
-pub first_decides : (x y p a b : ℕ) → a < p → b < p → nat_cmp (x * p + a) (y * p + b) ≡ ordering_then (nat_cmp x y) (nat_cmp a b)
-first_decides x y p a b small small_b = cases (three x y)
-  where
-    cases : (x < y) ⊎ ((x ≡ y) ⊎ (y < x)) → nat_cmp (x * p + a) (y * p + b) ≡ ordering_then (nat_cmp x y) (nat_cmp a b)
-    cases (inl h) =
-        let k : x + 1 ≤ y = omega arith in
-        let l = mul-le-mul_right p k in
-        sym (nat_cmp_is (x * p + a) (y * p + b) Less (omega (arith, l))) ∙ ap (λ z. ordering_then z (nat_cmp a b)) (nat_cmp_is x y Less h)
-    cases (inr (inl h)) = same (three a b)
-      where
-        equal : ordering_then (nat_cmp x y) (nat_cmp a b) ≡ nat_cmp a b
-        equal = ap (λ z. ordering_then z (nat_cmp a b)) (sym (nat_cmp_is x y Equal h))
-
-        times : x * p ≡ y * p
-        times = ap (λ z. z * p) h
-
-        same : (a < b) ⊎ ((a ≡ b) ⊎ (b < a)) → nat_cmp (x * p + a) (y * p + b) ≡ ordering_then (nat_cmp x y) (nat_cmp a b)
-        same (inl k) = sym (nat_cmp_is (x * p + a) (y * p + b) Less (omega (arith, times))) ∙ nat_cmp_is a b Less k ∙ sym equal
-        same (inr (inl k)) = sym (nat_cmp_is (x * p + a) (y * p + b) Equal (omega (arith, times))) ∙ nat_cmp_is a b Equal k ∙ sym equal
-        same (inr (inr k)) = sym (nat_cmp_is (x * p + a) (y * p + b) Greater (omega (arith, times))) ∙ nat_cmp_is a b Greater k ∙ sym equal
-    cases (inr (inr h)) =
-        let k : y + 1 ≤ x = omega arith in
-        let l = mul-le-mul_right p k in
-        sym (nat_cmp_is (x * p + a) (y * p + b) Greater (omega (arith, l))) ∙ ap (λ z. ordering_then z (nat_cmp a b)) (nat_cmp_is x y Greater h)
+    omega (arith, begun-cons room d ds, pow_four-suc room, digit_times-le_four_times d (4 ^ room) digits.0, digits_small room ds digits.1 (omega arith))
 
 -- in room for one digit more, digits make four times the number
 pub begun_roomier : (room : ℕ) (ds : List ℕ) → length ds ≤ room → begun_by (suc room) ds ≡ 4 * begun_by room ds
@@ -67,7 +27,7 @@ begun_roomier (suc room) (d ∷ ds) few =
       arith,
       begun-cons (suc room) d ds,
       begun-cons room d ds,
-      ap (λ p. d * p) (four_times room),
+      ap (λ p. d * p) (pow_four-suc room),
       begun_roomier room ds (omega arith),
     )
 

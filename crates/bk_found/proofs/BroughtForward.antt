@@ -1,15 +1,14 @@
 -- Numbers that don't descend: one of each brought to the front, and numbers looked up.
-use Rattle.std.proofs.Common.{Contains, Err, IsTrue, List, MatchResult, Ok, Result, [], ap, arith, drop, get_or, is_ok, inl, inr, length, refl, set}
+use Rattle.std.proofs.Common.{Contains, List, [], ap, arith, drop, get_or, inl, inr, length, set}
 use Rattle.std.proofs.Common.{slice_index, subst, suc, sym, take, zero, ℕ}
 use Rattle.std.proofs.Common.{◌++◌, ◌+◌, ◌-◌, ◌<◌, ◌≢◌, ◌∙◌, ◌∷◌, ◌≡◌, ◌≤◌, ◌⊎◌, ◌↔◌}
-use Rattle.std.specs.List.{refill}
 use Rattle.std.specs.List.Sorted.{IsNonDecreasing}
 use Rattle.std.proofs.Math.ListN.{length-set}
 use Rattle.std.proofs.Math.Seq.{take-suc-set}
-use Rattle.std.proofs.lemmas.List.{get_or-set_other, get_or-take, get_or_default, length-take-le, take_at, take_more}
+use Rattle.std.proofs.lemmas.List.{get_or-set_other, get_or-take, get_or_default, length-take-le, take_more}
 use Rattle.std.proofs.lemmas.List.Elements.{All-contains, All-from_recursion, All-get_or, Contains-append_left, Contains-push, Contains-push_cases}
 use Rattle.std.proofs.lemmas.List.Elements.{recursion_from_All}
-use Rattle.bk_found.specs.Kept.{AreAscendingNumbers, IsPlaceOf}
+use Rattle.bk_found.specs.KeptNumbers.{AreAscendingNumbers, IsPlaceOf}
 use Rattle.bk_found.proofs.AscendingNumbers.{All, all_from, all_join, all_map}
 
 -- of each number among so many first ones one is brought to the front, and those behind are as they were
@@ -19,10 +18,6 @@ pub record IsBrought (old now : List ℕ) (count i : ℕ) : Type 0 where
   pub rest : (k : ℕ) → i ≤ k → slice_index now k ≡ slice_index old k
   pub ascending : AreAscendingNumbers (take count now)
   pub same : (x : ℕ) → Contains (take count now) x ↔ Contains (take i old) x
-
--- at first none
-pub brought_none : (old : List ℕ) → IsBrought old old 0 0
-brought_none old = record { few = omega arith; long = refl; rest = λ k h. refl; ascending = tt; same = λ x. (λ h. h, λ h. h) }
 
 -- ascending numbers with a greater one behind them
 pub ascends_behind : (xs : List ℕ) (x : ℕ) → AreAscendingNumbers xs → All (λ y. y < x) xs → AreAscendingNumbers (xs ++ x ∷ [])
@@ -37,7 +32,7 @@ last_greatest (y ∷ ys) x asc = (
   last_greatest ys x asc.1,
 )
 
--- those before a place are no greater than the one there
+-- of ascending numbers those before a place are no greater than the one there
 none_greater : (old : List ℕ) (i : ℕ) → IsNonDecreasing old → i < length old → All (λ y. y ≤ slice_index old i) (take i old)
 none_greater old i up low = recursion_from_All (λ y. y ≤ slice_index old i) (take i old) each
   where
@@ -105,7 +100,7 @@ module _ (old now : List ℕ) (count i : ℕ) (b : IsBrought old now count i) (u
   pub brought_first : count ≡ 0 → IsBrought old (set now count (slice_index old i)) (count + 1) (i + 1)
   brought_first none = brought_more (subst (λ k. All (λ y. y < slice_index old i) (take k now)) (sym none) tt)
 
-  -- and where it is greater than the last
+  -- a number brought that is greater than the last one is put behind it
   pub brought_greater : 0 < count → slice_index now (count - 1) < slice_index old i → IsBrought old (set now count (slice_index old i)) (count + 1) (i + 1)
   brought_greater some more = brought_more (subst (All (λ y. y < slice_index old i)) (sym (last some))
       (all_join (λ y. y < slice_index old i) (take (count - 1) now) (slice_index now (count - 1) ∷ [])
@@ -150,20 +145,6 @@ place_between (y ∷ ys) x (suc place) within before from =
     let p = place_between ys x place (omega arith) (λ k h. before (suc k) (omega arith)) (λ k h low. from (suc k) (omega arith) (omega arith)) in
     record { within = within; before = (before zero (omega arith), p.before); from = p.from }
 
--- what a search finds is there
-pub found : (xs : List ℕ) (x : ℕ) (r : Result ℕ ℕ) → MatchResult r (λ i. (i < length xs) × (slice_index xs i ≡ x))
-    (λ i. (i ≤ length xs) × ((k : ℕ) → k < i → slice_index xs k < x) × ((k : ℕ) → i ≤ k → k < length xs → x < slice_index xs k))
-    → IsTrue (is_ok r) ↔ Contains xs x
-found xs x (Ok i) h = (λ e. (i, h.0, get_or_default xs i x 0 h.0 ∙ h.1), λ c. refl)
-found xs x (Err i) h = (λ e. absurd (cc), λ (k, low, is). absurd (at k low (sym (get_or_default xs k x 0 low) ∙ is) (two k i)))
-  where
-    two : (a b : ℕ) → (a < b) ⊎ (b ≤ a)
-    two a b = grind arith
-
-    at : (k : ℕ) → k < length xs → slice_index xs k ≡ x → (k < i) ⊎ (i ≤ k) → ⊥
-    at k low e (inl g) = let less = h.1 k g in omega (arith, less, e)
-    at k low e (inr g) = let more = h.2 k g low in omega (arith, more, e)
-
 -- ---- what a turn of the loop leaves
 
 -- one of each of the first numbers, and one more behind them
@@ -186,8 +167,3 @@ pub turn_same : (old now then : List ℕ) (count many i number : ℕ) → IsBrou
 turn_same old now then count many i number b up low is e f some few =
     subst (λ k. IsBrought old then k (i + 1)) (sym f) (subst (λ l. IsBrought old l count (i + 1)) (sym e)
     (brought_equal old now count i b up low some (omega (arith, few, is, b.rest i (omega arith)))))
-
--- ---- numbers put in the place of as many
-
-pub refilled : (old new : List ℕ) → length new ≡ length old → refill (length old) old new ≡ new
-refilled old new e = take_at new (drop (length new) old) (length old) (omega (arith, e))

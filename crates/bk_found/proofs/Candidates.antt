@@ -5,6 +5,7 @@ use Rattle.std.proofs.Common.{Bool, List, Some, [], ap, arith, cond, false, inl,
 use Rattle.std.proofs.Common.{true, zero, ℕ, ◌+◌, ◌<◌, ◌∙◌, ◌≡◌, ◌⊎◌}
 use Rattle.std.proofs.lemmas.Int.{ints}
 use Rattle.std.proofs.lemmas.Option.{slice_get-get_or}
+use Rattle.bk_laws.proofs.Magnitudes.{signed-nonzero}
 use Rattle.bk_tiling.proofs.TilingLaws.{side_of}
 use Rattle.bk_tiling.specs.CodeOrder.{in_code_order}
 use Rattle.bk_tiling.specs.Scale.{IsPrimitiveTiling}
@@ -17,22 +18,22 @@ use Rattle.bk_net.specs.Net.{HasNoLoose, IsNet, last_node}
 use Rattle.bk_flow.proofs.OnePrimitive.{one_primitive}
 use Rattle.bk_word.specs.Play.{numbers_from}
 use Rattle.bk_word.specs.Word.{Word}
-use Rattle.bk_word_net.proofs.NoLoose.{a_word_has_one_flow, a_word_net_has_no_loose}
+use Rattle.bk_word_net.proofs.WordFlows.NoLoose.{a_word_has_one_flow, a_word_net_has_no_loose}
 use Rattle.bk_word_net.specs.WordNet.{net_of_word}
-use Rattle.bk_layout.proofs.TilingSquares.{in_square, node_at}
+use Rattle.bk_layout.proofs.TilingLayouts.TilingSquares.{in_square, node_at}
 use Rattle.bk_layout.specs.TilingLayout.{square_of}
-use Rattle.bk_layout.proofs.GroupNodes.{IsNode}
-use Rattle.bk_layout.specs.LineNumbers.{sides_of}
-use Rattle.bk_layout.proofs.CutByNodes.{as_many_sides}
+use Rattle.bk_layout.proofs.TilingLayouts.GroupNodes.{IsNode}
+use Rattle.bk_layout.specs.LineNumbers.{square_lines}
+use Rattle.bk_layout.proofs.FreeCuts.CutByNodes.{as_many_sides}
 use Rattle.bk_found.proofs.OtherOrder.{other, other_in_order, other_tiles}
 use Rattle.bk_found.proofs.PlacedEdges.{StandRight, edges_are, place_is}
 use Rattle.bk_found.proofs.PrimitiveFlow.{same_levels, signed_flow_is_primitive}
 use Rattle.bk_found.specs.Candidate.{IsCandidateOf, TheCandidateIsTheTiling, candidate_square, candidate_squares, level_in, line_place}
 use Rattle.bk_found.specs.Candidate.{placed_square, right_edges, right_edges_from}
-use Rattle.bk_layout.proofs.KnownLines.{known_lines}
-use Rattle.bk_layout.proofs.SignedWires.{ends_below, square_apart, square_below}
-use Rattle.bk_layout.proofs.SignedFlows.{hangs_by_flow, potential_is, signed_sides_are_the_one_flow, top_potential}
-use Rattle.bk_layout.proofs.NumberedLists.{numbers_all, numbers_each, numbers_index, numbers_length}
+use Rattle.bk_layout.proofs.FreeCuts.KnownLines.{known_lines}
+use Rattle.bk_layout.proofs.SignedWords.SignedWires.{ends_below, square_apart, square_below}
+use Rattle.bk_layout.proofs.SignedWords.SignedFlows.{hangs_by_flow, potential_is, signed_sides_are_the_one_flow, top_potential}
+use Rattle.bk_layout.proofs.Lists.NumberedLists.{numbers_all, numbers_each, numbers_index, numbers_length}
 use Rattle.bk_layout.specs.SignedFlow.{signed_flow, signed_side, upper_end}
 use Rattle.bk_layout.specs.SignedWord.{IsSignedWordOf, left_edge, line_column, right_edge}
 
@@ -48,10 +49,6 @@ placed true q left right above below current some l r y c = turned_side q.s refl
     turned_side zero e some = absurd (omega (arith, e, some))
     turned_side (suc s) e some = ap (placed_square left right above below) (c ∙ ap (λ (n : ℕ). neg_ℤ (pos n)) e)
         ∙ (λ i. record { x = nat_abs (r i); y = nat_abs (y i); s = sym e i })
-
-no_zero : (turned : Bool) (n : ℕ) → 0 < n → cond {A = ℤ} turned (neg_ℤ (pos n)) (pos n) ≡ pos 0 → ⊥
-no_zero true n h e = omega (arith, ints, h, e)
-no_zero false n h e = omega (arith, ints, h, e)
 
 module _ (t : Tiling) (w : Word) (f : Flow) (tiling : IsTiling t) (primitive : IsPrimitiveTiling t) (s : IsSignedWordOf t w)
     (flow : IsFlow (net_of_word w) f) (positive : pos 1 ≤ℤ f.total) (lowest : IsPrimitive f) where
@@ -70,30 +67,30 @@ module _ (t : Tiling) (w : Word) (f : Flow) (tiling : IsTiling t) (primitive : I
   level_is v h = same_levels (net_of_word w) f (signed_flow t w s) flow side_one.flow same.1 loose.1 (omega (arith, loose.0.some)) v h
 
   -- the edges
-  long : length (sides_of w) ≡ length t.squares
+  long : length (square_lines w) ≡ length t.squares
   long = as_many_sides w ∙ s.order_is
 
   edges : StandRight t s.turned s.square (length t.squares) (right_edges w f)
   edges = subst (λ (n : ℕ). StandRight t s.turned s.square n (right_edges w f)) (omega (arith, long))
-      (subst (λ (cs : List ℤ). StandRight t s.turned s.square (0 + length (sides_of w)) (right_edges_from f.total [] (sides_of w) cs))
+      (subst (λ (cs : List ℤ). StandRight t s.turned s.square (0 + length (square_lines w)) (right_edges_from f.total [] (square_lines w) cs))
       (ap (λ (n : ℕ). map (λ k. signed_side t s.turned (s.square k)) (numbers_from 0 n)) long ∙ sym same.1)
-      (edges_are t s.turned s.square f.total same.0 0 (sides_of w) [] (record { many = refl; each = λ k h. absurd (omega arith) }) lines))
+      (edges_are t s.turned s.square f.total same.0 0 (square_lines w) [] (record { many = refl; each = λ k h. absurd (omega arith) }) lines))
     where
-      lines : (j : ℕ) (p : ℕ × ℕ) → slice_get (sides_of w) j ≡ Some p
+      lines : (j : ℕ) (p : ℕ × ℕ) → slice_get (square_lines w) j ≡ Some p
           → (left_edge t s.turned (s.square (0 + j)) ≡ line_column t s.turned s.square p.0) × (p.0 < 0 + j + 2)
       lines j p e = (ap (λ (k : ℕ). left_edge t s.turned (s.square k)) (omega arith) ∙ (s.lines j p.0 p.1 e).0, omega (arith, (known_lines w j p e).0))
 
   -- a line of the word stands where it is computed
   pub left_is : (k : ℕ) → k < length t.squares
-      → line_place f.total (right_edges w f) (slice_index_or (sides_of w) k (0, 1)).0 ≡ pos (left_edge t s.turned (s.square k))
-  left_is k h = place_is t s.turned s.square f.total same.0 (length t.squares) (right_edges w f) edges (slice_index_or (sides_of w) k (0, 1)).0
-      (omega (arith, h, (known_lines w k (slice_index_or (sides_of w) k (0, 1)) got).0))
-      ∙ ap pos (sym (s.lines k (slice_index_or (sides_of w) k (0, 1)).0 (slice_index_or (sides_of w) k (0, 1)).1 got).0)
+      → line_place f.total (right_edges w f) (slice_index_or (square_lines w) k (0, 1)).0 ≡ pos (left_edge t s.turned (s.square k))
+  left_is k h = place_is t s.turned s.square f.total same.0 (length t.squares) (right_edges w f) edges (slice_index_or (square_lines w) k (0, 1)).0
+      (omega (arith, h, (known_lines w k (slice_index_or (square_lines w) k (0, 1)) got).0))
+      ∙ ap pos (sym (s.lines k (slice_index_or (square_lines w) k (0, 1)).0 (slice_index_or (square_lines w) k (0, 1)).1 got).0)
     where
-      got : slice_get (sides_of w) k ≡ Some (slice_index_or (sides_of w) k (0, 1))
-      got = slice_get-get_or (sides_of w) k (0, 1) (omega (arith, long, h))
+      got : slice_get (square_lines w) k ≡ Some (slice_index_or (square_lines w) k (0, 1))
+      got = slice_get-get_or (square_lines w) k (0, 1) (omega (arith, long, h))
 
-  -- and so does the right edge of a square
+  -- the right edge of a square stands where it is computed
   pub right_is : (k : ℕ) → k < length t.squares → slice_index_or (right_edges w f) k (pos 0) ≡ pos (right_edge t s.turned (s.square k))
   right_is k h = edges.each k h
 
@@ -106,7 +103,7 @@ module _ (t : Tiling) (w : Word) (f : Flow) (tiling : IsTiling t) (primitive : I
   -- one square
   pub square_is : (k : ℕ) → k < length t.squares → candidate_square w f k ≡ square_of t (s.square k)
   square_is k h = placed (s.turned (s.square k)) (square_of t (s.square k))
-      (line_place f.total (right_edges w f) (slice_index_or (sides_of w) k (0, 1)).0) (slice_index_or (right_edges w f) k (pos 0))
+      (line_place f.total (right_edges w f) (slice_index_or (square_lines w) k (0, 1)).0) (slice_index_or (right_edges w f) k (pos 0))
       (level_in f (slice_index_or (net_of_word w).wires k (0, 0)).0) (level_in f (slice_index_or (net_of_word w).wires k (0, 0)).1)
       (slice_index_or f.currents k (pos 0))
       (side_of t tiling (square_of t (s.square k)) (in_square t tiling (s.square k) (square_below t tiling w s k h)))
@@ -161,7 +158,7 @@ module _ (t : Tiling) (w : Word) (f : Flow) (tiling : IsTiling t) (primitive : I
     currents = same.1;
     some = subst (λ (cs : List ℤ). AllByRecursion (λ c. c ≢ pos 0) cs) (sym same.1)
         (numbers_all {A = ℤ} (λ c. c ≢ pos 0) (λ k. signed_side t s.turned (s.square k)) 0 (length t.squares)
-        (λ k lo hi. no_zero (s.turned (s.square k)) (square_of t (s.square k)).s (side_some k (omega (arith, hi)))));
+        (λ k lo hi. signed-nonzero (s.turned (s.square k)) (square_of t (s.square k)).s (side_some k (omega (arith, hi)))));
     positive = λ kept. subst (λ (cs : List ℤ). AllByRecursion (λ c. pos 1 ≤ℤ c) cs) (sym same.1)
         (numbers_all {A = ℤ} (λ c. pos 1 ≤ℤ c) (λ k. signed_side t s.turned (s.square k)) 0 (length t.squares)
         (λ k lo hi. subst (λ (b : Bool). pos 1 ≤ℤ cond b (neg_ℤ (pos (square_of t (s.square k)).s)) (pos (square_of t (s.square k)).s))

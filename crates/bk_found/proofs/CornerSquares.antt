@@ -1,10 +1,10 @@
 -- The longest squares in corners, as wires and lines tell them, are those of the candidate of a signed word of a tiling: a square that isn't
 -- turned touches the sides that its wire and its lines tell, and a turned one, the wire of which leads upwards, neither top nor bottom.
 use Rattle.std.specs.Prelude.{cond, max, nat_abs, neg_ℤ, pos, ℤ, ◌&&◌, ◌==◌, ◌||◌, ◌≤ℤ◌}
-use Rattle.std.proofs.Common.{Bool, List, [], ap, arith, false, inl, inr, length, map, refl, slice_index_or, subst, suc, sym, true, zero, ℕ, ◌+◌, ◌<◌, ◌∙◌}
-use Rattle.std.proofs.Common.{◌≡◌, ◌≤◌, ◌⊎◌}
-use Rattle.std.proofs.lemmas.Bool.Decides.{nat_tests}
-use Rattle.std.proofs.lemmas.Bool.{cases_Bool}
+use Rattle.std.proofs.Common.{Bool, List, [], ap, arith, false, length, map, refl, slice_index_or, subst, suc, sym, true, zero, ℕ, ◌+◌, ◌<◌, ◌∙◌}
+use Rattle.std.proofs.Common.{◌≡◌, ◌≤◌}
+use Rattle.bk_laws.proofs.NumberTests.{eq_test-same_of_equivalent, nat_eq-of_different}
+use Rattle.bk_laws.proofs.ListItems.{slice_index_or-map}
 use Rattle.bk_tiling.specs.Scale.{IsPrimitiveTiling}
 use Rattle.bk_tiling.specs.SquareGroups.{square_groups}
 use Rattle.bk_tiling.specs.Tiling.{IsOneOf, IsTiling, Tiling}
@@ -15,24 +15,23 @@ use Rattle.bk_net.specs.Net.{last_node}
 use Rattle.bk_word.specs.Outline.{start}
 use Rattle.bk_word.specs.Play.{IsComplete, numbers_from, outline_of}
 use Rattle.bk_word.specs.Word.{Word, order_of}
-use Rattle.bk_word_net.proofs.Shape.{hung_many}
+use Rattle.bk_word_net.proofs.Outlines.Shape.{hung_many}
 use Rattle.bk_word_net.specs.WordNet.{net_of_word}
-use Rattle.bk_layout.proofs.TilingFits.{a_tiling_has_a_layout}
-use Rattle.bk_layout.proofs.TilingSquares.{in_square}
+use Rattle.bk_layout.proofs.TilingLayouts.TilingFits.{a_tiling_has_a_layout}
+use Rattle.bk_layout.proofs.TilingLayouts.TilingSquares.{in_square}
 use Rattle.bk_layout.specs.TilingLayout.{node_above, square_of}
-use Rattle.bk_layout.proofs.CutByNodes.{as_many_sides}
-use Rattle.bk_layout.specs.LineNumbers.{lefts_of, sides_of}
-use Rattle.bk_layout.proofs.SignedWires.{ends_below, pair_is, square_below}
-use Rattle.bk_layout.proofs.SignedTotals.{finish_of, start_of}
+use Rattle.bk_layout.proofs.FreeCuts.CutByNodes.{as_many_sides}
+use Rattle.bk_layout.specs.LineNumbers.{lefts_of, square_lines}
+use Rattle.bk_layout.proofs.SignedWords.SignedWires.{ends_below, pair_is, square_below}
+use Rattle.bk_layout.proofs.Lists.SignedTotals.{finish_of, start_of}
 use Rattle.bk_layout.specs.SignedWord.{IsSignedWordOf}
-use Rattle.bk_layout.proofs.LayoutSides.{at_top, on_bottom}
+use Rattle.bk_layout.proofs.NormalImages.LayoutSides.{at_top, on_bottom}
 use Rattle.bk_layout.specs.Normal.{Counts, longest}
-use Rattle.bk_layout.proofs.NormalImages.{a_normal_word_has_settled_corners}
+use Rattle.bk_layout.proofs.NormalImages.ImagesToMeet.{a_normal_word_has_settled_corners}
 use Rattle.bk_layout.specs.NormalImage.{AreCornersSettled, IsMetByNormalWord}
 use Rattle.bk_layout.specs.WordNumbers.{counts_of_word}
 use Rattle.bk_found.proofs.Candidates.{current_is, last_is, left_is, right_is, square_is, the_candidate_is_the_tiling}
-use Rattle.bk_found.proofs.Leaves.{currents_many, edges_told, left_at, wires_are}
-use Rattle.bk_found.proofs.ToldSteps.{differ}
+use Rattle.bk_found.proofs.Leaves.{currents_many, edges_told, wires_are}
 use Rattle.bk_found.proofs.WordWires.{wire_later}
 use Rattle.bk_found.specs.Candidate.{IsCandidateOf, candidate_square, candidate_squares, line_place, right_edges}
 use Rattle.bk_found.specs.Placing.{edges_by_lefts}
@@ -71,21 +70,6 @@ longest_from test g f b zero same = refl
 longest_from test g f b (suc n) same = λ i. max (same b (omega arith) (omega arith) i)
     (longest_from test g f (b + 1) n (λ k lo hi. same k (omega arith) (omega arith)) i)
 
--- a test of equality tells whether numbers are equal
-both_equal : (a b c d : ℕ) → (a ≡ b → c ≡ d) → (c ≡ d → a ≡ b) → (a == b) ≡ (c == d)
-both_equal a b c d there back = cases (cases_Bool (a == b)) (cases_Bool (c == d))
-  where
-    equal : (x y : ℕ) → (x == y) ≡ true → x ≡ y
-    equal x y e = grind (arith, nat_tests)
-
-    tested : (x y : ℕ) → x ≡ y → (x == y) ≡ true
-    tested x y e = grind (arith, nat_tests)
-
-    cases : ((a == b) ≡ true) ⊎ ((a == b) ≡ false) → ((c == d) ≡ true) ⊎ ((c == d) ≡ false) → (a == b) ≡ (c == d)
-    cases (inl e) h = e ∙ sym (tested c d (there (equal a b e)))
-    cases (inr e) (inl h) = tested a b (back (equal c d h)) ∙ sym h
-    cases (inr e) (inr h) = e ∙ sym h
-
 -- the sides that a placed square touches
 abbrev pub contact_of : ℕ → ℕ → Square → Contact
 contact_of width height q = record { top = q.y == 0; bottom = q.y + q.s == height; left = q.x == 0; right = q.x + q.s == width }
@@ -96,8 +80,9 @@ NeedsTopOrBottom corner = (c : Contact) → c.top ≡ false → c.bottom ≡ fal
 
 module _ (t : Tiling) (w : Word) (f : Flow) (tiling : IsTiling t) (primitive : IsPrimitiveTiling t) (s : IsSignedWordOf t w)
     (flow : IsFlow (net_of_word w) f) (positive : pos 1 ≤ℤ f.total) (lowest : IsPrimitive f) (wide : f.total ≡ pos t.width)
-    (many : length (outline_of w).hung ≡ length t.squares) (long : length (sides_of w) ≡ length t.squares)
+    (many : length (outline_of w).hung ≡ length t.squares) (long : length (square_lines w) ≡ length t.squares)
     (currents_many : length f.currents ≡ length t.squares) where
+  -- the wires, currents, left and right lines, total and last node of a word with a flow
   abbrev pub lines : Lines
   lines = record {
     wires = (net_of_word w).wires;
@@ -128,8 +113,8 @@ module _ (t : Tiling) (w : Word) (f : Flow) (tiling : IsTiling t) (primitive : I
     same_node = s.net.node_apart.apart
 
     left_place : line_place f.total (right_edges w f) (slice_index_or (lefts_of w) k 0)
-        ≡ line_place f.total (right_edges w f) (slice_index_or (sides_of w) k (0, 1)).0
-    left_place = ap (line_place f.total (right_edges w f)) (left_at (sides_of w) k (0, 1) (omega (arith, h, long)))
+        ≡ line_place f.total (right_edges w f) (slice_index_or (square_lines w) k (0, 1)).0
+    left_place = ap (line_place f.total (right_edges w f)) (slice_index_or-map (λ (s : ℕ × ℕ). s.0) (square_lines w) k 0 (0, 1) (omega (arith, h, long)))
 
     in_tiling : IsOneOf (square_of t (s.square k)) t.squares
     in_tiling = in_square t tiling (s.square k) inside
@@ -157,11 +142,11 @@ module _ (t : Tiling) (w : Word) (f : Flow) (tiling : IsTiling t) (primitive : I
     turned_under e = (pair_is t tiling w s k h).1 ∙ ap (λ (b : Bool). s.node (finish_of b wire)) e
 
     top_told : s.turned (s.square k) ≡ false → (wire.0 == 0) ≡ (q.y == 0)
-    top_told e = both_equal wire.0 0 q.y 0 (λ z. (at_top t tiling q in_tiling).0 (above e ∙ ap s.node z ∙ s.net.first))
+    top_told e = eq_test-same_of_equivalent wire.0 0 q.y 0 (λ z. (at_top t tiling q in_tiling).0 (above e ∙ ap s.node z ∙ s.net.first))
         (λ z. same_node wire.0 0 below.0 some (sym (above e) ∙ (at_top t tiling q in_tiling).1 z ∙ sym s.net.first))
 
     bottom_told : s.turned (s.square k) ≡ false → (wire.1 == last_node (net_of_word w)) ≡ (q.y + q.s == t.height)
-    bottom_told e = both_equal wire.1 (last_node (net_of_word w)) (q.y + q.s) t.height
+    bottom_told e = eq_test-same_of_equivalent wire.1 (last_node (net_of_word w)) (q.y + q.s) t.height
         (λ z. (on_bottom t tiling q in_tiling).0 (under e ∙ ap s.node z ∙ bottom_is))
         (λ z. same_node wire.1 (last_node (net_of_word w)) below.1 last_below (sym (under e) ∙ (on_bottom t tiling q in_tiling).1 z ∙ sym bottom_is))
 
@@ -185,22 +170,22 @@ module _ (t : Tiling) (w : Word) (f : Flow) (tiling : IsTiling t) (primitive : I
 
     -- a turned square lies at neither end, nor is it told so
     no_top : s.turned (s.square k) ≡ true → (q.y == 0) ≡ false
-    no_top e = differ q.y 0 (λ z.
+    no_top e = nat_eq-of_different q.y 0 (λ z.
         let first : wire.1 ≡ 0 = same_node wire.1 0 below.1 some (sym (turned_above e) ∙ (at_top t tiling q in_tiling).1 z ∙ sym s.net.first) in
         omega (arith, first, later))
 
     no_bottom : s.turned (s.square k) ≡ true → (q.y + q.s == t.height) ≡ false
-    no_bottom e = differ (q.y + q.s) t.height (λ z.
+    no_bottom e = nat_eq-of_different (q.y + q.s) t.height (λ z.
         let last : wire.0 ≡ last_node (net_of_word w) =
         same_node wire.0 (last_node (net_of_word w)) below.0 last_below (sym (turned_under e) ∙ (on_bottom t tiling q in_tiling).1 z ∙ sym bottom_is) in
         omega (arith, last, later, below.1))
 
     no_top_told : s.turned (s.square k) ≡ true → (wire.0 == 0) ≡ false
-    no_top_told e = differ wire.0 0
+    no_top_told e = nat_eq-of_different wire.0 0
         (λ z. omega (arith, (((a_tiling_has_a_layout t tiling).0).nodes.ends_below (s.square k) inside).0, turned_under e ∙ ap s.node z ∙ s.net.first))
 
     no_bottom_told : s.turned (s.square k) ≡ true → (wire.1 == last_node (net_of_word w)) ≡ false
-    no_bottom_told e = differ wire.1 (last_node (net_of_word w))
+    no_bottom_told e = nat_eq-of_different wire.1 (last_node (net_of_word w))
         (λ z. omega (arith, ((a_tiling_has_a_layout t tiling).0).nodes.hangs_above (s.square k) inside, turned_above e ∙ ap s.node z ∙ bottom_is))
 
     side_is : (corner : Contact → Bool) → NeedsTopOrBottom corner → (b : Bool) → s.turned (s.square k) ≡ b
@@ -255,11 +240,12 @@ module _ (w : Word) (complete : IsComplete w) (few : order_of w ≤ 16) (total :
     wires = wires i;
     currents = currents_is i;
     lefts = lefts i;
-    rights = (rights ∙ edges_told total [] (sides_of w) currents) i;
+    rights = (rights ∙ edges_told total [] (square_lines w) currents) i;
     total = total_is i;
     last = last i;
   }
 
+  -- squares with the told ties and longest corners of a tiling met by a normal word can not all be unsettled
   pub never_lost : (t : Tiling) (ties : Ties) (width height : ℕ) (most : Longest) → IsMetByNormalWord t w → IsPrimitiveTiling t → width ≡ t.width
       → height ≡ t.height → AreLongestTold l (length l.wires) most → AreTiesOf (counts_of_word w) ties
       → ((c : Counts) (squares : List Square) → AreTiesOf c ties → AreLongest width height squares most → AreCornersSettled c width height squares → ⊥) → ⊥
@@ -296,7 +282,7 @@ module _ (w : Word) (complete : IsComplete w) (few : order_of w ≤ 16) (total :
       hung : length (outline_of w).hung ≡ length t.squares
       hung = omega (arith, hung_many start w, ((met.is_word).signed).order_is)
 
-      long : length (sides_of w) ≡ length t.squares
+      long : length (square_lines w) ≡ length t.squares
       long = as_many_sides w ∙ ((met.is_word).signed).order_is
 
       many : length currents ≡ length t.squares

@@ -12,7 +12,7 @@ use Rattle.bk_net.specs.Flow.{Flow}
 use Rattle.bk_word.specs.Play.{numbers_from}
 use Rattle.bk_word.specs.Word.{Word}
 use Rattle.bk_word_net.specs.WordNet.{net_of_word}
-use Rattle.bk_layout.specs.LineNumbers.{sides_of as sides_at}
+use Rattle.bk_layout.specs.LineNumbers.{square_lines as sides_at}
 use Rattle.bk_found.specs.Candidate.{candidate_square, candidate_squares, level_in, line_place, placed_square, right_edges}
 
 -- ---- squares put in order are the same squares

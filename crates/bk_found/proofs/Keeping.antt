@@ -4,7 +4,7 @@ use Rattle.std.proofs.Common.{suc, sym, take, zero, ℕ, ◌++◌, ◌+◌, ◌/
 use Rattle.std.proofs.lemmas.List.{take-append-drop}
 use Rattle.std.proofs.lemmas.List.Elements.{All-contains, All-from_recursion, Contains-append_cases, Contains-append_left}
 use Rattle.std.proofs.lemmas.List.Elements.{Contains-push, Contains-push_cases}
-use Rattle.bk_found.specs.Kept.{AreAscendingNumbers, HasMoreDifferent, Holds, IsKeptTable, Numbers}
+use Rattle.bk_found.specs.KeptNumbers.{AreAscendingNumbers, HasMoreDifferent, Holds, IsKeptTable, Numbers}
 use Rattle.bk_found.proofs.AscendingNumbers.{All, AreSame, IsNewPlace, all_from, all_join, all_map, all_one, all_same, from_place, least_below, long_one}
 use Rattle.bk_found.proofs.AscendingNumbers.{low_half, one_ascends, place_in, with_one}
 
@@ -97,9 +97,11 @@ put_again room t u x table same has limit = record {
 -- where as many different numbers are there as there is room for, and the upper half of them is dropped
 module _ (room : ℕ) (t : Numbers) (x : ℕ) (numbers : List ℕ) (table : IsKeptTable t) (ascend : AreAscendingNumbers numbers) (same : AreSame numbers t.kept)
     (full : room ≤ length numbers) (new : Contains numbers x → ⊥) where
+  -- half of how many numbers there are, rounded down
   abbrev pub half : ℕ
   half = length numbers / 2
 
+  -- the least number of the upper half
   abbrev pub least : ℕ
   least = slice_index numbers half
 
@@ -180,7 +182,7 @@ module _ (room : ℕ) (t : Numbers) (x : ℕ) (numbers : List ℕ) (table : IsKe
       which y (inl h) = inl (low_only y h)
       which y (inr e) = inr (sym e)
 
-  -- and dropped where it isn't
+  -- a number that isn't less than the least dropped one is dropped
   pub put_high : (u : Numbers) → least ≤ x → u.kept ≡ take half numbers → u.limit ≡ Some least → HoldsOneMore room t u x
   put_high u high kept limit = record {
     kept_table = halved_table u halved;
@@ -197,7 +199,7 @@ module _ (room : ℕ) (t : Numbers) (x : ℕ) (numbers : List ℕ) (table : IsKe
         limit = limit;
       }
 
--- the same numbers in another order
+-- a table of kept numbers stays one when its numbers are put in another order
 pub settled : (kept numbers : List ℕ) (limit : Option ℕ) → IsKeptTable (record { kept = kept; limit = limit }) → AreSame numbers kept
     → IsKeptTable (record { kept = numbers; limit = limit })
 settled kept numbers limit table same = record {

@@ -7,7 +7,7 @@ use Rattle.bk_word.specs.Word.{Move, Word, order_of, sign_place}
 use Rattle.bk_lay.specs.TilingWord.{IsWordOf}
 use Rattle.bk_lay.specs.Turning.{IsTurn, Turned}
 use Rattle.bk_lay.specs.declared.outline.Outline.{Outline}
-use Rattle.bk_found.specs.Laid.{HasDigitsOf}
+use Rattle.bk_found.specs.TilingDigits.{HasDigitsOf}
 use Rattle.bk_found.specs.Packed.{move_digits, word_digits}
 use Rattle.bk_found.proofs.WordDigits.{digits_join}
 
@@ -19,6 +19,7 @@ pub record HasTurned (t : Tiling) (o : Outline) (digits : List ℕ) : Type 0 whe
   pub few : order_of word ≤ length t.squares
   pub room : length digits ≤ 4 * order_of word
 
+-- before the first turn no digits are those of the moves so far
 pub not_begun : (t : Tiling) (o : Outline) (digits : List ℕ) → Turned t [] o → digits ≡ [] → HasTurned t o digits
 not_begun t o digits turned none = record { word = []; turned = turned; are = none; few = omega arith; room = omega (arith, ap length none) }
 
@@ -31,16 +32,18 @@ module _ (t : Tiling) (o p : Outline) (digits : List ℕ) (has : HasTurned t o d
   pub room_for_next : length t.squares ≤ 16 → length digits + length m.signs + 2 ≤ 64
   room_for_next few = omega (arith, few, has.room, turn.fits, turn.stands.some, turn.stands.most)
 
+  -- the move hangs a square
   pub some_count : 0 < m.count
   some_count = turn.stands.some
 
+  -- the digits of a move put behind others are as many as its signs and two
   pub as_long : length (digits ++ move_digits m) ≡ length digits + length m.signs + 2
   as_long = omega (arith, length-append digits (move_digits m), length-map m.signs sign_place)
 
   order_more : order_of (has.word ++ m ∷ []) ≡ order_of has.word + m.count
   order_more = omega (arith, sum_by-append (λ (m : Move). m.count) has.word (m ∷ []), sum_by-cons (λ (m : Move). m.count) m [])
 
-  -- and it is gone on with them
+  -- the digits of a move, put behind those so far, are those of one turn more
   pub turned_on : (more : List ℕ) → more ≡ digits ++ move_digits m → HasTurned t p more
   turned_on more is = record {
     word = has.word ++ m ∷ [];

@@ -20,8 +20,8 @@ use Rattle.bk_found.proofs.Leaves.{accepted_found, currents_many, currents_small
 use Rattle.bk_found.proofs.Leaves.{no_zero_found, nodes_few, sides_found, total_small, width_found, wires_are}
 use Rattle.bk_found.proofs.LevelSteps.{fits_small}
 use Rattle.bk_layout.specs.LineNumbers.{lefts_of}
-use Rattle.bk_layout.proofs.CutByNodes.{as_many_lefts}
-use Rattle.bk_found.specs.Placing.{AreKnownLines, AreLevels, AreSmall, EndWithin, HasLevels, IsPlacedAt, IsSmall, edges_by_lefts}
+use Rattle.bk_layout.proofs.FreeCuts.CutByNodes.{as_many_lefts}
+use Rattle.bk_found.specs.Placing.{AreKnownLines, AreLevels, AreSmallNumbers, EndWithin, HasLevels, IsPlacedAt, IsSmallNumber, edges_by_lefts}
 
 -- for each tiling in lowest terms of which the word is a signed one: this is its size, and these are its squares
 pub record IsLeafRun (w : Word) (width height : ℕ) (squares : List Square) : Type 0 where
@@ -31,7 +31,7 @@ pub record IsLeafRun (w : Word) (width height : ℕ) (squares : List Square) : T
   pub in_order : (t : Tiling) → IsTiling t → IsPrimitiveTiling t → IsSignedWordOf t w → in_code_order squares ≡ t.squares
 
 -- the level of the last node as the code holds it
-pub held_height : (levels : List ℤ) (from nodes height : ℕ) → ((v : ℕ) → v < 17 → IsSmall (16 * 2 ^ 34) (slice_index_or levels v (pos 0)))
+pub held_height : (levels : List ℤ) (from nodes height : ℕ) → ((v : ℕ) → v < 17 → IsSmallNumber (16 * 2 ^ 34) (slice_index_or levels v (pos 0)))
     → from ≡ nodes → nodes ≤ 17
     → height ≡ nat_abs (to_z w64 (of_z w64 (slice_index_or levels (from - 1) (pos 0)))) → height ≡ nat_abs (slice_index_or levels (nodes - 1) (pos 0))
 held_height levels from nodes height small same few e = e
@@ -41,15 +41,19 @@ held_height levels from nodes height small same few e = e
 
 -- a net that is the word's, and what its flow shows
 module _ (w : Word) (complete : IsComplete w) (few : order_of w ≤ 16) (net : Net) (net_is : net ≡ net_of_word w) where
+  -- a word's net has at most 16 wires
   pub net_few : length net.wires ≤ 16
   net_few = omega (arith, ap (λ (n : Net). length n.wires) net_is, wires_are w complete few, few)
 
+  -- a word's net has as many wires as the word has squares
   pub wires_many : length net.wires ≡ order_of w
   wires_many = ap (λ (n : Net). length n.wires) net_is ∙ wires_are w complete few
 
+  -- each node of a word's net is joined to the last
   pub net_joined : HasNoLoose net
   net_joined = subst HasNoLoose (sym net_is) (joined w complete few)
 
+  -- a word's net has at most 17 nodes
   pub net_nodes : net.nodes ≤ 17
   net_nodes = omega (arith, ap (λ (n : Net). n.nodes) net_is, nodes_few w complete few)
 
@@ -71,19 +75,19 @@ module _ (w : Word) (complete : IsComplete w) (few : order_of w ≤ 16) (net : N
     word_flow : IsPrimitiveFlow (net_of_word w) total currents
     word_flow = subst (λ (n : Net). IsPrimitiveFlow n total currents) net_is flow
 
-    pub small_total : IsSmall (2 ^ 34) total
+    pub small_total : IsSmallNumber (2 ^ 34) total
     small_total = total_small w complete few total currents word_flow
 
     -- the total as the code holds it
     pub held_total : to_z w64 (of_z w64 total) ≡ total
     held_total = to_z-of_z w64 total (fits_small (2 ^ 34) total small_total (omega arith))
 
-    pub held_small : IsSmall (2 ^ 34) (to_z w64 (of_z w64 total))
-    held_small = subst (λ (z : ℤ). IsSmall (2 ^ 34) z) (sym held_total) small_total
+    pub held_small : IsSmallNumber (2 ^ 34) (to_z w64 (of_z w64 total))
+    held_small = subst (λ (z : ℤ). IsSmallNumber (2 ^ 34) z) (sym held_total) small_total
 
     module _ (shown : List ℤ) (shown_is : shown ≡ currents) where
-      pub shown_small : AreSmall (2 ^ 34) shown
-      shown_small = subst (AreSmall (2 ^ 34)) (sym shown_is) (currents_small w complete few total currents word_flow)
+      pub shown_small : AreSmallNumbers (2 ^ 34) shown
+      shown_small = subst (AreSmallNumbers (2 ^ 34)) (sym shown_is) (currents_small w complete few total currents word_flow)
 
       pub shown_many : length shown ≡ order_of w
       shown_many = omega (arith, ap length shown_is, currents_many w complete few total currents word_flow, wires_are w complete few)

@@ -2,14 +2,16 @@
 use Rattle.std.specs.List.{AllByRecursion}
 use Rattle.std.specs.List.Sorted.{IsPermutation}
 use Rattle.std.specs.Prelude.{nat_abs, negsuc, pos, ℤ, ◌++◌, ◌+ℤ◌, ◌-ℤ◌, ◌≢◌}
-use Rattle.std.proofs.Common.{List, Some, [], ap, arith, length, map, refl, slice_get, slice_index_or, subst, suc, sym, zero, ℕ, ◌+◌, ◌-◌, ◌<◌, ◌^◌}
+use Rattle.std.proofs.Common.{List, Some, [], ap, arith, length, map, refl, slice_get, slice_index_or, subst, suc, sym, ℕ, ◌+◌, ◌-◌, ◌<◌, ◌^◌}
 use Rattle.std.proofs.Common.{◌∙◌, ◌∷◌, ◌≡◌, ◌≤◌}
 use Rattle.std.proofs.lemmas.Int.{ints}
 use Rattle.std.proofs.lemmas.List.{length-map}
 use Rattle.std.proofs.lemmas.Option.{get_or_from_slice_get, slice_get-get_or, slice_get_within}
+use Rattle.bk_laws.proofs.AllOfLists.{all-slice_index_or}
+use Rattle.bk_laws.proofs.ListItems.{slice_index_or-map}
 use Rattle.bk_tiling.proofs.Cells.{all_from, in_all}
 use Rattle.bk_tiling.specs.CodeOrder.{in_code_order}
-use Rattle.bk_tiling.specs.Kept.{IsSide}
+use Rattle.bk_tiling.specs.KeptTiling.{IsSide}
 use Rattle.bk_tiling.specs.Refusal.{IsAccepted}
 use Rattle.bk_tiling.specs.Scale.{IsPrimitiveTiling}
 use Rattle.bk_tiling.specs.Tiling.{IsOneOf, IsTiling, Tiles, Tiling, sides_of as sides_in, whole}
@@ -20,21 +22,21 @@ use Rattle.bk_word.proofs.PlayLaws.{moves_many}
 use Rattle.bk_word.specs.Outline.{start}
 use Rattle.bk_word.specs.Play.{IsComplete, numbers_from, outline_of}
 use Rattle.bk_word.specs.Word.{Word, order_of}
-use Rattle.bk_word_net.proofs.NoLoose.{a_word_net_has_no_loose, closed_count}
-use Rattle.bk_word_net.proofs.PlacesInLists.{index_of}
-use Rattle.bk_word_net.proofs.Shape.{hung_many}
-use Rattle.bk_word_net.proofs.WordTilings.{wires_many}
+use Rattle.bk_word_net.proofs.WordFlows.NoLoose.{a_word_net_has_no_loose, closed_count}
+use Rattle.bk_word_net.proofs.WordFlows.PlacesInLists.{index_of}
+use Rattle.bk_word_net.proofs.Outlines.Shape.{hung_many}
+use Rattle.bk_word_net.proofs.PlacedSquares.WordTilings.{wires_many}
 use Rattle.bk_word_net.specs.WordNet.{net_of_word}
-use Rattle.bk_layout.specs.LineNumbers.{lefts_of, sides_of}
-use Rattle.bk_layout.proofs.CutByNodes.{as_many_lefts}
-use Rattle.bk_layout.proofs.KnownLines.{known_lines}
+use Rattle.bk_layout.specs.LineNumbers.{lefts_of, square_lines}
+use Rattle.bk_layout.proofs.FreeCuts.CutByNodes.{as_many_lefts}
+use Rattle.bk_layout.proofs.FreeCuts.KnownLines.{known_lines}
 use Rattle.bk_layout.specs.SignedWord.{IsSignedWordOf}
 use Rattle.bk_found.proofs.Candidates.{the_candidate_is_the_tiling}
 use Rattle.bk_found.specs.Candidate.{IsCandidateOf, candidate_square, candidate_squares, level_in, line_place, placed_square, right_edges_from}
 use Rattle.bk_found.proofs.FoundSides.{magnitudes_are_sides}
-use Rattle.bk_found.proofs.SmallFlows.{flow_currents_small, flow_total_small, index_all}
+use Rattle.bk_found.proofs.SmallFlows.{flow_currents_small, flow_total_small}
 use Rattle.bk_found.proofs.WordWires.{last_end, word_levels}
-use Rattle.bk_found.specs.Placing.{AreKnownLines, AreLevels, AreSmall, EndWithin, HasLevels, IsPlacedAt, IsSmall, by_lefts, edges_by_lefts}
+use Rattle.bk_found.specs.Placing.{AreKnownLines, AreLevels, AreSmallNumbers, EndWithin, HasLevels, IsPlacedAt, IsSmallNumber, by_lefts, edges_by_lefts}
 
 by_index : (xs : List Square) (g : ℕ → Square) (b : ℕ) (d : Square) → ((k : ℕ) → k < length xs → slice_index_or xs k d ≡ g (b + k))
     → xs ≡ map g (numbers_from b (length xs))
@@ -47,11 +49,6 @@ by_index (x ∷ xs) g b d each = λ i. (each 0 (omega arith) ∙ ap g at) i ∷ 
     next : (k : ℕ) → b + suc k ≡ b + 1 + k
     next k = omega arith
 
-pub left_at : (sides : List (ℕ × ℕ)) (k : ℕ) (d : ℕ × ℕ) → k < length sides → slice_index_or (map (λ s. s.0) sides) k 0 ≡ (slice_index_or sides k d).0
-left_at [] k d h = absurd (omega arith)
-left_at (s ∷ sides) zero d h = refl
-left_at (s ∷ sides) (suc k) d h = left_at sides k d (omega arith)
-
 -- where squares end is told by the lines at their left
 pub edges_told : (total : ℤ) (rights : List ℤ) (sides : List (ℕ × ℕ)) (currents : List ℤ)
     → right_edges_from total rights (by_lefts (map (λ s. s.0) sides)) currents ≡ right_edges_from total rights sides currents
@@ -61,30 +58,35 @@ edges_told total rights (s ∷ sides) (c ∷ currents) = edges_told total (right
 
 -- the numbers of a complete word of at most 16 squares
 module _ (w : Word) (complete : IsComplete w) (few : order_of w ≤ 16) where
+  -- a word's net has as many wires as the word has squares
   pub wires_are : length (net_of_word w).wires ≡ order_of w
   wires_are = wires_many w
 
+  -- each node of a word's net is joined to the last
   pub joined : HasNoLoose (net_of_word w)
   joined = (a_word_net_has_no_loose w complete).1
 
+  -- a word's net has at most 17 nodes
   pub nodes_few : (net_of_word w).nodes ≤ 17
   nodes_few = omega (arith, few, closed_count start w, moves_many start w complete.legal)
 
+  -- the wires of a word's net end at nodes below 17
   pub ends_within : EndWithin 17 (net_of_word w).wires
   ends_within k h = let e = ((a_word_net_has_no_loose w complete).0).ends k (0, 0) h in (omega (arith, e.0, nodes_few), omega (arith, e.1, nodes_few))
 
+  -- the left lines of a word have known numbers
   pub lines_known : AreKnownLines (lefts_of w)
-  lines_known k h = subst (λ (n : ℕ). n < k + 2) (sym (left_at (sides_of w) k (0, 0) low))
-      (known_lines w k (slice_index_or (sides_of w) k (0, 0)) (slice_get-get_or (sides_of w) k (0, 0) low)).0
+  lines_known k h = subst (λ (n : ℕ). n < k + 2) (sym (slice_index_or-map (λ (s : ℕ × ℕ). s.0) (square_lines w) k 0 (0, 0) low))
+      (known_lines w k (slice_index_or (square_lines w) k (0, 0)) (slice_get-get_or (square_lines w) k (0, 0) low)).0
     where
-      low : k < length (sides_of w)
-      low = omega (arith, h, length-map (sides_of w) (λ s. s.0))
+      low : k < length (square_lines w)
+      low = omega (arith, h, length-map (square_lines w) (λ s. s.0))
 
   module _ (total : ℤ) (currents : List ℤ) (flow : IsPrimitiveFlow (net_of_word w) total currents) where
-    pub total_small : IsSmall (2 ^ 34) total
+    pub total_small : IsSmallNumber (2 ^ 34) total
     total_small = flow_total_small (net_of_word w) total currents (a_word_net_has_no_loose w complete).0 joined (omega (arith, wires_are, few)) flow
 
-    pub currents_small : AreSmall (2 ^ 34) currents
+    pub currents_small : AreSmallNumbers (2 ^ 34) currents
     currents_small = flow_currents_small (net_of_word w) total currents (a_word_net_has_no_loose w complete).0 joined (omega (arith, wires_are, few)) flow
 
     abbrev the_flow : Flow
@@ -110,7 +112,7 @@ module _ (w : Word) (complete : IsComplete w) (few : order_of w ≤ 16) where
       sides_found = magnitudes_are_sides t w (record { total = total; potentials = flow.0; currents = currents }) found.squares
 
       pub no_zero_found : (k : ℕ) → k < length currents → slice_index_or currents k (pos 1) ≡ pos 0 → ⊥
-      no_zero_found k h e = index_all (λ c. c ≢ pos 0) currents k (pos 1) found.some h e
+      no_zero_found k h e = all-slice_index_or (λ c. c ≢ pos 0) currents k (pos 1) found.some h e
 
     -- the levels are those of the flow
     module _ (levels : List ℤ) (right : (at : ℕ → ℤ) → AreLevels (net_of_word w).wires currents at → HasLevels (net_of_word w).wires at levels) where
@@ -136,13 +138,13 @@ module _ (w : Word) (complete : IsComplete w) (few : order_of w ≤ 16) where
           (many : length squares ≡ length (lefts_of w))
           (each : (k : ℕ) → k < length (lefts_of w)
           → IsPlacedAt (lefts_of w) (net_of_word w).wires currents levels rights total k (slice_index_or squares k (record { x = 0; y = 0; s = 0 }))) where
-        edges_are : rights ≡ right_edges_from total [] (sides_of w) currents
-        edges_are = edges ∙ edges_told total [] (sides_of w) currents
+        edges_are : rights ≡ right_edges_from total [] (square_lines w) currents
+        edges_are = edges ∙ edges_told total [] (square_lines w) currents
 
         one : (k : ℕ) → k < length (lefts_of w) → slice_index_or squares k (record { x = 0; y = 0; s = 0 })
             ≡ candidate_square w (record { total = total; potentials = flow.0; currents = currents }) k
         one k h = each k h ∙ (λ i. placed_square (line_place total (edges_are i)
-            (left_at (sides_of w) k (0, 1) (omega (arith, h, length-map (sides_of w) (λ s. s.0))) i))
+            (slice_index_or-map (λ (s : ℕ × ℕ). s.0) (square_lines w) k 0 (0, 1) (omega (arith, h, length-map (square_lines w) (λ s. s.0))) i))
             (slice_index_or (edges_are i) k (pos 0)) ((has k low).0 i) ((has k low).1 i) (slice_index_or currents k (pos 0)))
           where
             low : k < length (net_of_word w).wires
@@ -159,7 +161,7 @@ module _ (w : Word) (complete : IsComplete w) (few : order_of w ≤ 16) where
             from_zero k = omega arith
 
         module _ (t : Tiling) (tiling : IsTiling t) (lowest : IsPrimitiveTiling t) (s : IsSignedWordOf t w) where
-          side_small : (z : ℤ) (left right above below : ℤ) → IsSmall (2 ^ 34) z → (placed_square left right above below z).s ≤ 2 ^ 34
+          side_small : (z : ℤ) (left right above below : ℤ) → IsSmallNumber (2 ^ 34) z → (placed_square left right above below z).s ≤ 2 ^ 34
           side_small (pos n) left right above below small = omega (arith, ints, small.1)
           side_small (negsuc n) left right above below small = omega (arith, ints, small.0)
 

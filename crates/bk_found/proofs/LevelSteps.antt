@@ -10,27 +10,27 @@ use Rattle.std.proofs.lemmas.List.{get_or-map, get_or-set_other, get_or-set_same
 use Rattle.bk_laws.proofs.ListPlaces.{get_back, get_front}
 use Rattle.bk_tiling.specs.declared.Square.{Square}
 use Rattle.bk_found.specs.Candidate.{line_place, right_edges_from}
-use Rattle.bk_found.specs.Placing.{AreKnownLines, AreLevels, AreSmall, EndWithin, HasLevels, IsPlacedAt, IsSmall, by_lefts, edges_by_lefts}
+use Rattle.bk_found.specs.Placing.{AreKnownLines, AreLevels, AreSmallNumbers, EndWithin, HasLevels, IsPlacedAt, IsSmallNumber, by_lefts, edges_by_lefts}
 
 -- a sum of two small numbers is as small as both bounds together
-pub small_sum : (a b : ℕ) (x y z : ℤ) → IsSmall a x → IsSmall b y → z ≡ x +ℤ y → IsSmall (a + b) z
+pub small_sum : (a b : ℕ) (x y z : ℤ) → IsSmallNumber a x → IsSmallNumber b y → z ≡ x +ℤ y → IsSmallNumber (a + b) z
 small_sum a b x y z s t e = (omega (arith, ints, s.0, t.0, e), omega (arith, ints, s.1, t.1, e))
 
 -- a small number is small by a greater bound
-pub small_more : (a b : ℕ) (x : ℤ) → IsSmall a x → a ≤ b → IsSmall b x
+pub small_more : (a b : ℕ) (x : ℤ) → IsSmallNumber a x → a ≤ b → IsSmallNumber b x
 small_more a b x s h = (omega (arith, ints, s.0, h), omega (arith, ints, s.1, h))
 
 -- 0 is small
-pub small_zero : (a : ℕ) → IsSmall a (pos 0)
+pub small_zero : (a : ℕ) → IsSmallNumber a (pos 0)
 small_zero a = (omega (arith, ints), omega (arith, ints))
 
 -- a number of small magnitude is small
-pub small_from : (most : ℕ) (z : ℤ) → nat_abs z ≤ most → IsSmall most z
+pub small_from : (most : ℕ) (z : ℤ) → nat_abs z ≤ most → IsSmallNumber most z
 small_from most (pos n) h = (omega (arith, ints, h), omega (arith, ints, h))
 small_from most (negsuc n) h = (omega (arith, ints, h), omega (arith, ints, h))
 
 -- what is small fits 64 bits
-pub fits_small : (most : ℕ) (z : ℤ) → IsSmall most z → most ≤ 2 ^ 40 → FitsSigned w64 z
+pub fits_small : (most : ℕ) (z : ℤ) → IsSmallNumber most z → most ≤ 2 ^ 40 → FitsSigned w64 z
 fits_small most (pos n) s h = record { sfits = omega (arith, ints, s.1, h) }
 fits_small most (negsuc n) s h = record { sfits = omega (arith, ints, s.0, h) }
 
@@ -39,7 +39,7 @@ fits_small most (negsuc n) s h = record { sfits = omega (arith, ints, s.0, h) }
 -- the wires so far have given their ends a level, all small, and the right ones where the wires have levels
 pub record AreLevelled (wires : List (ℕ × ℕ)) (currents levels : List ℤ) (i : ℕ) : Type 0 where
   pub room : length levels ≡ 17
-  pub small : (v : ℕ) → v < 17 → IsSmall (i * 2 ^ 34) (slice_index_or levels v (pos 0))
+  pub small : (v : ℕ) → v < 17 → IsSmallNumber (i * 2 ^ 34) (slice_index_or levels v (pos 0))
   pub right : (at : ℕ → ℤ) → AreLevels wires currents at
       → (slice_index_or levels 0 (pos 0) ≡ at 0)
       × ((j : ℕ) → j < i → slice_index_or levels (slice_index_or wires j (0, 0)).1 (pos 0) ≡ at (slice_index_or wires j (0, 0)).1)
@@ -57,7 +57,7 @@ starts_right wires currents levels i levelled within at are k h low = from (are.
 
 -- one wire more: its end lies its current below its beginning
 pub levelled_more : (wires : List (ℕ × ℕ)) (currents levels : List ℤ) (i from to : ℕ) (level : ℤ) → AreLevelled wires currents levels i
-    → i < length wires → length currents ≡ length wires → EndWithin 17 wires → AreSmall (2 ^ 34) currents
+    → i < length wires → length currents ≡ length wires → EndWithin 17 wires → AreSmallNumbers (2 ^ 34) currents
     → from ≡ (slice_index_or wires i (0, 0)).0 → to ≡ (slice_index_or wires i (0, 0)).1
     → level ≡ slice_index_or levels from (pos 0) +ℤ slice_index_or currents i (pos 0)
     → AreLevelled wires currents (set levels to level) (i + 1)
@@ -79,14 +79,14 @@ levelled_more wires currents levels i from to level levelled within many ends sm
     new : (v : ℕ) → v ≡ to → slice_index_or (set levels to level) v (pos 0) ≡ level
     new v s = ap (λ (n : ℕ). slice_index_or (set levels to level) n (pos 0)) s ∙ get_or-set_same levels to level (pos 0) room
 
-    level_small : IsSmall ((i + 1) * 2 ^ 34) level
+    level_small : IsSmallNumber ((i + 1) * 2 ^ 34) level
     level_small = small_more (i * 2 ^ 34 + 2 ^ 34) ((i + 1) * 2 ^ 34) level
         (small_sum (i * 2 ^ 34) (2 ^ 34) (slice_index_or levels from (pos 0)) (slice_index_or currents i (pos 0)) level
         (levelled.small from start) (small i (omega (arith, within, many))) e) (omega arith)
 
-    small_at : (v : ℕ) → v < 17 → (v ≡ to) ⊎ (v ≡ to → ⊥) → IsSmall ((i + 1) * 2 ^ 34) (slice_index_or (set levels to level) v (pos 0))
-    small_at v h (inl s) = subst (λ (z : ℤ). IsSmall ((i + 1) * 2 ^ 34) z) (sym (new v s)) level_small
-    small_at v h (inr n) = subst (λ (z : ℤ). IsSmall ((i + 1) * 2 ^ 34) z) (sym (get_or-set_other levels to v level (pos 0) n))
+    small_at : (v : ℕ) → v < 17 → (v ≡ to) ⊎ (v ≡ to → ⊥) → IsSmallNumber ((i + 1) * 2 ^ 34) (slice_index_or (set levels to level) v (pos 0))
+    small_at v h (inl s) = subst (λ (z : ℤ). IsSmallNumber ((i + 1) * 2 ^ 34) z) (sym (new v s)) level_small
+    small_at v h (inr n) = subst (λ (z : ℤ). IsSmallNumber ((i + 1) * 2 ^ 34) z) (sym (get_or-set_other levels to v level (pos 0) n))
         (small_more (i * 2 ^ 34) ((i + 1) * 2 ^ 34) (slice_index_or levels v (pos 0)) (levelled.small v h) (omega arith))
 
     level_right : (at : ℕ → ℤ) → AreLevels wires currents at → level ≡ at to
@@ -122,13 +122,13 @@ levelled_all wires currents levels i levelled all at are k h = (from (are.begun 
 -- the right edges of the squares so far, all small, go on to those of all squares
 pub record AreEdges (lefts : List ℕ) (currents rights : List ℤ) (total : ℤ) (i : ℕ) : Type 0 where
   pub many : length rights ≡ i
-  pub small : (k : ℕ) → k < i → IsSmall ((i + 1) * 2 ^ 34) (slice_index_or rights k (pos 0))
+  pub small : (k : ℕ) → k < i → IsSmallNumber ((i + 1) * 2 ^ 34) (slice_index_or rights k (pos 0))
   pub rest : right_edges_from total rights (drop i (by_lefts lefts)) (drop i currents) ≡ edges_by_lefts total lefts currents
 
 -- a line lies at a small place
-pub place_small : (rights : List ℤ) (total : ℤ) (i line : ℕ) → IsSmall (2 ^ 34) total → length rights ≡ i
-    → ((k : ℕ) → k < i → IsSmall ((i + 1) * 2 ^ 34) (slice_index_or rights k (pos 0))) → line < i + 2
-    → IsSmall ((i + 1) * 2 ^ 34) (line_place total rights line)
+pub place_small : (rights : List ℤ) (total : ℤ) (i line : ℕ) → IsSmallNumber (2 ^ 34) total → length rights ≡ i
+    → ((k : ℕ) → k < i → IsSmallNumber ((i + 1) * 2 ^ 34) (slice_index_or rights k (pos 0))) → line < i + 2
+    → IsSmallNumber ((i + 1) * 2 ^ 34) (line_place total rights line)
 place_small rights total i zero small many each h = small_zero ((i + 1) * 2 ^ 34)
 place_small rights total i (suc zero) small many each h = small_more (2 ^ 34) ((i + 1) * 2 ^ 34) total small (omega arith)
 place_small rights total i (suc (suc k)) small many each h = each k (omega (arith, h))
@@ -136,7 +136,7 @@ place_small rights total i (suc (suc k)) small many each h = each k (omega (arit
 -- one square more: its right edge lies its current right of its left line
 pub edges_more : (lefts : List ℕ) (currents rights : List ℤ) (total : ℤ) (i : ℕ) (right : ℤ) → AreEdges lefts currents rights total i
     → i < length lefts → length currents ≡ length lefts
-    → AreKnownLines lefts → AreSmall (2 ^ 34) currents → IsSmall (2 ^ 34) total
+    → AreKnownLines lefts → AreSmallNumbers (2 ^ 34) currents → IsSmallNumber (2 ^ 34) total
     → right ≡ line_place total rights (slice_index_or lefts i 0) +ℤ slice_index_or currents i (pos 0)
     → AreEdges lefts currents (rights ++ right ∷ []) total (i + 1)
 edges_more lefts currents rights total i right edges within long known small total_small e = record {
@@ -158,16 +158,17 @@ edges_more lefts currents rights total i right edges within long known small tot
     line : (slice_index_or (by_lefts lefts) i (0, 0)).0 ≡ slice_index_or lefts i 0
     line = ap (λ (s : ℕ × ℕ). s.0) (get_or-map {X = ℕ} {Y = ℕ × ℕ} (λ f. (f, 0)) lefts i 0 (0, 0) within)
 
-    right_small : IsSmall ((i + 1 + 1) * 2 ^ 34) right
+    right_small : IsSmallNumber ((i + 1 + 1) * 2 ^ 34) right
     right_small = small_more ((i + 1) * 2 ^ 34 + 2 ^ 34) ((i + 1 + 1) * 2 ^ 34) right
         (small_sum ((i + 1) * 2 ^ 34) (2 ^ 34) (line_place total rights (slice_index_or lefts i 0)) (slice_index_or currents i (pos 0)) right
         (place_small rights total i (slice_index_or lefts i 0) total_small edges.many edges.small (known i within))
         (small i (omega (arith, within, long))) e) (omega arith)
 
-    small_at : (k : ℕ) → k < i + 1 → (k < i) ⊎ (i ≤ k) → IsSmall ((i + 1 + 1) * 2 ^ 34) (slice_index_or (rights ++ right ∷ []) k (pos 0))
-    small_at k h (inl l) = subst (λ (z : ℤ). IsSmall ((i + 1 + 1) * 2 ^ 34) z) (sym (get_front rights (right ∷ []) k (pos 0) (omega (arith, l, edges.many))))
+    small_at : (k : ℕ) → k < i + 1 → (k < i) ⊎ (i ≤ k) → IsSmallNumber ((i + 1 + 1) * 2 ^ 34) (slice_index_or (rights ++ right ∷ []) k (pos 0))
+    small_at k h (inl l) =
+        subst (λ (z : ℤ). IsSmallNumber ((i + 1 + 1) * 2 ^ 34) z) (sym (get_front rights (right ∷ []) k (pos 0) (omega (arith, l, edges.many))))
         (small_more ((i + 1) * 2 ^ 34) ((i + 1 + 1) * 2 ^ 34) (slice_index_or rights k (pos 0)) (edges.small k l) (omega arith))
-    small_at k h (inr l) = subst (λ (z : ℤ). IsSmall ((i + 1 + 1) * 2 ^ 34) z)
+    small_at k h (inr l) = subst (λ (z : ℤ). IsSmallNumber ((i + 1 + 1) * 2 ^ 34) z)
         (sym (get_back rights (right ∷ []) 0 k (pos 0) (omega (arith, l, h, edges.many)))) right_small
 
 -- ---- squares

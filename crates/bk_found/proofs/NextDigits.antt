@@ -10,7 +10,7 @@ use Rattle.bk_word.specs.declared.Sign.{Sign}
 use Rattle.bk_word.specs.declared.Sign.TheVariants.{Above, Even, Under}
 use Rattle.bk_word.proofs.WordCuts.{legal_at}
 use Rattle.bk_found.specs.Packed.{digit_at, move_digits, word_digits}
-use Rattle.bk_found.specs.Reading.{HasDigits}
+use Rattle.bk_found.specs.ReadMoves.{HasDigits}
 use Rattle.bk_found.proofs.ReadMoves.{has_behind, has_both}
 use Rattle.bk_found.proofs.WordDigits.{digits_next, digits_room, few_digits}
 
@@ -18,6 +18,7 @@ use Rattle.bk_found.proofs.WordDigits.{digits_next, digits_room, few_digits}
 abbrev pub move_at : Word → ℕ → Move
 move_at w i = slice_index_or w i (record { count = 0; signs = [] })
 
+-- a word has a move at each place before its end
 pub there : (w : Word) (i : ℕ) → i < length w → slice_get w i ≡ Some (move_at w i)
 there w i within = slice_get-get_or w i (record { count = 0; signs = [] }) within
 
@@ -28,6 +29,7 @@ pub record IsMoveAt (w : Word) (i : ℕ) : Type 0 where
   pub room : length (word_digits (take i w)) + length (move_at w i).signs + 2 ≤ 64
   pub next : word_digits (take (i + 1) w) ≡ word_digits (take i w) ++ move_digits (move_at w i)
 
+-- each move of a legal word of at most 16 squares hangs a square, its digits behind those before
 pub move_is_at : (w : Word) (i : ℕ) → IsLegal w → order_of w ≤ 16 → i < length w → IsMoveAt w i
 move_is_at w i legal few within = record {
   at = here;
@@ -60,6 +62,7 @@ has_next number place w i m e has more = subst (HasDigits number 0) (sym m.next)
     same : place ≡ 0 + length (word_digits (take i w))
     same = omega (arith, e)
 
+-- a number with the digits of a word's first moves has, from its place, those of the last of these moves
 pub has_at : (number place : ℕ) (w : Word) (i : ℕ) → IsMoveAt w i → place ≡ length (word_digits (take i w)) → HasDigits number 0 (word_digits (take (i + 1) w))
     → HasDigits number place (move_digits (move_at w i))
 has_at number place w i m e has = subst (λ p. HasDigits number p (move_digits (move_at w i))) same
@@ -89,7 +92,7 @@ made_count number place a b m e f some has =
     let second : digit_at number (place + 1) ≡ (m.count - 1) % 4 = has 1 (omega arith) in
     omega (arith, e, f, first, second)
 
--- and the signs
+-- the signs that a number has behind the count of a move
 pub made_signs : (number place : ℕ) (m : Move) → HasDigits number place (move_digits m) → HasDigits number (place + 2) (map sign_place m.signs)
 made_signs number place m has k low =
     let h : place + 2 + k ≡ place + suc (suc k) = omega arith in ap (digit_at number) h ∙ has (suc (suc k)) (omega (arith, low))

@@ -10,11 +10,11 @@ use Rattle.bk_tiling.specs.CodeOrder.{in_code_order}
 use Rattle.bk_tiling.specs.Tiling.{IsOneOf, IsTiling, IsWithin, Tiles, Tiling, covers, whole}
 use Rattle.bk_tiling.specs.declared.Square.{Square}
 use Rattle.bk_word.specs.Play.{numbers_from}
-use Rattle.bk_layout.proofs.Edges.{IsOn, meet}
-use Rattle.bk_layout.proofs.TilingSquares.{in_square}
+use Rattle.bk_layout.proofs.TilingLayouts.Edges.{IsOn, meet}
+use Rattle.bk_layout.proofs.TilingLayouts.TilingSquares.{in_square}
 use Rattle.bk_layout.specs.TilingLayout.{square_of}
-use Rattle.bk_layout.proofs.NumberedLists.{numbers_length}
-use Rattle.bk_layout.proofs.Totals.{renumbered, total_from}
+use Rattle.bk_layout.proofs.Lists.NumberedLists.{numbers_length}
+use Rattle.bk_layout.proofs.Lists.Totals.{renumbered, total_from}
 
 count_numbers : (p : Square → Bool) (f : ℕ → Square) (b n : ℕ) → count_by p (map f (numbers_from b n)) ≡ total_from (λ k. cond {A = ℕ} (p (f k)) 1 0) b n
 count_numbers p f b zero = refl
@@ -72,7 +72,7 @@ module _ (t : Tiling) (tiling : IsTiling t) (square : ℕ → ℕ) (below : (k :
   first_cell : (q : Square) → IsOneOf q t.squares → covers q.x q.y q ≡ true
   first_cell q h = covers_from q.x q.y q (omega arith) (omega (arith, side_of t tiling q h)) (omega arith) (omega (arith, side_of t tiling q h))
 
-  -- and each of the tiling is among them
+  -- each square of the tiling is one of the others
   pub in_other : (q : Square) → IsOneOf q t.squares → IsOneOf q other
   in_other q h = from (counted_one (covers q.x q.y) other (omega (arith, counts (covers q.x q.y), one_counted (covers q.x q.y) t.squares q h (first_cell q h))))
     where
@@ -93,7 +93,7 @@ module _ (t : Tiling) (tiling : IsTiling t) (square : ℕ → ℕ) (below : (k :
   other_in_order = same_members (in_code_order other) t.squares (ordered other (λ q h. side_of t tiling q (of_other q h)) once)
       tiling.ordered (λ q h. of_other q (from_order other q h)) (λ q h. in_order other q (in_other q h))
 
-  -- and they tile the whole rectangle
+  -- the other squares tile the whole rectangle
   pub other_tiles : Tiles (whole t) other
   other_tiles = record {
     some = omega (arith, tiling.tiles.some, numbers_length {A = Square} (λ k. square_of t (square k)) 0 (length t.squares));

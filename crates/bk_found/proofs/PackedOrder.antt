@@ -10,6 +10,8 @@ use Rattle.std.proofs.Common.{List, [], ap, arith, inl, inr, length, length-appe
 use Rattle.std.proofs.Common.{◌∷◌, ◌≡◌, ◌≤◌, ◌⊎◌, ◌↔◌}
 use Rattle.std.proofs.lemmas.List.{length-map}
 use Rattle.bk_laws.proofs.AllOfLists.{all_append}
+use Rattle.bk_laws.proofs.NumberOrder.{lt_or_eq_or_gt}
+use Rattle.bk_laws.proofs.Orderings.{lt-from_nat_cmp, nat_cmp-first_digit_decides, nat_cmp-pred, ordering_then-assoc}
 use Rattle.bk_word.specs.Outline.{IsLegalMove, Outline, start}
 use Rattle.bk_word.specs.Play.{AreLegalFrom, after_move}
 use Rattle.bk_word.specs.Word.{Follows, Move, Word, move_cmp, order_of, sign_cmp, sign_place, word_cmp}
@@ -19,8 +21,7 @@ use Rattle.bk_found.specs.Packed.{AreDigits, begun_by, packed, word_digits}
 use Rattle.bk_found.specs.PackedLaws.{PackedPlacesCompare, PackedWordsCompare}
 use Rattle.bk_word.proofs.PlayLaws.{few_signs}
 use Rattle.bk_word.proofs.WordOrder.{move_same}
-use Rattle.bk_word.proofs.StoredOrder.{then_then}
-use Rattle.bk_found.proofs.BaseFour.{three, begun-cons, digits_small, first_decides}
+use Rattle.bk_found.proofs.BaseFour.{begun-cons, digits_small}
 use Rattle.bk_found.proofs.WordDigits.{signs_digits, count_digits, few_digits, are_digits, low_counts}
 
 -- signs of one number, and digits behind them
@@ -35,26 +36,19 @@ signs_decide zero (s ∷ ss) (t ∷ ts) ds es e digits digits_e few few_e = absu
 signs_decide (suc room) (s ∷ ss) (t ∷ ts) ds es e digits digits_e few few_e =
     ap (λ z. nat_cmp z (begun_by (suc room) (sign_place t ∷ map sign_place ts ++ es))) (begun-cons room (sign_place s) (map sign_place ss ++ ds))
     ∙ ap (nat_cmp (sign_place s * 4 ^ room + begun_by room (map sign_place ss ++ ds))) (begun-cons room (sign_place t) (map sign_place ts ++ es))
-    ∙ first_decides (sign_place s) (sign_place t) (4 ^ room) (begun_by room (map sign_place ss ++ ds)) (begun_by room (map sign_place ts ++ es))
+    ∙ nat_cmp-first_digit_decides (sign_place s) (sign_place t) (4 ^ room) (begun_by room (map sign_place ss ++ ds)) (begun_by room (map sign_place ts ++ es))
     (digits_small room (map sign_place ss ++ ds) (all_append (λ d. d < 4) (map sign_place ss) ds (signs_digits ss) digits) (few_digits ss ds few))
     (digits_small room (map sign_place ts ++ es) (all_append (λ d. d < 4) (map sign_place ts) es (signs_digits ts) digits_e) (few_digits ts es few_e))
     ∙ ap (ordering_then (sign_cmp s t)) (signs_decide room ss ts ds es (omega arith) digits digits_e (omega arith) (omega arith)
     ∙ ap (λ r. ordering_then (slice_cmp sign_cmp ss ts) (nat_cmp (begun_by r ds) (begun_by r es))) shorter)
-    ∙ sym (then_then (sign_cmp s t) (slice_cmp sign_cmp ss ts) (nat_cmp (begun_by (suc room - length (s ∷ ss)) ds) (begun_by (suc room - length (s ∷ ss)) es)))
+    ∙ sym (ordering_then-assoc (sign_cmp s t) (slice_cmp sign_cmp ss ts)
+    (nat_cmp (begun_by (suc room - length (s ∷ ss)) ds) (begun_by (suc room - length (s ∷ ss)) es)))
   where
     few_digits : (xs : List Sign) (fs : List ℕ) → suc (length xs) + length fs ≤ suc room → length (map sign_place xs ++ fs) ≤ room
     few_digits xs fs h = omega (arith, length-append (map sign_place xs) fs, length-map xs sign_place)
 
     shorter : room - length ss ≡ suc room - length (s ∷ ss)
     shorter = omega arith
-
-count_cmp : (x y : ℕ) → 0 < x → 0 < y → nat_cmp (x - 1) (y - 1) ≡ nat_cmp x y
-count_cmp x y some some_y = cases (three x y)
-  where
-    cases : (x < y) ⊎ ((x ≡ y) ⊎ (y < x)) → nat_cmp (x - 1) (y - 1) ≡ nat_cmp x y
-    cases (inl h) = sym (nat_cmp_is (x - 1) (y - 1) Less (omega arith)) ∙ nat_cmp_is x y Less h
-    cases (inr (inl h)) = sym (nat_cmp_is (x - 1) (y - 1) Equal (omega arith)) ∙ nat_cmp_is x y Equal h
-    cases (inr (inr h)) = sym (nat_cmp_is (x - 1) (y - 1) Greater (omega arith)) ∙ nat_cmp_is x y Greater h
 
 as_many_signs : (o : Outline) (m n : Move) → IsLegalMove o m → IsLegalMove o n → m.count ≡ n.count → length m.signs ≡ length n.signs
 as_many_signs o m n legal legal_n e = omega (arith, legal.signs, legal_n.signs)
@@ -88,9 +82,9 @@ by_counts room m n v w r some some_n small small_n e =
     ap (λ z. nat_cmp z (begun_by (suc (suc room)) (word_digits (n ∷ w)))) (count_digits room m.count (map sign_place m.signs ++ word_digits v))
     ∙ ap (nat_cmp ((m.count - 1) * 4 ^ room + begun_by room (map sign_place m.signs ++ word_digits v)))
     (count_digits room n.count (map sign_place n.signs ++ word_digits w))
-    ∙ first_decides (m.count - 1) (n.count - 1) (4 ^ room) (begun_by room (map sign_place m.signs ++ word_digits v))
+    ∙ nat_cmp-first_digit_decides (m.count - 1) (n.count - 1) (4 ^ room) (begun_by room (map sign_place m.signs ++ word_digits v))
     (begun_by room (map sign_place n.signs ++ word_digits w)) small small_n
-    ∙ ap (λ z. ordering_then z (tails_cmp room m n v w)) (count_cmp m.count n.count some some_n)
+    ∙ ap (λ z. ordering_then z (tails_cmp room m n v w)) (nat_cmp-pred m.count n.count some some_n)
     ∙ e
 
 -- unlike counts decide the moves too
@@ -113,7 +107,7 @@ first_moves_decide : (o : Outline) (m n : Move) (v w : Word) (room : ℕ) → Ar
     ≡ ordering_then (move_cmp m n) (behind room m v w)
 first_moves_decide o m n v w room legal legal_w few few_w low low_w =
     by_counts room m n v w (ordering_then (move_cmp m n) (behind room m v w)) legal.0.some legal_w.0.some (digits_low o m v room legal few low)
-    (digits_low o n w room legal_w few_w low_w) (cases (three m.count n.count))
+    (digits_low o n w room legal_w few_w low_w) (cases (lt_or_eq_or_gt m.count n.count))
   where
     cases : (m.count < n.count) ⊎ ((m.count ≡ n.count) ⊎ (n.count < m.count))
         → ordering_then (nat_cmp m.count n.count) (tails_cmp room m n v w) ≡ ordering_then (move_cmp m n) (behind room m v w)
@@ -125,7 +119,7 @@ first_moves_decide o m n v w room legal legal_w few few_w low low_w =
         (omega (arith, few, few_signs o m legal.0, legal.0.some, few_digits (after_move o m) v legal.1, order_more m v))
         (omega (arith, few_w, few_signs o n legal_w.0, legal_w.0.some, few_digits (after_move o n) w legal_w.1, order_more n w))
         )
-        ∙ sym (then_then (nat_cmp m.count n.count) (slice_cmp sign_cmp m.signs n.signs) (behind room m v w))
+        ∙ sym (ordering_then-assoc (nat_cmp m.count n.count) (slice_cmp sign_cmp m.signs n.signs) (behind room m v w))
 
 -- what the rest of two words has to tell where their first moves are equal
 record IsRest (o : Outline) (m n : Move) (v w : Word) (room : ℕ) : Type 0 where
@@ -162,20 +156,6 @@ words_compare o (m ∷ v) (n ∷ w) (suc (suc room)) legal legal_w e few low low
 
 -- ---- words of which one may hang fewer squares
 
-less_means : (x y : ℕ) → nat_cmp x y ≡ Less → x < y
-less_means x y e = cases (three x y)
-  where
-    equal : Equal ≡ Less → ⊥
-    equal f = cc
-
-    more : Greater ≡ Less → ⊥
-    more f = cc
-
-    cases : (x < y) ⊎ ((x ≡ y) ⊎ (y < x)) → x < y
-    cases (inl h) = h
-    cases (inr (inl h)) = absurd (equal (nat_cmp_is x y Equal h ∙ e))
-    cases (inr (inr h)) = absurd (more (nat_cmp_is x y Greater h ∙ e))
-
 none_below : (w : Word) → word_cmp w [] ≡ Less → ⊥
 none_below [] e = cc
 none_below (m ∷ w) e = cc
@@ -194,7 +174,7 @@ places_compare : (o : Outline) (place w : Word) (room : ℕ) → AreLegalFrom o 
     → 4 * order_of w ≤ room → AllByRecursion (λ m. m.count ≤ 16) place → AllByRecursion (λ m. m.count ≤ 16) w
     → AreLessAlike (nat_cmp (begun_by room (word_digits w)) (begun_by room (word_digits place))) (word_cmp w place)
 places_compare o [] w room legal legal_w e few low low_w =
-    (λ f. absurd (omega (arith, less_means (begun_by room (word_digits w)) 0 f)), λ f. absurd (none_below w f))
+    (λ f. absurd (omega (arith, lt-from_nat_cmp (begun_by room (word_digits w)) 0 f)), λ f. absurd (none_below w f))
 places_compare o (m ∷ place) [] room legal legal_w e few low low_w = absurd (omega (arith, e, order_more m place, legal.0.some))
 places_compare o (m ∷ place) (n ∷ w) zero legal legal_w e few low low_w = absurd (omega (arith, few, order_more n w, legal_w.0.some))
 places_compare o (m ∷ place) (n ∷ w) (suc zero) legal legal_w e few low low_w = absurd (omega (arith, few, order_more n w, legal_w.0.some))
@@ -232,4 +212,4 @@ packed_places_compare place w legal legal_w e few = (not_greater, no_less)
         cases (inr h) = h
 
     no_less : packed place ≤ packed w → Follows place w → ⊥
-    no_less h f = omega (arith, h, less_means (packed w) (packed place) (alike.1 f))
+    no_less h f = omega (arith, h, lt-from_nat_cmp (packed w) (packed place) (alike.1 f))

@@ -5,23 +5,14 @@ use Rattle.std.proofs.Common.{zero, ℕ, ◌++◌, ◌+◌, ◌<◌, ◌∙◌, 
 use Rattle.std.proofs.lemmas.Bool.{cases_lt}
 use Rattle.std.proofs.lemmas.Int.{ints}
 use Rattle.std.proofs.lemmas.List.{length-append}
+use Rattle.bk_laws.proofs.ListItems.{slice_index_or-snoc_last}
+use Rattle.bk_laws.proofs.ListPlaces.{get_front}
 use Rattle.bk_tiling.specs.Tiling.{Tiling}
 use Rattle.bk_word.specs.Play.{numbers_from}
 use Rattle.bk_layout.specs.TilingLayout.{square_of}
 use Rattle.bk_found.specs.Candidate.{line_place, right_edges_from}
 use Rattle.bk_layout.specs.SignedFlow.{signed_side}
 use Rattle.bk_layout.specs.SignedWord.{left_edge, line_column, right_edge}
-
-index_old : (rs : List ℤ) (x : ℤ) (k : ℕ) (d : ℤ) → k < length rs → slice_index_or (rs ++ x ∷ []) k d ≡ slice_index_or rs k d
-index_old [] x k d h = absurd (omega arith)
-index_old (r ∷ rs) x zero d h = refl
-index_old (r ∷ rs) x (suc k) d h = index_old rs x k d (omega arith)
-
-index_new : (rs : List ℤ) (x : ℤ) (k : ℕ) (d : ℤ) → k ≡ length rs → slice_index_or (rs ++ x ∷ []) k d ≡ x
-index_new [] x zero d e = refl
-index_new [] x (suc k) d e = absurd (omega (arith, e))
-index_new (r ∷ rs) x zero d e = absurd (omega (arith, e))
-index_new (r ∷ rs) x (suc k) d e = index_new rs x k d (omega (arith, e))
 
 module _ (t : Tiling) (turned : ℕ → Bool) (square : ℕ → ℕ) where
   -- the column of the right edge, as the word takes it, of the square at place k
@@ -57,8 +48,8 @@ module _ (t : Tiling) (turned : ℕ → Bool) (square : ℕ → ℕ) where
       each k h = cases (cases_lt k b)
         where
           cases : (k < b) ⊎ (b ≤ k) → slice_index_or (rs ++ x ∷ []) k (pos 0) ≡ pos (ends_at k)
-          cases (inl l) = index_old rs x k (pos 0) (omega (arith, l, right.many)) ∙ right.each k l
-          cases (inr l) = let same : b ≡ k = omega arith in index_new rs x k (pos 0) (omega (arith, same, right.many)) ∙ edge
+          cases (inl l) = get_front rs (x ∷ []) k (pos 0) (omega (arith, l, right.many)) ∙ right.each k l
+          cases (inr l) = let same : b ≡ k = omega arith in slice_index_or-snoc_last rs x k (pos 0) (omega (arith, same, right.many)) ∙ edge
               ∙ ap (λ (i : ℕ). pos (ends_at i)) same
 
   -- from square to square the right edges are those of the tiling's squares

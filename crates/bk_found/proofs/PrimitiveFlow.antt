@@ -1,11 +1,13 @@
 -- The signed flow of a tiling in lowest terms is primitive; flows with the same currents have the same levels.
-use Rattle.std.specs.Prelude.{nat_abs, neg_ℤ, pos, ℤ, ◌-ℤ◌}
-use Rattle.std.proofs.Common.{Bool, List, [], arith, cond, false, length, map, refl, slice_index_or, subst, suc, sym, true, zero, ℕ, ◌*◌, ◌+◌, ◌/◌}
-use Rattle.std.proofs.Common.{◌<◌, ◌∙◌, ◌∷◌, ◌≡◌}
+use Rattle.std.specs.Prelude.{nat_abs, ℤ, ◌-ℤ◌}
+use Rattle.std.proofs.Common.{arith, length, map, subst, sym, ℕ, ◌*◌, ◌+◌, ◌/◌}
+use Rattle.std.proofs.Common.{◌<◌, ◌∙◌, ◌≡◌}
 use Rattle.std.proofs.Math.Nat.{mul-div_cancel'}
 use Rattle.std.proofs.lemmas.Int.{ints}
 use Rattle.std.proofs.lemmas.List.Elements.{recursion_from_All}
 use Prim.Native.Nat.{◌∣◌}
+use Rattle.bk_laws.proofs.ListItems.{slice_index_or-same_drops}
+use Rattle.bk_laws.proofs.Magnitudes.{abs-signed}
 use Rattle.bk_tiling.proofs.Cells.{all_from}
 use Rattle.bk_tiling.specs.Scale.{IsPrimitiveTiling}
 use Rattle.bk_tiling.specs.Tiling.{IsOneOf, IsTiling, Tiling}
@@ -16,15 +18,10 @@ use Rattle.bk_word.specs.Word.{Word}
 use Rattle.bk_layout.specs.TilingLayout.{square_of}
 use Rattle.bk_found.proofs.OtherOrder.{in_other, number_in}
 use Rattle.bk_found.specs.Candidate.{level_in}
-use Rattle.bk_layout.proofs.NumberedLists.{at_number}
-use Rattle.bk_layout.proofs.SignedWires.{square_apart, square_below}
+use Rattle.bk_layout.proofs.Lists.NumberedLists.{at_number}
+use Rattle.bk_layout.proofs.SignedWords.SignedWires.{square_apart, square_below}
 use Rattle.bk_layout.specs.SignedFlow.{signed_flow, signed_side}
 use Rattle.bk_layout.specs.SignedWord.{IsSignedWordOf}
-
-magnitude : (b : Bool) (n : ℕ) → nat_abs (cond {A = ℤ} b (neg_ℤ (pos n)) (pos n)) ≡ n
-magnitude true zero = refl
-magnitude true (suc n) = refl
-magnitude false n = refl
 
 module _ (t : Tiling) (tiling : IsTiling t) (primitive : IsPrimitiveTiling t) (w : Word) (s : IsSignedWordOf t w) where
   side_of_other : (d : ℕ) → ((k : ℕ) → k < length t.squares → d ∣ (square_of t (s.square k)).s) → (q : Square) → IsOneOf q t.squares → (m : ℕ) × (q.s ≡ d * m)
@@ -39,18 +36,11 @@ module _ (t : Tiling) (tiling : IsTiling t) (primitive : IsPrimitiveTiling t) (w
   signed_flow_is_primitive d total currents = omega (arith, primitive d (all_from (λ q. (m : ℕ) × (q.s ≡ d * m)) t.squares (side_of_other d each)))
     where
       each : (k : ℕ) → k < length t.squares → d ∣ (square_of t (s.square k)).s
-      each k h = subst (λ (n : ℕ). d ∣ n) (magnitude (s.turned (s.square k)) (square_of t (s.square k)).s)
+      each k h = subst (λ (n : ℕ). d ∣ n) (abs-signed (s.turned (s.square k)) (square_of t (s.square k)).s)
           (at_number {A = ℤ} (λ c. d ∣ nat_abs c) (λ k. signed_side t s.turned (s.square k)) 0 (length t.squares) k
           (recursion_from_All (λ c. d ∣ nat_abs c) (signed_flow t w s).currents currents) (omega arith) (omega arith))
 
 -- ---- levels by currents
-
-same_drop : (f g : ℕ → ℤ) (wires : List (ℕ × ℕ)) (k : ℕ) (d : ℕ × ℕ)
-    → map (λ (w : ℕ × ℕ). f w.0 -ℤ f w.1) wires ≡ map (λ (w : ℕ × ℕ). g w.0 -ℤ g w.1) wires → k < length wires
-    → f (slice_index_or wires k d).0 -ℤ f (slice_index_or wires k d).1 ≡ g (slice_index_or wires k d).0 -ℤ g (slice_index_or wires k d).1
-same_drop f g [] k d e h = absurd (omega arith)
-same_drop f g (w ∷ wires) zero d e h = cc
-same_drop f g (w ∷ wires) (suc k) d e h = same_drop f g wires k d (cc) (omega arith)
 
 module _ (net : Net) (f g : Flow) (flow : IsFlow net f) (other : IsFlow net g) (same : f.currents ≡ g.currents) where
   drops : map (λ (w : ℕ × ℕ). potential f w.0 -ℤ potential f w.1) net.wires ≡ map (λ (w : ℕ × ℕ). potential g w.0 -ℤ potential g w.1) net.wires
@@ -62,14 +52,14 @@ module _ (net : Net) (f g : Flow) (flow : IsFlow net f) (other : IsFlow net g) (
     arith,
     ints,
     subst (λ (e : ℕ × ℕ). potential f e.0 -ℤ potential f e.1 ≡ potential g e.0 -ℤ potential g e.1) c.2
-        (same_drop (potential f) (potential g) net.wires c.0 (u, v) drops c.1),
+        (slice_index_or-same_drops (potential f) (potential g) net.wires c.0 (u, v) drops c.1),
     joined_same j,
   )
   joined_same (against {u} {v} {w} c j) = omega (
     arith,
     ints,
     subst (λ (e : ℕ × ℕ). potential f e.0 -ℤ potential f e.1 ≡ potential g e.0 -ℤ potential g e.1) c.2
-        (same_drop (potential f) (potential g) net.wires c.0 (v, u) drops c.1),
+        (slice_index_or-same_drops (potential f) (potential g) net.wires c.0 (v, u) drops c.1),
     joined_same j,
   )
 

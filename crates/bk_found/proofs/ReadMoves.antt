@@ -11,7 +11,7 @@ use Rattle.bk_word.specs.declared.Sign.TheVariants.{Above, Even, Under}
 use Rattle.bk_word.proofs.PlayLaws.{legal_front, legal_rest}
 use Rattle.bk_word.proofs.StoredBytes.{order_append, order_more}
 use Rattle.bk_found.specs.Packed.{digit_at, move_digits, packed, word_digits}
-use Rattle.bk_found.specs.Reading.{HasDigits, IsSharedFront}
+use Rattle.bk_found.specs.ReadMoves.{HasDigits, IsSharedFront}
 use Rattle.bk_found.proofs.DigitsBack.{digit_back}
 use Rattle.bk_found.proofs.WordDigits.{are_digits, digits_join, few_digits, low_counts}
 
@@ -19,11 +19,13 @@ use Rattle.bk_found.proofs.WordDigits.{are_digits, digits_join, few_digits, low_
 pub has_front : (number place : ℕ) (ds es : List ℕ) → HasDigits number place (ds ++ es) → HasDigits number place ds
 has_front number place ds es has k low = has k (omega (arith, length-append ds es)) ∙ get_or_append_left ds es 0 k low
 
+-- a number with the digits of two lists has those of the second, from their own place on
 pub has_behind : (number place : ℕ) (ds es : List ℕ) → HasDigits number place (ds ++ es) → HasDigits number (place + length ds) es
 has_behind number place ds es has k low =
     let e : place + length ds + k ≡ place + (length ds + k) = omega arith in
     ap (digit_at number) e ∙ has (length ds + k) (omega (arith, length-append ds es)) ∙ get_or-append-add ds es k 0
 
+-- a number with the digits of one list and of another behind it has those of both together
 pub has_both : (number place : ℕ) (ds es : List ℕ) → HasDigits number place ds → HasDigits number (place + length ds) es → HasDigits number place (ds ++ es)
 has_both number place ds es front behind k low = cases (two k (length ds))
   where
@@ -123,6 +125,7 @@ pub record IsReadFrom (front : Word) (number : ℕ) (next : Move) : Type 0 where
   pub legal_front : IsLegal front
   pub few_front : order_of front ≤ 16
 
+-- the digits of a word's next move are read from its number at the end of those before
 pub read_from : (front : Word) (number : ℕ) (next : Move) (rest : Word) → IsLegal (front ++ next ∷ rest) → order_of (front ++ next ∷ rest) ≤ 16
     → packed (front ++ next ∷ rest) ≡ number → IsReadFrom front number next
 read_from front number next rest legal few is = record {

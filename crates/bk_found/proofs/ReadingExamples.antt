@@ -3,7 +3,7 @@ use Rattle.std.proofs.Common.{[], ap, arith, refl, suc, zero, ℕ, ◌+◌, ◌�
 use Rattle.bk_word.specs.Word.{Word}
 use Rattle.bk_word.specs.declared.Sign.TheVariants.{Above, Under}
 use Rattle.bk_found.specs.Packed.{packed}
-use Rattle.bk_found.specs.Reading.{HasDigits, IsSharedFront}
+use Rattle.bk_found.specs.ReadMoves.{HasDigits, IsSharedFront}
 
 abbrev row : Word
 row = record { count = 2; signs = Under ∷ [] } ∷ record { count = 1; signs = [] } ∷ []

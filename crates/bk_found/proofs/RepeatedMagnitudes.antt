@@ -5,7 +5,7 @@ use Rattle.std.proofs.Common.{arith, sym, true≢false, ◌∙◌}
 use Rattle.std.proofs.lemmas.Bool.{eq-eqb, eqb-true}
 use Rattle.std.proofs.lemmas.List.Sorted.{sum_by-IsPermutation}
 use Rattle.bk_laws.proofs.Counts.{count_by-map, count_two}
-use Rattle.bk_simple.proofs.DifferentNumbers.{read_alike}
+use Rattle.bk_laws.proofs.ListItems.{get_or-zero_or_any_default}
 use Rattle.bk_simple.proofs.Repeats.{IsTwice, imperfect, twice_from_count}
 use Rattle.bk_simple.specs.Simple.{IsPerfect, IsRepeated}
 use Rattle.bk_tiling.specs.Tiling.{Tiling, sides_of}
@@ -39,5 +39,5 @@ module _ (t : Tiling) (sides : List ℕ) (same : IsPermutation (sides_of t) side
   perfect_told false says = (
     λ yes. absurd cc,
     λ perfect. absurd (true≢false (sym (says.1 (λ j k d before within e. imperfect_from_two j k before within
-        (read_alike sides j d (omega (arith, before, within)) ∙ e ∙ sym (read_alike sides k d within)) perfect)))),
+        (get_or-zero_or_any_default sides j d (omega (arith, before, within)) ∙ e ∙ sym (get_or-zero_or_any_default sides k d within)) perfect)))),
   )

@@ -1,8 +1,11 @@
 -- The corners of the rectangle 3x2 of the squares 2, 1, 1, and the ties of its counts.
-use Rattle.std.specs.Prelude.{pos}
-use Rattle.std.proofs.Common.{Bool, [], arith, false, refl, true, ◌∷◌, ◌≡◌}
+use Rattle.std.specs.Prelude.{pos, slice_index_or, ℤ}
+use Rattle.std.proofs.Common.{Bool, List, [], arith, false, lit<, lit≤, refl, suc, true, zero, ℕ, ◌*◌, ◌<◌, ◌^◌, ◌∷◌, ◌≡◌, ◌≤◌}
+use Rattle.std.proofs.lemmas.Int.{ints}
 use Rattle.bk_tiling.proofs.ExampleTilings.{rectangle_3x2}
 use Rattle.bk_layout.specs.Normal.{Counts, counts_of}
+use Rattle.bk_found.specs.Known.{IsCandidate}
+use Rattle.bk_found.specs.Placing.{AreKnownLines, AreSmallNumbers, EndWithin, IsSmallNumber}
 use Rattle.bk_found.specs.Ties.{AreTiesOf}
 use Rattle.bk_found.specs.ToldCorners.{AreLongest, AreLongestTold, Lines}
 use Rattle.bk_found.specs.declared.corners.Longest.{Longest}
@@ -18,6 +21,58 @@ lines = record {
   total = pos 3;
   last = 2;
 }
+
+-- the levels of its nodes
+abbrev levels : List ℤ
+levels = pos 0 ∷ pos 1 ∷ pos 2 ∷ []
+
+small : (most n : ℕ) → n ≤ most → IsSmallNumber most (pos n)
+small most n h = (omega (arith, ints), omega (arith, ints, h))
+
+-- so much is known of it before its squares are placed
+known : IsCandidate lines levels
+known = record {
+  few = lit≤ tt;
+  wires = refl;
+  currents = refl;
+  rights = refl;
+  lines = lefts;
+  ends = ends;
+  small_currents = currents;
+  small_rights = rights;
+  small_levels = at;
+  small_total = small (2 ^ 34) 3 (lit≤ tt);
+}
+  where
+    lefts : AreKnownLines lines.lefts
+    lefts zero h = lit< tt
+    lefts (suc zero) h = lit< tt
+    lefts (suc (suc zero)) h = lit< tt
+    lefts (suc (suc (suc k))) h = absurd (omega (arith, h))
+
+    ends : EndWithin 17 lines.wires
+    ends zero h = (lit< tt, lit< tt)
+    ends (suc zero) h = (lit< tt, lit< tt)
+    ends (suc (suc zero)) h = (lit< tt, lit< tt)
+    ends (suc (suc (suc k))) h = absurd (omega (arith, h))
+
+    currents : AreSmallNumbers (2 ^ 34) lines.currents
+    currents zero h = small (2 ^ 34) 2 (lit≤ tt)
+    currents (suc zero) h = small (2 ^ 34) 1 (lit≤ tt)
+    currents (suc (suc zero)) h = small (2 ^ 34) 1 (lit≤ tt)
+    currents (suc (suc (suc k))) h = absurd (omega (arith, h))
+
+    rights : AreSmallNumbers (17 * 2 ^ 34) lines.rights
+    rights zero h = small (17 * 2 ^ 34) 2 (lit≤ tt)
+    rights (suc zero) h = small (17 * 2 ^ 34) 3 (lit≤ tt)
+    rights (suc (suc zero)) h = small (17 * 2 ^ 34) 3 (lit≤ tt)
+    rights (suc (suc (suc k))) h = absurd (omega (arith, h))
+
+    at : (v : ℕ) → v < 17 → IsSmallNumber (16 * 2 ^ 34) (slice_index_or levels v (pos 0))
+    at zero h = small (16 * 2 ^ 34) 0 (lit≤ tt)
+    at (suc zero) h = small (16 * 2 ^ 34) 1 (lit≤ tt)
+    at (suc (suc zero)) h = small (16 * 2 ^ 34) 2 (lit≤ tt)
+    at (suc (suc (suc v))) h = small (16 * 2 ^ 34) 0 (lit≤ tt)
 
 abbrev corners : Longest
 corners = record { top = 2; bottom = 2; left = 2; right = 1 }

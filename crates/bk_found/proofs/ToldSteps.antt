@@ -1,23 +1,10 @@
 -- The longest squares in corners, with one square more.
 use Rattle.std.specs.Prelude.{cond, max, nat_abs, pos, ◌&&◌, ◌||◌}
-use Rattle.std.proofs.Common.{Bool, ap, arith, false, inl, inr, refl, slice_index_or, suc, sym, true, ℕ, ◌+◌, ◌==◌, ◌∙◌, ◌≡◌, ◌⊎◌}
-use Rattle.std.proofs.lemmas.Bool.Decides.{nat_tests}
-use Rattle.std.proofs.lemmas.Bool.{cases_Bool}
+use Rattle.std.proofs.Common.{Bool, ap, arith, false, refl, slice_index_or, suc, sym, true, ℕ, ◌+◌, ◌∙◌, ◌≡◌}
 use Rattle.bk_found.specs.ToldCorners.{AreLongestTold, Lines, contact_at, greatest_below, in_bottom_corner, in_left_corner, in_right_corner}
 use Rattle.bk_found.specs.ToldCorners.{in_top_corner, side_in}
 use Rattle.bk_found.specs.declared.corners.Contact.{Contact}
 use Rattle.bk_found.specs.declared.corners.Longest.{Longest}
-
--- a test of equality fails for numbers that differ
-pub differ : (a b : ℕ) → (a ≡ b → ⊥) → (a == b) ≡ false
-differ a b e = cases (cases_Bool (a == b))
-  where
-    equal : (x y : ℕ) → (x == y) ≡ true → x ≡ y
-    equal x y e = grind (arith, nat_tests)
-
-    cases : ((a == b) ≡ true) ⊎ ((a == b) ≡ false) → (a == b) ≡ false
-    cases (inl h) = absurd (e (equal a b h))
-    cases (inr h) = h
 
 module _ (l : Lines) (k : ℕ) (old : Longest) (told : AreLongestTold l k old) where
   next : k + 1 ≡ suc k
@@ -51,6 +38,7 @@ module _ (l : Lines) (k : ℕ) (old : Longest) (told : AreLongestTold l k old) w
   and_false true = refl
   and_false false = refl
 
+  -- a square that touches neither the top nor the bottom changes none of the longest corners
   pub told_none : (contact_at l k).top ≡ false → (contact_at l k).bottom ≡ false → AreLongestTold l (k + 1) old
   told_none top bottom = record {
     top = none in_top_corner old.top told.top (ap (λ (x : Bool). x && ((contact_at l k).left || (contact_at l k).right)) top);

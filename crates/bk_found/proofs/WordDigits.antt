@@ -5,6 +5,7 @@ use Rattle.std.proofs.Common.{ℕ, ◌%◌, ◌*◌}
 use Rattle.std.proofs.Common.{◌++◌, ◌+◌, ◌-◌, ◌/◌, ◌<◌, ◌^◌, ◌∙◌, ◌∷◌, ◌≡◌, ◌≤◌}
 use Rattle.std.proofs.lemmas.List.{length-map}
 use Rattle.bk_laws.proofs.AllOfLists.{all_append}
+use Rattle.bk_laws.proofs.Multiples.{pow_four-suc}
 use Rattle.bk_word.specs.Outline.{Outline}
 use Rattle.bk_word.specs.Play.{AreLegalFrom, after_move}
 use Rattle.bk_word.specs.Word.{Move, Word, order_of, sign_place}
@@ -14,7 +15,7 @@ use Rattle.bk_word.proofs.StoredBytes.{order_more}
 use Rattle.bk_play.specs.Skeleton.{signs_of}
 use Rattle.bk_found.specs.Packed.{AreDigits, begun_by, move_digits, word_digits}
 use Rattle.bk_word.proofs.PlayLaws.{few_signs}
-use Rattle.bk_found.proofs.BaseFour.{four_times, begun-cons}
+use Rattle.bk_found.proofs.BaseFour.{begun-cons}
 
 sign_small : (s : Sign) → sign_place s < 4
 sign_small Above = omega arith
@@ -34,7 +35,7 @@ count_digits room count rest =
     ∙ omega (
       arith,
       begun-cons room ((count - 1) % 4) rest,
-      ap (λ z. (count - 1) / 4 * z) (four_times room),
+      ap (λ z. (count - 1) / 4 * z) (pow_four-suc room),
       parts ((count - 1) / 4) ((count - 1) % 4) (count - 1) (4 ^ room) (omega arith),
     )
   where

@@ -1,24 +1,25 @@
 -- The wires of a complete word in the order of hanging: each begins at node 0, or at a node at which one before it ends. So a flow's
 -- levels are found wire by wire.
 use Rattle.std.specs.Prelude.{pos, ℤ, ◌-ℤ◌}
-use Rattle.std.proofs.Common.{Bool, List, [], ap, arith, cond, false, inl, inr, length, nat_eq, refl, replicate, slice_index_or, subst, suc, sym}
-use Rattle.std.proofs.Common.{true, zero, ℕ, ◌++◌, ◌+◌, ◌-◌, ◌<◌, ◌∙◌, ◌∷◌, ◌≡◌, ◌≤◌, ◌⊎◌}
+use Rattle.std.proofs.Common.{List, [], ap, arith, cond, inl, inr, length, nat_eq, refl, replicate, slice_index_or, subst, suc, sym}
+use Rattle.std.proofs.Common.{zero, ℕ, ◌++◌, ◌+◌, ◌-◌, ◌<◌, ◌∙◌, ◌∷◌, ◌≡◌, ◌≤◌, ◌⊎◌}
 use Rattle.std.proofs.lemmas.Bool.{cases_lt}
 use Rattle.std.proofs.lemmas.Bool.Decides.{nat_tests}
 use Rattle.std.proofs.lemmas.Int.{ints}
 use Rattle.std.proofs.lemmas.List.{get_or-map, length-append, length-replicate}
 use Rattle.std.proofs.lemmas.Option.{get_or_from_slice_get}
 use Rattle.bk_laws.proofs.ListPlaces.{get_back, get_front}
-use Rattle.bk_laws.proofs.Occurrences.{times, times_at, times_in-append}
+use Rattle.bk_laws.proofs.Occurrences.{times, times-some_of_nonempty, times_at, times_in-append}
+use Rattle.bk_laws.proofs.ListItems.{slice_index_or-replicate}
 use Rattle.bk_net.specs.Flow.{Flow, IsFlow, potential}
 use Rattle.bk_word.specs.Outline.{Outline, start, valley_of, valley_place}
 use Rattle.bk_word.specs.Play.{AreLegalFrom, IsComplete, after_move, after_moves, outline_of}
 use Rattle.bk_word.specs.Word.{Move, Word}
 use Rattle.bk_word.proofs.PlayLists.{place_within}
-use Rattle.bk_word_net.proofs.NoLoose.{Played, closed_count, end_is_later, hung_number, played_move, played_start}
-use Rattle.bk_word_net.proofs.Numbering.{HasPlace, place_of_number}
-use Rattle.bk_word_net.proofs.PlacesInLists.{wires_got}
-use Rattle.bk_word_net.proofs.Shape.{AllFilled, Shaped, filled_move, shaped_move, shaped_start}
+use Rattle.bk_word_net.proofs.WordFlows.NoLoose.{Played, closed_count, end_is_later, hung_number, played_move, played_start}
+use Rattle.bk_word_net.proofs.Outlines.Numbering.{HasPlace, place_of_number}
+use Rattle.bk_word_net.proofs.WordFlows.PlacesInLists.{wires_got}
+use Rattle.bk_word_net.proofs.Outlines.Shape.{AllFilled, Shaped, filled_move, shaped_move, shaped_start}
 use Rattle.bk_word_net.specs.WordNet.{end_of, net_of_word}
 use Rattle.bk_found.specs.Candidate.{level_in}
 use Rattle.bk_found.specs.Placing.{AreLevels}
@@ -34,22 +35,6 @@ filled_at : (segments : List (List ℕ)) → AllFilled segments → (k : ℕ) �
 filled_at [] all k h = absurd (omega arith)
 filled_at (s ∷ segments) all zero h = all.0
 filled_at (s ∷ segments) all (suc k) h = filled_at segments all.1 k (omega arith)
-
-first_of : (xs : List ℕ) → 0 < length xs → (a : ℕ) × (0 < times a xs)
-first_of [] some = absurd (omega arith)
-first_of (a ∷ xs) some = (a, counted (nat_eq a a) same)
-  where
-    same : nat_eq a a ≡ true
-    same = grind (arith, nat_tests)
-
-    counted : (b : Bool) → b ≡ true → 0 < cond b 1 0 + times a xs
-    counted true e = omega arith
-    counted false e = absurd (cc)
-
-replicate_at : (n v k : ℕ) → k < n → slice_index_or (replicate n v) k 0 ≡ v
-replicate_at zero v k h = absurd (omega arith)
-replicate_at (suc n) v zero h = refl
-replicate_at (suc n) v (suc k) h = replicate_at n v k (omega arith)
 
 -- what the play keeps
 record Kept (o : Outline) : Type 0 where
@@ -82,7 +67,7 @@ module _ (o : Outline) (m : Move) (kept : Kept o) where
     where
       node : slice_index_or (after_move o m).hung k 0 ≡ length o.closed
       node = get_back o.hung (replicate m.count (length o.closed)) (k - length o.hung) k 0 (omega (arith, high))
-          ∙ replicate_at m.count (length o.closed) (k - length o.hung)
+          ∙ slice_index_or-replicate m.count (length o.closed) (k - length o.hung) 0
           (omega (arith, h, high, length-append o.hung (replicate m.count (length o.closed)), length-replicate m.count (length o.closed)))
 
       closed : slice_index_or (after_move o m).closed (slice_index_or (after_move o m).hung k 0) [] ≡ valley_of o
@@ -90,7 +75,8 @@ module _ (o : Outline) (m : Move) (kept : Kept o) where
 
       from : (length o.closed ≡ 0) ⊎ AllFilled o.segments → BeginsAt (after_move o m) k
       from (inl e) = inl (node ∙ e)
-      from (inr all) = with (first_of (valley_of o) (filled_at o.segments all (valley_place o.signs) (omega (arith, place_within o.signs, kept.shaped.many))))
+      from (inr all) =
+          with (times-some_of_nonempty (valley_of o) (filled_at o.segments all (valley_place o.signs) (omega (arith, place_within o.signs, kept.shaped.many))))
         where
           with : (a : ℕ) × (0 < times a (valley_of o)) → BeginsAt (after_move o m) k
           with (a, some) = inr (
@@ -201,7 +187,8 @@ module _ (w : Word) (complete : IsComplete w) where
       from : (length (outline_of w).closed ≡ 0) ⊎ AllFilled (outline_of w).segments
           → (k : ℕ) × (k < length (net_of_word w).wires) × ((slice_index_or (net_of_word w).wires k (0, 0)).1 ≡ length (outline_of w).closed)
       from (inl none) = absurd (omega (arith, none, some, closed_count start w))
-      from (inr all) = with (first_of (slice_index_or (outline_of w).segments 0 []) (filled_at (outline_of w).segments all 0 (omega (arith, one))))
+      from (inr all) =
+          with (times-some_of_nonempty (slice_index_or (outline_of w).segments 0 []) (filled_at (outline_of w).segments all 0 (omega (arith, one))))
         where
           with : (m : ℕ) × (0 < times m (slice_index_or (outline_of w).segments 0 [])) → (k : ℕ) × (k < length (net_of_word w).wires)
               × ((slice_index_or (net_of_word w).wires k (0, 0)).1 ≡ length (outline_of w).closed)

@@ -1,9 +1,11 @@
--- The candidate of a word and a flow of its net: squares that are placed by potentials and lines. Of a signed word of a tiling it
--- is this tiling in lowest terms. A statement alone; it is proved apart.
--- Example (CandidateExamples): 2u.1e with the currents 2, 1, 1 gives the rectangle 3x2 of squares 2, 1, 1; and 2a.1a.2ue.1e with
--- 4, 7, 4, 5, -1, 6 the rectangle 11x13 of the sides 4, 7, 4, 5, 1, 6, in which the square of side 1 stands reversed.
+-- The candidate of a word and a flow of its net: squares that are placed by potentials and lines. Of a signed word of a
+-- tiling it is this tiling in lowest terms. A statement alone; it is proved apart.
+-- Example (CandidateExamples): 2u.1e with the currents 2, 1, 1 gives the rectangle 3x2 of squares 2, 1, 1; and
+-- 2a.1a.2ue.1e with 4, 7, 4, 5, -1, 6 the rectangle 11x13 of the sides 4, 7, 4, 5, 1, 6, in which the square of side 1
+-- stands reversed.
 use Rattle.std.specs.List.{AllByRecursion}
-use Rattle.std.specs.Prelude.{List, [], false, length, map, nat_abs, negsuc, pos, slice_index_or, suc, zero, ℕ, ℤ, ◌++◌, ◌+ℤ◌, ◌-ℤ◌, ◌∷◌, ◌≡◌, ◌≢◌, ◌≤ℤ◌}
+use Rattle.std.specs.Prelude.{List, [], false, length, map, nat_abs, negsuc, pos, slice_index_or, suc, zero, ℕ, ℤ, ◌++◌}
+use Rattle.std.specs.Prelude.{◌+ℤ◌, ◌-ℤ◌, ◌∷◌, ◌≡◌, ◌≢◌, ◌≤ℤ◌}
 use Rattle.bk_tiling.specs.CodeOrder.{in_code_order}
 use Rattle.bk_tiling.specs.Scale.{IsPrimitiveTiling}
 use Rattle.bk_tiling.specs.Tiling.{IsTiling, Tiles, Tiling, whole}
@@ -13,11 +15,12 @@ use Rattle.bk_net.specs.Net.{last_node}
 use Rattle.bk_word.specs.Play.{numbers_from}
 use Rattle.bk_word.specs.Word.{Word}
 use Rattle.bk_word_net.specs.WordNet.{net_of_word}
-use Rattle.bk_layout.specs.LineNumbers.{sides_of}
+use Rattle.bk_layout.specs.LineNumbers.{square_lines}
 use Rattle.bk_layout.specs.SignedFlow.{signed_flow}
 use Rattle.bk_layout.specs.SignedWord.{IsSignedWordOf}
 
--- the place of a line by its number: the walls stand at 0 and at the total, the line behind the square at place k where it ends
+-- the place of a line by its number: the walls stand at 0 and at the total, the line behind the square at place k where
+-- it ends
 abbrev pub line_place : ℤ → List ℤ → ℕ → ℤ
 line_place total rights zero = pos 0
 line_place total rights (suc zero) = total
@@ -27,17 +30,18 @@ line_place total rights (suc (suc k)) = slice_index_or rights k (pos 0)
 abbrev pub right_edges_from : ℤ → List ℤ → List (ℕ × ℕ) → List ℤ → List ℤ
 right_edges_from total rights [] currents = rights
 right_edges_from total rights (s ∷ sides) [] = rights
-right_edges_from total rights (s ∷ sides) (c ∷ currents) = right_edges_from total (rights ++ (line_place total rights s.0 +ℤ c) ∷ []) sides currents
+right_edges_from total rights (s ∷ sides) (c ∷ currents) = right_edges_from total
+    (rights ++ (line_place total rights s.0 +ℤ c) ∷ []) sides currents
 
 abbrev pub right_edges : Word → Flow → List ℤ
-right_edges w f = right_edges_from f.total [] (sides_of w) f.currents
+right_edges w f = right_edges_from f.total [] (square_lines w) f.currents
 
 -- how far the potential of a node lies under that of the first
 abbrev pub level_in : Flow → ℕ → ℤ
 level_in f v = potential f 0 -ℤ potential f v
 
--- the square between these lines and these levels; where its current is negative it stands reversed, at the line at its right
--- and under the node below
+-- the square between these lines and these levels; where its current is negative it stands reversed, at the line at its
+-- right and under the node below
 abbrev pub placed_square : (left right above below current : ℤ) → Square
 placed_square left right above below (pos s) = record { x = nat_abs left; y = nat_abs above; s = s }
 placed_square left right above below (negsuc s) = record { x = nat_abs right; y = nat_abs below; s = suc s }
@@ -45,7 +49,7 @@ placed_square left right above below (negsuc s) = record { x = nat_abs right; y 
 -- the square at a place of the word
 abbrev pub candidate_square : Word → Flow → ℕ → Square
 candidate_square w f k = placed_square
-    (line_place f.total (right_edges w f) (slice_index_or (sides_of w) k (0, 1)).0)
+    (line_place f.total (right_edges w f) (slice_index_or (square_lines w) k (0, 1)).0)
     (slice_index_or (right_edges w f) k (pos 0))
     (level_in f (slice_index_or (net_of_word w).wires k (0, 0)).0)
     (level_in f (slice_index_or (net_of_word w).wires k (0, 0)).1)
@@ -54,8 +58,8 @@ candidate_square w f k = placed_square
 abbrev pub candidate_squares : Word → Flow → List Square
 candidate_squares w f = map (candidate_square w f) (numbers_from 0 (length f.currents))
 
--- the candidate is the tiling: its size, and its squares in another order. The currents are its sides, negative where the word
--- has a square reversed: so none is 0, and all are positive where no square is
+-- the candidate is the tiling: its size, and its squares in another order. The currents are its sides, negative where
+-- the word has a square reversed: so none is 0, and all are positive where no square is
 pub record IsCandidateOf (t : Tiling) (w : Word) (s : IsSignedWordOf t w) (f : Flow) : Type 0 where
   pub width : f.total ≡ pos t.width
   pub height : level_in f (last_node (net_of_word w)) ≡ pos t.height
@@ -67,5 +71,6 @@ pub record IsCandidateOf (t : Tiling) (w : Word) (s : IsSignedWordOf t w) (f : F
 
 -- so it is where the tiling and the flow are in lowest terms
 abbrev pub TheCandidateIsTheTiling : Type 0
-TheCandidateIsTheTiling = (t : Tiling) (w : Word) (f : Flow) → IsTiling t → IsPrimitiveTiling t → (s : IsSignedWordOf t w)
+TheCandidateIsTheTiling = (t : Tiling) (w : Word) (f : Flow) → IsTiling t → IsPrimitiveTiling t
+    → (s : IsSignedWordOf t w)
     → IsFlow (net_of_word w) f → pos 1 ≤ℤ f.total → IsPrimitive f → IsCandidateOf t w s f

@@ -1,6 +1,6 @@
 -- When what a leaf places is a tiling.
--- Examples (FoundExamples): the squares of the rectangle 3x2 in another order are a placement of it, and those of its mirror image are not.
--- Where nothing is found, no tiling is.
+-- Examples (FoundExamples): the squares of the rectangle 3x2 in another order are a placement of it, and those of its
+-- mirror image are not. Where nothing is found, no tiling is.
 use Rattle.std.specs.Prelude.{Option, Some, ◌≡◌}
 use Rattle.bk_tiling.specs.CodeOrder.{in_code_order}
 use Rattle.bk_tiling.specs.Refusal.{IsAccepted}

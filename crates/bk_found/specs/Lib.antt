@@ -1,12 +1,14 @@
 -- What the crate says: of the tiling that a word meets, and of words as numbers.
-pub mod Found
 pub mod Candidate
-pub mod Ties
+pub mod Found
+pub mod KeptNumbers
 pub mod Packed
 pub mod PackedLaws
+pub mod ReadMoves
+pub mod Ties
 -- How its code keeps it.
+pub mod CandidateLines
+pub mod Known
 pub mod Placing
+pub mod TilingDigits
 pub mod ToldCorners
-pub mod Laid
-pub mod Reading
-pub mod Kept

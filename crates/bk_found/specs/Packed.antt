@@ -1,11 +1,12 @@
--- Words packed into numbers: from the top of 128 bits, four bits for the count of each move, less one, and two for each of its
--- signs. The numbers of legal words of one order compare as the words do.
+-- Words packed into numbers: from the top of 128 bits, four bits for the count of each move, less one, and two for each
+-- of its signs. The numbers of legal words of one order compare as the words do.
 -- Example (PackedExamples): 2u.1 has the digits 0, 1, 2 and 0, 0, so it is 1 * 4^62 + 2 * 4^61.
 use Rattle.std.specs.List.{AllByRecursion, flat_map}
 use Rattle.std.specs.Prelude.{List, [], map, ℕ, ◌%◌, ◌*◌, ◌+◌, ◌-◌, ◌/◌, ◌<◌, ◌^◌, ◌∷◌}
 use Rattle.bk_word.specs.Word.{Move, Word, sign_place}
 
--- the digits of a move, each below 4: two for its count less one, and one for each sign, the place in above, even, under
+-- the digits of a move, each below 4: two for its count less one, and one for each sign, the place in above, even,
+-- under
 abbrev pub move_digits : Move → List ℕ
 move_digits m = (m.count - 1) / 4 ∷ (m.count - 1) % 4 ∷ map sign_place m.signs
 

@@ -4,15 +4,16 @@ use Rattle.bk_tiling.specs.declared.Square.{Square}
 use Rattle.bk_found.specs.Candidate.{line_place, placed_square, right_edges_from}
 
 -- the magnitude is at most so much; that of each number is
-abbrev pub IsSmall : ℕ → ℤ → Type 0
-IsSmall most z = (neg_ℤ (pos most) ≤ℤ z) × (z ≤ℤ pos most)
+abbrev pub IsSmallNumber : ℕ → ℤ → Type 0
+IsSmallNumber most z = (neg_ℤ (pos most) ≤ℤ z) × (z ≤ℤ pos most)
 
-abbrev pub AreSmall : ℕ → List ℤ → Type 0
-AreSmall most numbers = (k : ℕ) → k < length numbers → IsSmall most (slice_index_or numbers k (pos 0))
+abbrev pub AreSmallNumbers : ℕ → List ℤ → Type 0
+AreSmallNumbers most numbers = (k : ℕ) → k < length numbers → IsSmallNumber most (slice_index_or numbers k (pos 0))
 
 -- the nodes at both ends of each wire are below a number
 abbrev pub EndWithin : ℕ → List (ℕ × ℕ) → Type 0
-EndWithin nodes wires = (k : ℕ) → k < length wires → ((slice_index_or wires k (0, 0)).0 < nodes) × ((slice_index_or wires k (0, 0)).1 < nodes)
+EndWithin nodes wires = (k : ℕ) → k < length wires
+    → ((slice_index_or wires k (0, 0)).0 < nodes) × ((slice_index_or wires k (0, 0)).1 < nodes)
 
 -- a square's left line was there before it
 abbrev pub AreKnownLines : List ℕ → Type 0
@@ -29,7 +30,8 @@ edges_by_lefts total lefts currents = right_edges_from total [] (by_lefts lefts)
 -- the levels by which each current leads down, where each wire begins at node 0 or where one before it ends
 pub record AreLevels (wires : List (ℕ × ℕ)) (currents : List ℤ) (at : ℕ → ℤ) : Type 0 where
   pub top : at 0 ≡ pos 0
-  pub drops : (k : ℕ) → k < length wires → at (slice_index_or wires k (0, 0)).1 ≡ at (slice_index_or wires k (0, 0)).0 +ℤ slice_index_or currents k (pos 0)
+  pub drops : (k : ℕ) → k < length wires
+      → at (slice_index_or wires k (0, 0)).1 ≡ at (slice_index_or wires k (0, 0)).0 +ℤ slice_index_or currents k (pos 0)
   pub begun : (k : ℕ) → k < length wires → ((slice_index_or wires k (0, 0)).0 ≡ 0)
       ⊎ ((j : ℕ) × (j < k) × ((slice_index_or wires j (0, 0)).1 ≡ (slice_index_or wires k (0, 0)).0))
 

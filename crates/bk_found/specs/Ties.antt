@@ -1,6 +1,6 @@
 -- Where counts of a word tie, corner squares tell which of two images is met.
--- Example (TiesExamples): the rectangle 3x2 of the squares 2, 1, 1 has as many squares at the bottom as at the top, and fewer at the left
--- than at the right.
+-- Example (TiesExamples): the rectangle 3x2 of the squares 2, 1, 1 has as many squares at the bottom as at the top, and
+-- fewer at the left than at the right.
 use Rattle.std.specs.Prelude.{IsTrue, ◌≡◌}
 use Rattle.bk_layout.specs.Normal.{Counts, IsHalf}
 use Rattle.bk_found.specs.declared.ties.Ties.{Ties}

@@ -1,11 +1,13 @@
--- Which squares of a candidate lie in corners, told by wires and lines before any square is placed: a square lies at the top where its wire
--- begins at node 0, at the bottom where it ends at the last node, at the left where its left line stands at 0, and at the right where it
--- ends at the total.
--- Example (TiesExamples): for 2u.1e with the currents 2, 1, 1 the squares end at 2, 3 and 3. The longest square in the corners
--- at the top, at the bottom and at the left has side 2, and that at the right side 1.
-use Rattle.std.specs.Prelude.{Bool, List, cond, max, nat_abs, pos, slice_index_or, suc, zero, ℕ, ℤ, ◌&&◌, ◌==◌, ◌||◌, ◌≡◌}
+-- Which squares of a candidate lie in corners, told by wires and lines before any square is placed: a square lies at
+-- the top where its wire begins at node 0, at the bottom where it ends at the last node, at the left where its left
+-- line stands at 0, and at the right where it ends at the total.
+-- Example (TiesExamples): for 2u.1e with the currents 2, 1, 1 the squares end at 2, 3 and 3. The longest square in the
+-- corners at the top, at the bottom and at the left has side 2, and that at the right side 1.
+use Rattle.std.specs.Prelude.{Bool, List, cond, max, nat_abs, pos, slice_index_or, suc, zero, ℕ, ℤ, ◌&&◌, ◌==◌, ◌||◌}
+use Rattle.std.specs.Prelude.{◌≡◌}
 use Rattle.bk_tiling.specs.declared.Square.{Square}
-use Rattle.bk_layout.specs.Normal.{is_in_bottom_corner, is_in_left_corner, is_in_right_corner, is_in_top_corner, longest}
+use Rattle.bk_layout.specs.Normal.{is_in_bottom_corner, is_in_left_corner, is_in_right_corner, is_in_top_corner}
+use Rattle.bk_layout.specs.Normal.{longest}
 use Rattle.bk_found.specs.declared.corners.Contact.{Contact}
 use Rattle.bk_found.specs.declared.corners.Longest.{Longest}
 use Rattle.bk_found.specs.Candidate.{line_place}
@@ -23,8 +25,8 @@ in_left_corner c = c.left && (c.top || c.bottom)
 abbrev pub in_right_corner : Contact → Bool
 in_right_corner c = c.right && (c.top || c.bottom)
 
--- what is known of a candidate's squares: the nodes and the current of each wire, the line at the left, where each ends, the total and
--- the last node
+-- what is known of a candidate's squares: the nodes and the current of each wire, the line at the left, where each
+-- ends, the total and the last node
 pub record Lines : Type 0 where
   pub wires : List (ℕ × ℕ)
   pub currents : List ℤ

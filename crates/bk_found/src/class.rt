@@ -13,7 +13,8 @@ use bk_word::{Class, INLINE_ORDER};
 // Whether the class allows a tiling whose sides have the magnitudes of these currents.
 pub(crate) fn class_allows(currents: &[i64], class: Class) -> bool
     requires few { length currents.now ≤ 16 }
-    ensures { result ≡ false → (t : Tiled) → IsPermutation (sides_of t) (map nat_abs currents.now) → IsOfClass class t → ⊥ }
+    ensures { result ≡ false → (t : Tiled) → IsPermutation (sides_of t) (map nat_abs currents.now) → IsOfClass class t
+        → ⊥ }
 {
     match class {
         Class::Perfect => !has_repeated(currents),

@@ -1,11 +1,12 @@
 //! The longest squares in the corners, told by wires and lines before any square is placed.
 
-ghost use Rattle.std.specs.Prelude.{cond, length, max, nat_abs, pos, slice_index_or, ◌&&◌, ◌*◌, ◌<◌, ◌==◌, ◌^◌, ◌||◌, ◌≡◌, ◌≤◌};
-ghost use Rattle.bk_found.specs.Candidate.{line_place};
-ghost use Rattle.bk_found.specs.Placing.{AreKnownLines, AreSmall, IsSmall};
-ghost use Rattle.bk_found.specs.ToldCorners.{AreLongestTold, in_bottom_corner, in_left_corner, in_right_corner, in_top_corner};
+ghost use Rattle.std.specs.Prelude.{cond, length, max, ◌≡◌};
+ghost use Rattle.bk_found.specs.CandidateLines.{lines_of};
+ghost use Rattle.bk_found.specs.ToldCorners.{AreLongestTold, in_bottom_corner, in_left_corner, in_right_corner};
+ghost use Rattle.bk_found.specs.ToldCorners.{in_top_corner};
 
-use crate::levels::place_of;
+use crate::levels::line_place;
+use crate::lines::Candidate;
 
 // The longest side of the squares in the corners at each side of a rectangle.
 #[derive(Clone, Copy, Drop)]
@@ -26,24 +27,12 @@ pub(crate) struct Contact {
 }
 
 // The longest in the corners, of squares that hang from node 0 or end on the last node. No other one lies in a corner.
-pub(crate) fn longest_in_corners(
-    wires: &[(u16, u16)],
-    currents: &[i64],
-    lefts: &[u8],
-    rights: &[i64],
-    total: i64,
-    last: u16,
-) -> Longest
-    requires few { length wires.now ≤ 16 }
-    requires currents { length currents.now ≡ length wires.now }
-    requires lefts { length lefts.now ≡ length wires.now }
-    requires rights { length rights.now ≡ length wires.now }
-    requires known { AreKnownLines lefts.now }
-    requires small_currents { AreSmall (2 ^ 34) currents.now }
-    requires small_rights { AreSmall (17 * 2 ^ 34) rights.now }
-    ensures { AreLongestTold (record { wires = wires.now; currents = currents.now; lefts = lefts.now; rights = rights.now; total = total; last = last })
-        (length wires.now) result }
+pub(crate) fn longest_in_corners(candidate: &Candidate) -> Longest
+    ensures { AreLongestTold (lines_of candidate.now) (length candidate.now.wires.now) result }
 {
+    let (wires, currents) = (candidate.wires, candidate.currents);
+    let (lefts, rights) = (candidate.lefts, candidate.rights);
+    let (total, last) = (candidate.total, candidate.last);
     let width = total.unsigned_abs();
     let mut longest = Longest {
         top: 0,
@@ -54,7 +43,7 @@ pub(crate) fn longest_in_corners(
     'squares: for (i, (from, to)) in wires.iter().enumerate() {
         let (top, bottom) = (*from == 0, *to == last);
         if top || bottom {
-            let left = place_of(lefts[i], rights, total).unsigned_abs() == 0;
+            let left = line_place(lefts[i], rights, total).unsigned_abs() == 0;
             let right = rights[i].unsigned_abs() == width;
             let contact = Contact {
                 top,
@@ -62,14 +51,14 @@ pub(crate) fn longest_in_corners(
                 left,
                 right,
             };
-            longest = with(longest, contact, currents[i].unsigned_abs());
+            longest = with_square(longest, contact, currents[i].unsigned_abs());
         }
     }
     longest
 }
 
 // The longest with one square more, of this side.
-fn with(longest: Longest, contact: Contact, side: u64) -> Longest
+fn with_square(longest: Longest, contact: Contact, side: u64) -> Longest
     ensures top { result.top ≡ max longest.top (cond (in_top_corner contact) side 0) }
     ensures bottom { result.bottom ≡ max longest.bottom (cond (in_bottom_corner contact) side 0) }
     ensures left { result.left ≡ max longest.left (cond (in_left_corner contact) side 0) }

@@ -1,7 +1,7 @@
 //! Digits of base 4, from the top of 128 bits.
 #![tactic(auto)]
 
-ghost use Rattle.std.specs.Prelude.{List, [], length, map, ◌%◌, ◌++◌, ◌+◌, ◌-◌, ◌/◌, ◌<◌, ◌∷◌, ◌≡◌, ◌≤◌};
+ghost use Rattle.std.specs.Prelude.{[], length, map, ◌%◌, ◌++◌, ◌+◌, ◌-◌, ◌/◌, ◌<◌, ◌∷◌, ◌≡◌, ◌≤◌};
 ghost use Rattle.bk_word.specs.Word.{sign_place};
 ghost use Rattle.bk_found.specs.Packed.{AreDigits, begun_by, digit_at, move_digits};
 
@@ -30,7 +30,7 @@ pub(crate) fn push_signs(digits: &mut ArrayVec<u8, MOST_DIGITS>, signs: &[Sign])
     ensures { digits.new.items ≡ digits.old.items ++ map sign_place signs.now }
 {
     'signs: for sign in signs {
-        digits.push(place_of(*sign));
+        digits.push(sign_place(*sign));
     }
 }
 
@@ -45,7 +45,7 @@ pub(crate) fn push_count(digits: &mut ArrayVec<u8, MOST_DIGITS>, count: u8)
 }
 
 // The place of a sign among above, even and under.
-pub(crate) fn place_of(sign: Sign) -> u8
+pub(crate) fn sign_place(sign: Sign) -> u8
     ensures { result ≡ sign_place sign }
 {
     match sign {

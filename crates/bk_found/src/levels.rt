@@ -2,7 +2,8 @@
 
 ghost use Rattle.std.specs.Prelude.{length, pos, slice_index_or, ℕ, ℤ, ◌*◌, ◌+◌, ◌<◌, ◌^◌, ◌≡◌, ◌≤◌};
 ghost use Rattle.bk_found.specs.Candidate.{line_place};
-ghost use Rattle.bk_found.specs.Placing.{AreKnownLines, AreLevels, AreSmall, EndWithin, HasLevels, IsSmall, edges_by_lefts};
+ghost use Rattle.bk_found.specs.Placing.{AreKnownLines, AreLevels, AreSmallNumbers, EndWithin, HasLevels};
+ghost use Rattle.bk_found.specs.Placing.{IsSmallNumber, edges_by_lefts};
 
 use arrayvec::ArrayVec;
 use bk_word::INLINE_ORDER;
@@ -10,14 +11,14 @@ use bk_word::INLINE_ORDER;
 // A net of so many wires and one node more, without a loose node.
 pub(crate) const NODES: usize = INLINE_ORDER + 1;
 
-// How far the nodes lie under the first, by the currents of the wires, each of which leads down from a node whose level is
-// known from those before.
+// How far the nodes lie under the first, by the currents of the wires, each of which leads down from a node whose level
+// is known from those before.
 pub(crate) fn levels_of(wires: &[(u16, u16)], currents: &[i64]) -> [i64; NODES]
     requires ends { EndWithin 17 wires.now }
     requires many { length currents.now ≡ length wires.now }
     requires few { length wires.now ≤ 16 }
-    requires small { AreSmall (2 ^ 34) currents.now }
-    ensures small { (v : ℕ) → v < 17 → IsSmall (16 * 2 ^ 34) (slice_index_or result v (pos 0)) }
+    requires small { AreSmallNumbers (2 ^ 34) currents.now }
+    ensures small { (v : ℕ) → v < 17 → IsSmallNumber (16 * 2 ^ 34) (slice_index_or result v (pos 0)) }
     ensures right { (at : ℕ → ℤ) → AreLevels wires.now currents.now at → HasLevels wires.now at result }
 {
     let mut levels = [0i64; NODES];
@@ -33,22 +34,22 @@ pub(crate) fn rights_of(lefts: &[u8], currents: &[i64], total: i64) -> ArrayVec<
     requires many { length currents.now ≡ length lefts.now }
     requires few { length lefts.now ≤ 16 }
     requires known { AreKnownLines lefts.now }
-    requires small { AreSmall (2 ^ 34) currents.now }
-    requires total { IsSmall (2 ^ 34) total }
+    requires small { AreSmallNumbers (2 ^ 34) currents.now }
+    requires total { IsSmallNumber (2 ^ 34) total }
     ensures value { result.items ≡ edges_by_lefts total lefts.now currents.now }
     ensures many { length result.items ≡ length lefts.now }
-    ensures small { AreSmall (17 * 2 ^ 34) result.items }
+    ensures small { AreSmallNumbers (17 * 2 ^ 34) result.items }
 {
     let mut rights = ArrayVec::new();
     for (i, line) in lefts.iter().enumerate() {
-        let right = place_of(*line, &rights, total) + currents[i];
+        let right = line_place(*line, &rights, total) + currents[i];
         rights.push(right);
     }
     rights
 }
 
 // The place of a line: the walls stand at 0 and at the total, a gap where the square before it ends.
-pub(crate) fn place_of(line: u8, rights: &[i64], total: i64) -> i64
+pub(crate) fn line_place(line: u8, rights: &[i64], total: i64) -> i64
     requires { line < length rights.now + 2 }
     ensures { result ≡ line_place total rights.now line }
 {

@@ -1,5 +1,5 @@
-//! What the search by nets finds: the squares of the one tiling that a complete word can meet, as they were placed or turned; and words
-//! packed into numbers, with tables of them, in which those that were found are kept.
+//! What the search by nets finds: the squares of the one tiling that a complete word can meet, as they were placed or
+//! turned; and words packed into numbers, with tables of them, in which those that were found are kept.
 #![tactic(auto)]
 
 ghost use Rattle.bk_found.specs.Candidate.{TheCandidateIsTheTiling};
@@ -9,6 +9,7 @@ mod class;
 mod corners;
 mod digits;
 mod levels;
+mod lines;
 mod packed;
 mod placing;
 mod reading;
@@ -34,8 +35,8 @@ pub fn packed_words_compare()
     ensures { PackedWordsCompare }
 {}
 
-/// A place in the tree of words, complete or not, doesn't follow a legal word of at least as many squares, at most 16, exactly where its
-/// packed number isn't greater.
+/// A place in the tree of words, complete or not, doesn't follow a legal word of at least as many squares, at most 16,
+/// exactly where its packed number isn't greater.
 pub fn packed_places_compare()
     ensures { PackedPlacesCompare }
 {}

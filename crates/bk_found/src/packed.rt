@@ -1,7 +1,6 @@
 //! Words packed into numbers that compare as the words do.
 #![tactic(auto)]
 
-ghost use Rattle.std.specs.Ordering.{nat_cmp};
 ghost use Rattle.std.specs.Prelude.{[], ◌++◌, ◌+◌, ◌<◌, ◌^◌, ◌∷◌, ◌≡◌, ◌≤◌};
 ghost use Rattle.bk_word.specs.Outline.{IsLegalMove};
 ghost use Rattle.bk_word.specs.Play.{IsLegal, outline_of};
@@ -9,7 +8,7 @@ ghost use Rattle.bk_tiling.specs.Tiling.{order};
 ghost use Rattle.bk_word.specs.Word.{Word as Moves, order_of};
 ghost use Rattle.bk_lay.specs.TilingWord.{IsWordOf};
 ghost use Rattle.bk_found.specs.Packed.{packed, word_digits};
-ghost use Rattle.bk_found.specs.Laid.{HasDigitsOf};
+ghost use Rattle.bk_found.specs.TilingDigits.{HasDigitsOf};
 
 use crate::digits::{MOST_DIGITS, number_of, push_count, push_digits, push_signs};
 use arrayvec::ArrayVec;
@@ -17,11 +16,10 @@ use bk_lay::Turns;
 use bk_play::Skel;
 use bk_tiling::Tiling;
 use bk_word::{Move, Word};
-use std::cmp::Ordering;
 use std::marker::Model;
 
-/// A legal word of at most 16 squares packed into one number: four bits for the count of each move, less one, and two for each
-/// of its signs, from the top of 128 bits. Among words of one order the numbers compare as the words do. (Own.)
+/// A legal word of at most 16 squares packed into one number: four bits for the count of each move, less one, and two
+/// for each of its signs, from the top of 128 bits. Among words of one order the numbers compare as the words do.
 #[derive(Clone, Copy, Drop)]
 pub struct Packed {
     number: u128,
@@ -68,13 +66,6 @@ impl Packed {
         ensures { result ≡ self.now }
     {
         self.number
-    }
-
-    /// How the two compare: as their words do, where these are of one order.
-    pub fn cmp(&self, other: &Packed) -> Ordering
-        ensures { result ≡ nat_cmp self.now other.now }
-    {
-        self.number.cmp(&other.number)
     }
 }
 

@@ -1,22 +1,28 @@
 //! The candidate of a complete word.
 
-ghost use Rattle.std.specs.Prelude.{IsTrue, length, pos, slice_index_or, ℕ, ℤ, ◌*◌, ◌<◌, ◌^◌, ◌≡◌, ◌≤◌};
+ghost use Rattle.std.specs.Prelude.{IsTrue, List, length, pos, slice_index_or, ℕ, ◌<◌, ◌^◌, ◌≡◌, ◌≤◌};
 ghost use Rattle.bk_tiling.specs.Scale.{IsPrimitiveTiling};
 ghost use Rattle.bk_tiling.specs.Tiling.{Tiling as Tiled};
+ghost use Rattle.bk_tiling.specs.declared.Square.{Square as PlacedSquare};
 ghost use Rattle.bk_word.specs.Play.{IsComplete};
 ghost use Rattle.bk_word.specs.Word.{order_of};
 ghost use Rattle.bk_found.specs.Candidate.{placed_square};
 ghost use Rattle.bk_layout.specs.LineNumbers.{lefts_of};
-ghost use Rattle.bk_found.specs.Placing.{AreKnownLines, AreSmall, EndWithin, IsPlacedAt, IsSmall};
+ghost use Rattle.bk_found.specs.Placing.{IsPlacedAt, IsSmallNumber};
+ghost use Rattle.bk_found.specs.CandidateLines.{lines_of};
+ghost use Rattle.bk_found.specs.ToldCorners.{AreLongest, AreLongestTold};
+ghost use Rattle.bk_found.specs.declared.corners.Longest.{Longest};
 ghost use Rattle.bk_found.specs.Found.{IsFound};
 ghost use Rattle.bk_found.specs.Ties.{AreTiesOf};
-ghost use Rattle.bk_layout.specs.NormalImage.{IsMetByNormalWord};
+ghost use Rattle.bk_layout.specs.Normal.{Counts};
+ghost use Rattle.bk_layout.specs.NormalImage.{AreCornersSettled, IsMetByNormalWord};
 ghost use Rattle.bk_layout.specs.WordNumbers.{counts_of_word};
 ghost use Rattle.bk_catalogue.specs.Catalogue.{IsOfClass};
 
 use crate::class::class_allows;
 use crate::corners::longest_in_corners;
-use crate::levels::{NODES, levels_of, place_of, rights_of};
+use crate::levels::{levels_of, line_place, rights_of};
+use crate::lines::Candidate;
 use crate::ties::{Ties, corners_allow};
 use arrayvec::ArrayVec;
 use bk_flow::narrow_flow;
@@ -24,7 +30,7 @@ use bk_play::{SmallSkel, small_net};
 use bk_tiling::Square;
 use bk_word::{Class, INLINE_ORDER};
 
-/// Squares that were placed in a rectangle, in the order in which a word hangs them. Whether they tile it isn't known. (Own.)
+/// Squares that were placed in a rectangle, in the order in which a word hangs them. Whether they tile it isn't known.
 #[derive(Drop)]
 pub struct Placed {
     /// How many columns the rectangle has.
@@ -35,9 +41,9 @@ pub struct Placed {
     pub squares: ArrayVec<Square, INLINE_ORDER>,
 }
 
-/// The squares of the one normal tiling of the class that the complete word can meet: they are placed by the one flow of the word's net
-/// and by the lines at their left. Each tiling in lowest terms, of the class, which is met by the word is found. Where it is told which
-/// counts of the word tie, images that lose by their corners are passed over. (Own.)
+/// The squares of the one normal tiling of the class that the complete word can meet: they are placed by the one flow
+/// of the word's net and by the lines at their left. Each tiling in lowest terms, of the class, which is met by the
+/// word is found. Where it is told which counts of the word tie, images that lose by their corners are passed over.
 pub fn leaf(skel: &SmallSkel, lefts: &[u8], ties: Ties, class: Class) -> Option<Placed>
     requires complete { IsComplete skel.now }
     requires few { order_of skel.now ≤ 16 }
@@ -60,18 +66,37 @@ pub fn leaf(skel: &SmallSkel, lefts: &[u8], ties: Ties, class: Class) -> Option<
     let width = total.unsigned_abs();
     let height = levels[usize::from(nodes) - 1].unsigned_abs();
     let rights = rights_of(lefts, currents, total);
-    if ties.any() {
-        let longest = longest_in_corners(wires, currents, lefts, &rights, total, nodes - 1);
-        if !corners_allow(&longest, width, height, ties) {
-            return None;
-        }
+    let candidate = Candidate {
+        wires,
+        currents,
+        lefts,
+        rights: rights.as_slice(),
+        levels: &levels,
+        total,
+        last: nodes - 1,
+    };
+    if loses_by_corners(&candidate, width, height, ties) {
+        return None;
     }
-    let squares = squares_at(lefts, wires, currents, &levels, &rights, total);
+    let squares = squares_at(&candidate);
     Some(Placed {
         width,
         height,
         squares,
     })
+}
+
+// Whether the corners tell, where counts tie, that another image than the candidate is met.
+fn loses_by_corners(candidate: &Candidate, width: u64, height: u64, ties: Ties) -> bool
+    ensures { IsTrue result → (most : Longest)
+        × AreLongestTold (lines_of candidate.now) (length candidate.now.wires.now) most
+        × ((c : Counts) (squares : List PlacedSquare) → AreTiesOf c ties → AreLongest width height squares most
+        → AreCornersSettled c width height squares → ⊥) }
+{
+    if !ties.any() {
+        return false;
+    }
+    !corners_allow(&longest_in_corners(candidate), width, height, ties)
 }
 
 // Whether some current is 0: then no tiling has the flow.
@@ -87,32 +112,18 @@ fn has_zero(currents: &[i64]) -> bool
 }
 
 // The squares between their lines and between the levels of their nodes.
-fn squares_at(
-    lefts: &[u8],
-    wires: &[(u16, u16)],
-    currents: &[i64],
-    levels: &[i64; NODES],
-    rights: &[i64],
-    total: i64,
-) -> ArrayVec<Square, INLINE_ORDER>
-    requires few { length lefts.now ≤ 16 }
-    requires wires { length wires.now ≡ length lefts.now }
-    requires currents { length currents.now ≡ length lefts.now }
-    requires rights { length rights.now ≡ length lefts.now }
-    requires known { AreKnownLines lefts.now }
-    requires ends { EndWithin 17 wires.now }
-    requires small_currents { AreSmall (2 ^ 34) currents.now }
-    requires small_rights { AreSmall (17 * 2 ^ 34) rights.now }
-    requires small_levels { (v : ℕ) → v < 17 → IsSmall (16 * 2 ^ 34) (slice_index_or levels.now v (pos 0)) }
-    requires small_total { IsSmall (2 ^ 34) total }
-    ensures many { length result.items ≡ length lefts.now }
-    ensures each { (k : ℕ) → k < length lefts.now → IsPlacedAt lefts.now wires.now currents.now levels.now rights.now total k
-        (slice_index_or result.items k (record { x = 0; y = 0; s = 0 })) }
+fn squares_at(candidate: &Candidate) -> ArrayVec<Square, INLINE_ORDER>
+    ensures many { length result.items ≡ length candidate.now.lefts.now }
+    ensures each { (k : ℕ) → k < length candidate.now.lefts.now
+        → IsPlacedAt candidate.now.lefts.now candidate.now.wires.now candidate.now.currents.now candidate.now.levels.now
+        candidate.now.rights.now candidate.now.total k (slice_index_or result.items k (record { x = 0; y = 0; s = 0 })) }
 {
+    let (lefts, wires, currents) = (candidate.lefts, candidate.wires, candidate.currents);
+    let (levels, rights, total) = (candidate.levels, candidate.rights, candidate.total);
     let mut squares = ArrayVec::new();
     for k in 0..lefts.len() {
         let (from, to) = wires[k];
-        let left = place_of(lefts[k], rights, total);
+        let left = line_place(lefts[k], rights, total);
         squares.push(square_between(
             left,
             rights[k],
@@ -126,11 +137,11 @@ fn squares_at(
 
 // The square between these lines and these levels, reversed where its current is negative.
 fn square_between(left: i64, right: i64, above: i64, below: i64, current: i64) -> Square
-    requires left { IsSmall (2 ^ 40) left }
-    requires right { IsSmall (2 ^ 40) right }
-    requires above { IsSmall (2 ^ 40) above }
-    requires below { IsSmall (2 ^ 40) below }
-    requires current { IsSmall (2 ^ 40) current }
+    requires left { IsSmallNumber (2 ^ 40) left }
+    requires right { IsSmallNumber (2 ^ 40) right }
+    requires above { IsSmallNumber (2 ^ 40) above }
+    requires below { IsSmallNumber (2 ^ 40) below }
+    requires current { IsSmallNumber (2 ^ 40) current }
     ensures { result ≡ placed_square left right above below current }
 {
     let (x, y) = if current < 0 {

@@ -5,20 +5,21 @@ ghost use Rattle.std.specs.Prelude.{IsTrue, length, map, ℕ, ◌++◌, ◌+◌,
 ghost use Rattle.bk_word.specs.Play.{IsLegal};
 ghost use Rattle.bk_word.specs.Word.{Move as SeenMove, Word as Moves, order_of, sign_place};
 ghost use Rattle.bk_found.specs.Packed.{digit_at as digit_of, move_digits, packed, word_digits};
-ghost use Rattle.bk_found.specs.Reading.{GoesOnByNumber, HasDigits, IsSharedFront};
+ghost use Rattle.bk_found.specs.ReadMoves.{GoesOnByNumber, HasDigits, IsSharedFront};
 
-use crate::digits::{digit_at, place_of, sign_of};
+use crate::digits::{digit_at, sign_of, sign_place};
 use arrayvec::ArrayVec;
 use bk_play::{Skel, open_side};
 use bk_word::{MOST_SIGNS, Move, Sign};
 
-/// With how many of the skeleton's moves the legal word of this number begins that has at least as many squares, at most 16: all up to
-/// the first in which the two differ.
+/// With how many of the skeleton's moves the legal word of this number begins that has at least as many squares, at
+/// most 16: all up to the first in which the two differ.
 pub fn shared_moves(skel: &Skel, number: u128) -> usize
     requires legal { IsLegal skel.now }
     requires few { order_of skel.now ≤ 16 }
     ensures within { result ≤ length skel.now }
-    ensures shared { (w : Moves) → IsLegal w → order_of w ≤ 16 → order_of skel.now ≤ order_of w → packed w ≡ number → IsSharedFront skel.now w result }
+    ensures shared { (w : Moves) → IsLegal w → order_of w ≤ 16 → order_of skel.now ≤ order_of w → packed w ≡ number
+        → IsSharedFront skel.now w result }
 {
     let mut place = 0;
     'moves: for i in 0..skel.moves() {
@@ -31,11 +32,12 @@ pub fn shared_moves(skel: &Skel, number: u128) -> usize
     skel.moves()
 }
 
-/// Makes of a move the one by which the word of this number goes on from the skeleton's moves. It must be that of a legal word of at
-/// most 16 squares that goes on from them.
+/// Makes of a move the one by which the word of this number goes on from the skeleton's moves. It must be that of a
+/// legal word of at most 16 squares that goes on from them.
 pub fn read_next(skel: &Skel, number: u128, m: &mut Move)
     requires { GoesOnByNumber skel.now number }
-    ensures { (next : SeenMove) (rest : Moves) → IsLegal (skel.now ++ next ∷ rest) → order_of (skel.now ++ next ∷ rest) ≤ 16
+    ensures { (next : SeenMove) (rest : Moves) → IsLegal (skel.now ++ next ∷ rest)
+        → order_of (skel.now ++ next ∷ rest) ≤ 16
         → packed (skel.now ++ next ∷ rest) ≡ number → m.new ≡ next }
 {
     let place = digits_played(skel);
@@ -85,7 +87,7 @@ fn has_signs(number: u128, place: usize, signs: &[Sign]) -> bool
     ensures { IsTrue result ↔ HasDigits number place (map sign_place signs.now) }
 {
     'signs: for (i, sign) in signs.iter().enumerate() {
-        if digit_at(number, place + i) != place_of(*sign) {
+        if digit_at(number, place + i) != sign_place(*sign) {
             return false;
         }
     }

@@ -3,7 +3,7 @@
 
 ghost use Rattle.std.specs.List.Sorted.{IsNonDecreasing};
 ghost use Rattle.std.specs.Prelude.{Contains, IsTrue, length, slice_index, take, ℕ, ◌/◌, ◌≡◌, ◌≤◌, ◌↔◌};
-ghost use Rattle.bk_found.specs.Kept.{AreAscendingNumbers, IsPlaceOf};
+ghost use Rattle.bk_found.specs.KeptNumbers.{AreAscendingNumbers, IsPlaceOf};
 
 use arrayvec::ArrayVec;
 

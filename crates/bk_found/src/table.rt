@@ -2,15 +2,16 @@
 #![tactic(auto)]
 
 ghost use Rattle.std.specs.List.{AllByRecursion};
-ghost use Rattle.std.specs.Prelude.{Contains, IfNone, IfSome, IsSome, IsSomeAnd, IsTrue, None, Some, [], is_some, ℕ, ◌<◌, ◌∷◌, ◌≡◌, ◌≤◌, ◌↔◌, ◌⊎◌};
-ghost use Rattle.bk_found.specs.Kept.{AreAscendingNumbers, HasMoreDifferent, Holds, IsFirstFrom};
+ghost use Rattle.std.specs.Prelude.{Contains, IfNone, IfSome, IsSome, IsSomeAnd, IsTrue, None, Some, [], is_some, ℕ};
+ghost use Rattle.std.specs.Prelude.{◌<◌, ◌∷◌, ◌≡◌, ◌≤◌, ◌↔◌, ◌⊎◌};
+ghost use Rattle.bk_found.specs.KeptNumbers.{AreAscendingNumbers, HasMoreDifferent, Holds, IsFirstFrom};
 
 use crate::settling::{cut_off, has, place_of, sort_once};
 use arrayvec::ArrayVec;
 use std::marker::Model;
 
-/// Numbers that are put one after the other and read in ascending order. Where there is no room for one more different number, the upper
-/// half is dropped; from then on the table keeps no number from the least that was dropped on. (Own.)
+/// Numbers that are put one after the other and read in ascending order. Where there is no room for one more different
+/// number, the upper half is dropped; from then on the table keeps no number from the least that was dropped on.
 #[derive(Drop)]
 pub struct Table<const N: usize> {
     numbers: ArrayVec<u128, N>,
@@ -18,7 +19,7 @@ pub struct Table<const N: usize> {
 }
 
 impl<const N: usize> Model for Table<N> {
-    ghost use Rattle.bk_found.specs.Kept.{IsKeptTable, Numbers};
+    ghost use Rattle.bk_found.specs.KeptNumbers.{IsKeptTable, Numbers};
 
     ghost Value = { Numbers };
 
@@ -36,6 +37,14 @@ impl<const N: usize> Table<N> {
             numbers: ArrayVec::new(),
             limit: None,
         }
+    }
+
+    /// Becomes a table of no number, in the room that it has.
+    pub fn clear(&mut self)
+        ensures { self.new ≡ record { kept = []; limit = None } }
+    {
+        self.numbers.clear();
+        self.limit = None;
     }
 
     /// The numbers, in the order in which they are kept.
@@ -76,8 +85,9 @@ impl<const N: usize> Table<N> {
         sort_once(&mut self.numbers);
     }
 
-    /// Puts a number into the table, unless it is one from which on none are kept. Where there is no room, it brings the numbers into ascending
-    /// order, each once, and where there is none then either, and the number isn't there, it drops the upper half. No other number is put.
+    /// Puts a number into the table, unless it is one from which on none are kept. Where there is no room, it brings
+    /// the numbers into ascending order, each once, and where there is none then either, and the number isn't there, it
+    /// drops the upper half. No other number is put.
     pub fn put(&mut self, number: u128)
         ensures put { Holds self.new number }
         ensures kept { (x : ℕ) → Holds self.old x → Holds self.new x }

@@ -10,10 +10,11 @@ use bk_sym::Turn;
 use bk_tiling::Square;
 use bk_word::INLINE_ORDER;
 
-/// The turn by which the rectangle lies, and the longest square in its corners comes to the top left one: hardly another image has to be
-/// made then to compare it. (Own.)
+/// A turn by which the rectangle lies. No contract says which: it brings the longest square in the corners to the top
+/// left one, so that hardly another image has to be made to compare it.
 pub fn best_turn(placed: &Placed) -> Turn
-    ensures { (image_size result placed.now.width placed.now.height).1 ≤ (image_size result placed.now.width placed.now.height).0 }
+    ensures { (image_size result placed.now.width placed.now.height).1 ≤
+        (image_size result placed.now.width placed.now.height).0 }
 {
     let (right, bottom) = longest_corner(placed);
     if placed.width < placed.height {
@@ -23,8 +24,8 @@ pub fn best_turn(placed: &Placed) -> Turn
     }
 }
 
-// The turn that exchanges columns and levels, and brings a square at the right or at the left, at the bottom or at the top, to the top
-// left corner.
+// The turn that exchanges columns and levels, and brings a square at the right or at the left, at the bottom or at the
+// top, to the top left corner.
 fn swapping_turn(right: bool, bottom: bool) -> Turn
     ensures { (w h : ℕ) → image_size result w h ≡ (h, w) }
 {
@@ -63,7 +64,8 @@ fn longest_corner(placed: &Placed) -> (bool, bool) {
     corner
 }
 
-// Whether a square in a corner of a rectangle stands at the right, and whether at the bottom. Only of few squares it is asked.
+// Whether a square in a corner of a rectangle stands at the right, and whether at the bottom. Only of few squares it is
+// asked.
 #[inline(never)]
 fn corner_of(q: &Square, width: u64, height: u64) -> Option<(bool, bool)> {
     let (right, bottom) = (ends_at(q.x, q.s, width), ends_at(q.y, q.s, height));
@@ -81,7 +83,8 @@ fn ends_at(place: u64, side: u64, end: u64) -> bool {
 
 /// The size of a rectangle by each turn by which it lies: columns and levels.
 pub fn lying_size(width: u64, height: u64) -> (u64, u64)
-    ensures { (turn : Turned) → (image_size turn width height).1 ≤ (image_size turn width height).0 → result ≡ image_size turn width height }
+    ensures { (turn : Turned) → (image_size turn width height).1 ≤ (image_size turn width height).0
+        → result ≡ image_size turn width height }
 {
     if width < height {
         (height, width)

@@ -1,5 +1,6 @@
 -- A pass over the segments after a next move, each as it stands before the sign even joins it to another.
-use Rattle.std.specs.Prelude.{Bool, List, [], cond, count_by, drop, false, length, map, nat_le, ℕ, ◌++◌, ◌+◌, ◌||◌, ◌∷◌, ◌≡◌, ◌≤◌}
+use Rattle.std.specs.Prelude.{Bool, List, [], cond, count_by, drop, false, length, map, nat_le, ℕ, ◌++◌, ◌+◌, ◌||◌, ◌∷◌}
+use Rattle.std.specs.Prelude.{◌≡◌, ◌≤◌}
 use Rattle.bk_word.specs.Outline.{Outline, has_right_wall, valley_place}
 use Rattle.bk_word.specs.Play.{outline_of, segments_apart, signs_apart}
 use Rattle.bk_word.specs.Signs.{is_under}
@@ -31,14 +32,18 @@ sizes_apart front m = map length (segments_apart (outline_of front) m)
 abbrev pub marks_apart : Word → Move → List Bool
 marks_apart front m = shared (signs_apart (outline_of front) m) (marks_of_word (front ++ m ∷ []))
 
--- what a pass has counted in front of the segment at a place: it goes on to no more than what is asked for after the move
+-- what a pass has counted in front of the segment at a place: it goes on to no more than what is asked for after the
+-- move
 pub record IsCountedTo (front : Word) (m : Move) (place : ℕ) (p : Passed) : Type 0 where
-  pub most : (pass_along p (drop place (signs_apart (outline_of front) m)) (drop place (sizes_apart front m)) (drop place (marks_apart front m))).most
+  pub most : (pass_along p (drop place (signs_apart (outline_of front) m)) (drop place (sizes_apart front m))
+      (drop place (marks_apart front m))).most
       ≤ strong_bound_of (front ++ m ∷ [])
-  pub more : (pass_along p (drop place (signs_apart (outline_of front) m)) (drop place (sizes_apart front m)) (drop place (marks_apart front m))).more
+  pub more : (pass_along p (drop place (signs_apart (outline_of front) m)) (drop place (sizes_apart front m))
+      (drop place (marks_apart front m))).more
       ≤ weight_of (front ++ m ∷ [])
 
--- the signs behind the leftmost valley, and how many squares the segments behind it have: at the right wall the last new square stands for them
+-- the signs behind the leftmost valley, and how many squares the segments behind it have: at the right wall the last
+-- new square stands for them
 abbrev pub behind_signs : Outline → List Sign
 behind_signs o = drop (valley_place o.signs + 1) o.signs
 
@@ -56,17 +61,21 @@ behind_marks w = cond (has_right_wall (outline_of w)) (false ∷ []) (touched_or
     (drop (valley_place (outline_of w).signs + 1) (outline_of w).segments))
 
 abbrev pub joined_marks : Word → List Bool
-joined_marks w = cond (has_right_wall (outline_of w)) (false ∷ []) (wide_first (first_count w) (drop (valley_place (outline_of w).signs + 1)
+joined_marks w = cond (has_right_wall (outline_of w)) (false ∷ [])
+    (wide_first (first_count w) (drop (valley_place (outline_of w).signs + 1)
     (outline_of w).segments)
-    (touched_or_wide (first_count w) (edges_on_lines w) (drop (valley_place (outline_of w).signs + 1) (outline_of w).segments)))
+    (touched_or_wide (first_count w) (edges_on_lines w)
+    (drop (valley_place (outline_of w).signs + 1) (outline_of w).segments)))
 
--- numbers that some segments ask for, where the first of them is low at the left or not: how many moves those before them are asked for besides, how
--- many at most one of them is, and how many squares more
-pub record AreAsks (low : Bool) (signs : List Sign) (sizes : List ℕ) (marks : List Bool) (add most more : ℕ) : Type 0 where
+-- numbers that some segments ask for, where the first of them is low at the left or not: how many moves those before
+-- them are asked for besides, how many at most one of them is, and how many squares more
+pub record AreAsks (low : Bool) (signs : List Sign) (sizes : List ℕ) (marks : List Bool)
+    (add most more : ℕ) : Type 0 where
   pub add_is : add ≡ count_by is_under signs + weight_from low signs sizes
   pub most_is : most ≤ strong_from low signs sizes marks
   pub more_is : more ≡ weight_from low signs sizes
 
--- those of the segments behind the leftmost valley
+-- the numbers that the segments behind the leftmost valley ask for, with these marks
 abbrev pub AreAskedBehind : Bool → List Bool → Word → ℕ → ℕ → ℕ → Type 0
-AreAskedBehind low marks front add most more = AreAsks low (behind_signs (outline_of front)) (behind_sizes (outline_of front)) marks add most more
+AreAskedBehind low marks front add most more = AreAsks low (behind_signs (outline_of front))
+    (behind_sizes (outline_of front)) marks add most more

@@ -1,6 +1,7 @@
 -- What a board keeps of the moves that are played on it.
--- Example (BoardExamples): the board of 3aa.2ue.1ea keeps the lefts 0, 2, 3, 0, 5, 5, the rights 2, 3, 1, 5, 2, 3, and of its three nodes the lines
--- 0, 2, 3, 1; 0, 2, 5; 5, 2, 3. Its first move hangs three squares, two lie at the left wall, and one at the right one.
+-- Example (BoardExamples): the board of 3aa.2ue.1ea keeps the lefts 0, 2, 3, 0, 5, 5, the rights 2, 3, 1, 5, 2, 3, and
+-- of its three nodes the lines 0, 2, 3, 1; 0, 2, 5; 5, 2, 3. Its first move hangs three squares, two lie at the left
+-- wall, and one at the right one.
 use Rattle.std.specs.Prelude.{List, ℕ, ◌≡◌}
 use Rattle.bk_word.specs.Word.{Word}
 use Rattle.bk_free_search.specs.Lefts.{IsLeftWord}
@@ -9,8 +10,8 @@ use Rattle.bk_free_search.specs.Rights.{rights_of}
 use Rattle.bk_layout.specs.WordNumbers.{first_count, left_squares, right_squares}
 use Rattle.bk_free_search.specs.declared.line_set.LineSet.{LineSet}
 
--- the left and the right lines of the squares, the lines that each closed node touches, how many squares the first move hangs, and
--- how many lie at the left wall and at the right one
+-- the left and the right lines of the squares, the lines that each closed node touches, how many squares the first move
+-- hangs, and how many lie at the left wall and at the right one
 pub record IsBoardOf (w : Word) (lefts rights : List ℕ) (nodes : List LineSet) (first left right : ℕ) : Type 0 where
   pub left_word : IsLeftWord w lefts
   pub rights_are : rights ≡ rights_of w

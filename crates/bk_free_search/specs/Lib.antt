@@ -1,16 +1,16 @@
 -- What the crate says.
-pub mod Sought
-pub mod SeenCounts
--- How its code keeps it.
-pub mod Lefts
 pub mod Rights
-pub mod NodeLines
-pub mod Joining
-pub mod TopLines
+pub mod SeenCounts
+pub mod Sought
+-- How its code keeps it.
+pub mod AllUnder
+pub mod Apart
+pub mod AskedSigns
 pub mod BoardOutlines
 pub mod Boards
-pub mod Apart
-pub mod Asking
-pub mod Strong
+pub mod Joining
 pub mod LastSquare
-pub mod AllUnder
+pub mod Lefts
+pub mod NodeLines
+pub mod Strong
+pub mod TopLines

@@ -1,11 +1,11 @@
--- The lines that closed nodes touch, as a board keeps them: those at the sides of the squares that end on the node, and of those
--- that hang from it.
--- For example, in 3aa.2ue.1ea the first node touches the lines 0 to 3, and the second one the lines 0, 2 and 5.
+-- The lines that closed nodes touch, as a board keeps them: those at the sides of the squares that end on the node, and
+-- of those that hang from it. For example, in 3aa.2ue.1ea the first node touches the lines 0 to 3, and the second one
+-- the lines 0, 2 and 5.
 use Rattle.std.specs.Int.{bit_at}
 use Rattle.std.specs.Prelude.{List, Some, length, slice_get, slice_index_or, ℕ, ◌+◌, ◌-◌, ◌<◌, ◌≡◌, ◌≤◌, ◌⊎◌}
 use Rattle.bk_word.specs.Play.{outline_of}
 use Rattle.bk_word.specs.Word.{Word}
-use Rattle.bk_layout.specs.LineNumbers.{sides_of}
+use Rattle.bk_layout.specs.LineNumbers.{square_lines}
 use Rattle.bk_layout.specs.NodeCut.{TouchesClosed}
 use Rattle.bk_free_search.specs.declared.line_set.LineSet.{LineSet}
 
@@ -35,31 +35,36 @@ pub record HasPair (nodes : List LineSet) (lefts rights : LineSet) : Type 0 wher
   pub pair : HasPairIn lines lefts rights
 
 -- the line lies at a side of the square of this number, by the left and the right lines of all squares
-abbrev pub IsBeside : List ℕ → List ℕ → ℕ → ℕ → Type 0
-IsBeside lefts rights number line = (slice_index_or lefts (number - 1) 0 ≡ line) ⊎ (slice_index_or rights (number - 1) 1 ≡ line)
+abbrev pub IsAtSquare : List ℕ → List ℕ → ℕ → ℕ → Type 0
+IsAtSquare lefts rights number line = (slice_index_or lefts (number - 1) 0 ≡ line)
+    ⊎ (slice_index_or rights (number - 1) 1 ≡ line)
 
 -- or of one of these squares
 pub record IsBesideOneOf (lefts rights squares : List ℕ) (line : ℕ) : Type 0 where
   pub place : ℕ
   pub number : ℕ
   pub at : slice_get squares place ≡ Some number
-  pub beside : IsBeside lefts rights number line
+  pub beside : IsAtSquare lefts rights number line
 
 -- or of one of so many squares that are hung after so many
 pub record IsBesideNew (lefts rights : List ℕ) (hung count line : ℕ) : Type 0 where
   pub k : ℕ
   pub low : k < count
-  pub beside : IsBeside lefts rights (hung + k + 1) line
+  pub beside : IsAtSquare lefts rights (hung + k + 1) line
 
--- so many new squares, where so many were hung before, stand between these two lines, and each two of them at a line of their own
+-- so many new squares, where so many were hung before, stand between these two lines, and each two of them at a line of
+-- their own
 pub record StandBetween (lefts rights : List ℕ) (hung count first last : ℕ) : Type 0 where
   pub first_is : slice_index_or lefts hung 0 ≡ first
   pub last_is : slice_index_or rights (hung + count - 1) 1 ≡ last
   pub lefts_are : (k : ℕ) → k + 1 < count → slice_index_or lefts (hung + k + 1) 0 ≡ hung + k + 2
   pub rights_are : (k : ℕ) → k + 1 < count → slice_index_or rights (hung + k) 1 ≡ hung + k + 2
 
--- for each closed node of the word the set of the lines that touch it; lines with numbers of 32 and more may be left out
+-- for each closed node of the word the set of the lines that touch it; lines with numbers of 32 and more may be left
+-- out
 pub record AreNodeLines (w : Word) (nodes : List LineSet) : Type 0 where
   pub as_many : length nodes ≡ length w
-  pub touch : (v line : ℕ) (lines : LineSet) → slice_get nodes v ≡ Some lines → Has lines line → TouchesClosed (outline_of w) (sides_of w) line v
-  pub all : (v line : ℕ) (lines : LineSet) → slice_get nodes v ≡ Some lines → line < 32 → TouchesClosed (outline_of w) (sides_of w) line v → Has lines line
+  pub touch : (v line : ℕ) (lines : LineSet) → slice_get nodes v ≡ Some lines → Has lines line
+      → TouchesClosed (outline_of w) (square_lines w) line v
+  pub all : (v line : ℕ) (lines : LineSet) → slice_get nodes v ≡ Some lines → line < 32
+      → TouchesClosed (outline_of w) (square_lines w) line v → Has lines line

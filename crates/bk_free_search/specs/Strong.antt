@@ -1,5 +1,6 @@
 -- A pass over the open segments as the search counts it.
--- Example (StrongExamples): over the segments of 2u.2ua, of which the first two are marked, it counts 3 moves and the weight 1.
+-- Example (StrongExamples): over the segments of 2u.2ua, of which the first two are marked, it counts 3 moves and the
+-- weight 1.
 use Rattle.std.specs.List.{list_any}
 use Rattle.std.specs.Prelude.{Bool, List, drop, length, max, nat_le, slice_index_or, take, ℕ, ◌+◌, ◌<◌, ◌||◌, ◌≤◌}
 use Rattle.bk_catalogue.specs.VerticalCut.{begins_on_line, on_line, segments_of}
@@ -15,16 +16,17 @@ abbrev pub with_mark : SeenPassed → SeenPassed
 with_mark p = record { most = max p.most (p.aboves + 1); aboves = p.aboves; more = p.more; low = p.low }
 
 -- the numbers are small after a pass over so many segments
-pub record IsFew (p : Passed) (k : ℕ) : Type 0 where
+pub record IsFewPassed (p : Passed) (k : ℕ) : Type 0 where
   pub most : p.most ≤ k + 2
   pub aboves : p.aboves ≤ k
   pub more : p.more ≤ k
 
--- whether the segment of so many of the open squares from a place on is marked, in front of one of as many as is said next: a line bounds
--- it or ended on it, or it has at least as many squares as the top
+-- whether the segment of so many of the open squares from a place on is marked, in front of one of as many as is said
+-- next: a line bounds it or ended on it, or it has at least as many squares as the top
 abbrev pub is_marked_segment : ℕ → List Bool → List ℕ → ℕ → ℕ → ℕ → Bool
 is_marked_segment top lines ends start size next =
-    (list_any (on_line lines) (take size (drop start ends)) || begins_on_line lines (take next (drop (start + size) ends))) || nat_le top size
+    (list_any (on_line lines) (take size (drop start ends)) || begins_on_line lines
+    (take next (drop (start + size) ends))) || nat_le top size
 
 -- the marks of the segments of these sizes
 abbrev pub marks_by_lists : ℕ → List Bool → List ℕ → List ℕ → List Bool

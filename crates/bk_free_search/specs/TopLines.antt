@@ -1,7 +1,7 @@
--- The squares whose left edges lie on a line that runs from the top between two squares of the first move, by the numbers of
--- their left lines.
--- Example (TopLineExamples): in 3aa.2ue.1ea the squares have the left lines 0, 2, 3, 0, 5, 5, and those of 2 and 3 begin at the
--- top.
+-- The squares whose left edges lie on a line that runs from the top between two squares of the first move, by the
+-- numbers of their left lines.
+-- Example (TopLineExamples): in 3aa.2ue.1ea the squares have the left lines 0, 2, 3, 0, 5, 5, and those of 2 and 3
+-- begin at the top.
 use Rattle.std.specs.Prelude.{Bool, List, map, nat_le, ℕ, ◌&&◌, ◌+◌, ◌≤◌}
 use Rattle.bk_free_search.specs.NodeLines.{Has}
 use Rattle.bk_free_search.specs.declared.line_set.LineSet.{LineSet}

@@ -4,12 +4,12 @@ ghost use Rattle.std.specs.Prelude.{cond, nat_lt, ◌+◌, ◌/◌, ◌<◌, ◌
 ghost use Rattle.bk_word.specs.Outline.{has_left_wall, has_right_wall};
 ghost use Rattle.bk_word.specs.Play.{outline_of};
 ghost use Rattle.bk_word.specs.Word.{order_of};
-ghost use Rattle.bk_free_search.specs.Asking.{AreEvensNeeded, AreMovesLeft};
+ghost use Rattle.bk_free_search.specs.AskedSigns.{AreEvensNeeded, AreMovesLeft};
 
 use crate::board::Board;
 use crate::counts::one_if;
 
-/// How many moves are left after the next one, and how many signs of this one are even at least. (Own.)
+/// How many moves are left after the next one, and how many signs of this one are even at least.
 #[derive(Clone, Copy, Drop)]
 pub(crate) struct Ahead {
     pub(crate) moves: usize,
@@ -41,8 +41,8 @@ pub(crate) fn look_ahead(board: &Board, order: u8, left_wall: bool, right_wall: 
     }
 }
 
-/// The most moves of a word of the order in which so many squares hang from the top, and so many lie at a wall: half of one square more,
-/// and one less than just half where more lie at the wall.
+/// The most moves of a word of the order in which so many squares hang from the top, and so many lie at a wall: half of
+/// one square more, and one less than just half where more lie at the wall.
 pub(crate) fn most_moves(order: u8, top: u8, wall: usize) -> usize
     ensures { result ≡ cond (nat_lt top wall) (order / 2) ((order + 1) / 2) }
 {

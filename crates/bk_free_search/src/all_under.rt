@@ -1,5 +1,5 @@
-//! Moves after which all signs are under. Where no more moves are left than segments, these are closed one by one at the right wall, so how the
-//! word ends is known before the move is played.
+//! Moves after which all signs are under. Where no more moves are left than segments, these are closed one by one at
+//! the right wall, so how the word ends is known before the move is played.
 #![tactic(auto)]
 
 ghost use Rattle.std.specs.List.{AllByRecursion, list_any};
@@ -18,7 +18,7 @@ use crate::counts::one_if;
 use bk_play::SmallMove;
 use bk_word::Sign;
 
-/// What stands after a move: how many squares at the top and at each wall, and how many signs. (Own.)
+/// What stands after a move: how many squares at the top and at each wall, and how many signs.
 #[derive(Clone, Copy, Drop)]
 pub(crate) struct After {
     pub(crate) top: u8,
@@ -27,8 +27,8 @@ pub(crate) struct After {
     pub(crate) signs: usize,
 }
 
-/// Whether no word of a normal layout goes on by this legal move, since all signs are under then, no more moves are left than segments, and to
-/// close these one by one doesn't end the word, or ends one with too many squares at a wall.
+/// Whether no word of a normal layout goes on by this legal move, since all signs are under then, no more moves are
+/// left than segments, and to close these one by one doesn't end the word, or ends one with too many squares at a wall.
 pub(crate) fn ends_otherwise(board: &Board, m: &SmallMove, order: u8) -> bool
     requires least { 3 ≤ order }
     requires most { order ≤ 16 }
@@ -53,7 +53,8 @@ pub(crate) fn ends_otherwise(board: &Board, m: &SmallMove, order: u8) -> bool
     2 * (moves + 1) == usize::from(order) + 3 && usize::from(after.top) < after.right + after.signs
 }
 
-// Whether none of the move's own signs is above, nor one of those behind the leftmost valley: then all are under after the move.
+// Whether none of the move's own signs is above, nor one of those behind the leftmost valley: then all are under after
+// the move.
 fn are_under_then(board: &Board, m: &SmallMove) -> bool
     ensures { IsTrue result → AllByRecursion (λ s. s ≡ Under) (outline_of (board.now ++ m.now ∷ [])).signs }
 {
@@ -81,7 +82,8 @@ fn look_after(board: &Board, m: &SmallMove) -> After
     }
 }
 
-// How many squares hang from the top after a move of so many, where before it there were so many moves, and so many squares hung there.
+// How many squares hang from the top after a move of so many, where before it there were so many moves, and so many
+// squares hung there.
 fn top_after(moves: u8, top: u8, count: u8) -> u8
     ensures none { moves ≡ 0 → result ≡ count }
     ensures some { 0 < moves → result ≡ top }

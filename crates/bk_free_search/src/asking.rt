@@ -6,10 +6,11 @@ ghost use Rattle.bk_word.specs.Play.{IsLegal, outline_of};
 ghost use Rattle.bk_word.specs.Word.{Move as SeenMove, Word as Moves, order_of};
 ghost use Rattle.bk_word.specs.declared.Sign.{Sign as SeenSign};
 ghost use Rattle.bk_word.specs.declared.Sign.TheVariants.{Even, Under};
-ghost use Rattle.bk_play.specs.SmallSkeleton.{IsValley};
+ghost use Rattle.bk_play.specs.SmallSkeleton.{IsValleyPlace};
 ghost use Rattle.bk_free_search.specs.Apart.{IsCountedTo};
-ghost use Rattle.bk_free_search.specs.Asking.{AreAskedBefore, AreFewAsks, AreFewBefore, AreMarks, AreNeeds, IsAsked, IsNext, IsOver, NeedsLeft, StandBeside};
-ghost use Rattle.bk_free_search.specs.Strong.{IsFew, seen_passed};
+ghost use Rattle.bk_free_search.specs.AskedSigns.{AreAskedBefore, AreFewAsks, AreFewBefore, AreMarks, AreNeeds};
+ghost use Rattle.bk_free_search.specs.AskedSigns.{IsAsked, IsNextCount, IsOver, NeedsLeft, StandBeside};
+ghost use Rattle.bk_free_search.specs.Strong.{IsFewPassed, seen_passed};
 
 use crate::ahead::{Ahead, look_ahead};
 use crate::behind::{Asks, Behind, behind_valley};
@@ -21,8 +22,8 @@ use crate::strong::{Passed, in_front_of_mark, none_passed, past_one};
 use bk_play::{ValleyPlace, open_side};
 use bk_word::Sign;
 
-/// What stands beside the leftmost valley: whether the walls do, what the segments before it ask for, and those behind it, what is ahead, and
-/// where the valley is. (Own.)
+/// What stands beside the leftmost valley: whether the walls do, what the segments before it ask for, and those behind
+/// it, what is ahead, and where the valley is.
 #[derive(Clone, Copy, Drop)]
 pub(crate) struct Beside {
     pub(crate) left_wall: bool,
@@ -34,7 +35,7 @@ pub(crate) struct Beside {
     pub(crate) valley: ValleyPlace,
 }
 
-/// What is asked for before the first sign of a next move, and with the sign even or under at a left neighbour. (Own.)
+/// What is asked for before the first sign of a next move, and with the sign even or under at a left neighbour.
 #[derive(Clone, Copy, Drop)]
 pub(crate) struct Before {
     pub(crate) none: Asked,
@@ -42,8 +43,8 @@ pub(crate) struct Before {
     pub(crate) under: Asked,
 }
 
-/// How many squares must be left after the next move at least, by what is asked for before its first sign, and with the sign even or under at a left
-/// neighbour. (Own.)
+/// How many squares must be left after the next move at least, by what is asked for before its first sign, and with the
+/// sign even or under at a left neighbour.
 #[derive(Clone, Copy, Drop)]
 pub(crate) struct Needs {
     pub(crate) none: usize,
@@ -51,8 +52,8 @@ pub(crate) struct Needs {
     pub(crate) under: usize,
 }
 
-/// Of a next move of some count: how many signs it has, how many of them without that at a right neighbour, and how many squares are left after
-/// it. (Own.)
+/// Of a next move of some count: how many signs it has, how many of them without that at a right neighbour, and how
+/// many squares are left after it.
 #[derive(Clone, Copy, Default, Drop)]
 pub(crate) struct Next {
     pub(crate) wanted: u8,
@@ -60,7 +61,7 @@ pub(crate) struct Next {
     pub(crate) left: usize,
 }
 
-/// What is counted in front of a segment, and how many of a move's first signs are even. (Own.)
+/// What is counted in front of a segment, and how many of a move's first signs are even.
 #[derive(Clone, Copy, Drop)]
 pub(crate) struct Asked {
     pub(crate) passed: Passed,
@@ -109,7 +110,7 @@ fn needs_of(before: &Before, behind: &Behind, moves: usize) -> Needs
 fn before_valley(board: &Board, marks: LineSet, valley: &ValleyPlace) -> Before
     requires few { order_of board.now ≤ 16 }
     requires marks { AreMarks board.now marks }
-    requires valley { IsValley board.now valley.now }
+    requires valley { IsValleyPlace board.now valley.now }
     ensures asked { AreAskedBefore board.now result }
     ensures few { AreFewBefore result }
 {
@@ -139,7 +140,7 @@ pub(crate) fn next_of(beside: &Beside, count: u8, left: usize) -> Next
     requires some { 0 < count }
     requires few { count ≤ 16 }
     ensures { (order : ℕ) (front : Moves) → StandBeside order front beside.now → left ≡ order - order_of front - count
-        → IsNext order front count result }
+        → IsNextCount order front count result }
 {
     let own = count - 1 + open_side(beside.left_wall) as u8;
     Next {
@@ -152,11 +153,12 @@ pub(crate) fn next_of(beside: &Beside, count: u8, left: usize) -> Next
 /// What is asked for with one sign more, behind one of the move's own squares.
 #[inline(always)]
 pub(crate) fn asked_with(asked: &Asked, sign: Sign) -> Asked
-    requires few { IsFew asked.now.passed 3000 }
+    requires few { IsFewPassed asked.now.passed 3000 }
     requires evens { asked.now.evens ≤ 1000 }
-    ensures asked { (front : Moves) (signs : List SeenSign) → IsAsked front signs asked.now → open_side (has_left_wall (outline_of front)) ≤ length signs
+    ensures asked { (front : Moves) (signs : List SeenSign) → IsAsked front signs asked.now
+        → open_side (has_left_wall (outline_of front)) ≤ length signs
         → IsAsked front (signs ++ sign ∷ []) result }
-    ensures few { (k : ℕ) → IsFew asked.now.passed k → IsFew result.passed (k + 1) }
+    ensures few { (k : ℕ) → IsFewPassed asked.now.passed k → IsFewPassed result.passed (k + 1) }
 {
     Asked {
         passed: past_one(asked.passed, sign, false),
@@ -167,7 +169,7 @@ pub(crate) fn asked_with(asked: &Asked, sign: Sign) -> Asked
 /// Whether the segments up to a place and those behind ask for more moves than are left, or for more squares.
 #[inline(always)]
 pub(crate) fn is_over(passed: &Passed, asks: &Asks, moves: usize, left: usize) -> bool
-    requires few { IsFew passed.now 3000 }
+    requires few { IsFewPassed passed.now 3000 }
     requires small { AreFewAsks asks.now 3000 }
     ensures { IsTrue result → IsOver passed.now asks.now moves left }
 {
@@ -178,11 +180,11 @@ pub(crate) fn is_over(passed: &Passed, asks: &Asks, moves: usize, left: usize) -
     left < most + passed.more + asks.more
 }
 
-// How many squares must be left at least, for the segments up to a place and those behind: more than there ever are where they ask for more moves
-// than are left.
+// How many squares must be left at least, for the segments up to a place and those behind: more than there ever are
+// where they ask for more moves than are left.
 #[inline]
 fn least_left(passed: &Passed, asks: &Asks, moves: usize) -> usize
-    requires few { IsFew passed.now 3000 }
+    requires few { IsFewPassed passed.now 3000 }
     requires small { AreFewAsks asks.now 3000 }
     ensures { NeedsLeft passed.now asks.now moves result }
 {
@@ -198,8 +200,9 @@ fn pass_before(board: &Board, marks: LineSet, many: usize) -> Passed
     requires few { order_of board.now ≤ 16 }
     requires marks { AreMarks board.now marks }
     requires many { many + 1 ≡ valley_place (outline_of board.now).signs }
-    ensures counted { (m : SeenMove) → IsLegal (board.now ++ m ∷ []) → IsCountedTo board.now m many (seen_passed result) }
-    ensures few { IsFew result many }
+    ensures counted { (m : SeenMove) → IsLegal (board.now ++ m ∷ [])
+        → IsCountedTo board.now m many (seen_passed result) }
+    ensures few { IsFewPassed result many }
     ensures small { many ≤ 32 }
 {
     let signs = board.skel().signs();
@@ -214,8 +217,9 @@ fn pass_before(board: &Board, marks: LineSet, many: usize) -> Passed
 fn left_even(board: &Board, marks: LineSet, place: usize, passed: Passed) -> Asked
     requires marks { AreMarks board.now marks }
     requires place { place + 1 ≡ valley_place (outline_of board.now).signs }
-    requires few { IsFew passed 402 }
-    requires counted { (m : SeenMove) → IsLegal (board.now ++ m ∷ []) → IsCountedTo board.now m place (seen_passed passed) }
+    requires few { IsFewPassed passed 402 }
+    requires counted { (m : SeenMove) → IsLegal (board.now ++ m ∷ [])
+        → IsCountedTo board.now m place (seen_passed passed) }
     ensures { IsAsked board.now (Even ∷ []) result }
 {
     Asked {
@@ -224,13 +228,14 @@ fn left_even(board: &Board, marks: LineSet, place: usize, passed: Passed) -> Ask
     }
 }
 
-// And with the sign under, where the valley stands behind that segment.
+// What is asked for with the sign under at a left neighbour, the segment at a place, where the valley stands behind it.
 fn left_under(board: &Board, marks: LineSet, valley: &ValleyPlace, passed: Passed) -> Asked
     requires marks { AreMarks board.now marks }
-    requires valley { IsValley board.now valley.now }
+    requires valley { IsValleyPlace board.now valley.now }
     requires some { 0 < valley.now.place }
-    requires few { IsFew passed 402 }
-    requires counted { (m : SeenMove) → IsLegal (board.now ++ m ∷ []) → IsCountedTo board.now m (valley.now.place - 1) (seen_passed passed) }
+    requires few { IsFewPassed passed 402 }
+    requires counted { (m : SeenMove) → IsLegal (board.now ++ m ∷ [])
+        → IsCountedTo board.now m (valley.now.place - 1) (seen_passed passed) }
     ensures { IsAsked board.now (Under ∷ []) result }
 {
     let behind = past_one(passed, Sign::Under, has_mark(marks, valley.place - 1));

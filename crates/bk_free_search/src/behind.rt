@@ -1,6 +1,7 @@
 //! What the segments behind the leftmost valley ask for, whatever is counted before them.
 
-ghost use Rattle.std.specs.Prelude.{Bool, List, [], cond, drop, false, length, nat_eq, slice_index_or, true, ℕ, ◌&&◌, ◌+◌, ◌-◌, ◌≡◌, ◌≤◌, ◌<◌, ◌∷◌};
+ghost use Rattle.std.specs.Prelude.{Bool, List, [], cond, drop, false, length, nat_eq, slice_index_or, true, ℕ, ◌&&◌};
+ghost use Rattle.std.specs.Prelude.{◌+◌, ◌-◌, ◌≡◌, ◌≤◌, ◌<◌, ◌∷◌};
 ghost use Rattle.bk_catalogue.specs.SingleValleys.{single_valley};
 ghost use Rattle.bk_word.specs.Outline.{valley_place};
 ghost use Rattle.bk_word.specs.Play.{outline_of};
@@ -9,7 +10,7 @@ ghost use Rattle.bk_word.specs.Word.{order_of};
 ghost use Rattle.bk_word.specs.declared.Sign.{Sign as SeenSign};
 ghost use Rattle.bk_word.specs.declared.Sign.TheVariants.{Above};
 ghost use Rattle.bk_free_search.specs.Apart.{AreAsks};
-ghost use Rattle.bk_free_search.specs.Asking.{AreBehind, AreFewAsks, AreMarks};
+ghost use Rattle.bk_free_search.specs.AskedSigns.{AreBehind, AreFewAsks, AreMarks};
 ghost use Rattle.bk_free_search.specs.NodeLines.{Has};
 
 use crate::board::Board;
@@ -17,8 +18,8 @@ use crate::line_set::LineSet;
 use crate::marks::{has_mark, is_wide_then};
 use bk_word::Sign;
 
-/// What some segments ask for: how many moves those before them are asked for besides, how many moves one of their own is, and how many squares
-/// more. (Own.)
+/// What some segments ask for: how many moves those before them are asked for besides, how many moves one of their own
+/// is, and how many squares more.
 #[derive(Clone, Copy, Drop)]
 pub(crate) struct Asks {
     pub(crate) add: usize,
@@ -26,7 +27,7 @@ pub(crate) struct Asks {
     pub(crate) more: usize,
 }
 
-/// What the segments behind the leftmost valley ask for, by the sign before the first of them. (Own.)
+/// What the segments behind the leftmost valley ask for, by the sign before the first of them.
 #[derive(Clone, Copy, Drop)]
 pub(crate) struct Behind {
     pub(crate) above: Asks,
@@ -34,7 +35,8 @@ pub(crate) struct Behind {
     pub(crate) under: Asks,
 }
 
-/// What is asked for behind the leftmost valley of a board, which is the segment at this place. At the right wall the last new square stands there.
+/// What is asked for behind the leftmost valley of a board, which is the segment at this place. At the right wall the
+/// last new square stands there.
 pub(crate) fn behind_valley(board: &Board, marks: LineSet, place: usize) -> Behind
     requires few { order_of board.now ≤ 16 }
     requires marks { AreMarks board.now marks }
@@ -76,8 +78,10 @@ fn asks_from(signs: &[Sign], sizes: &[u8], marks: LineSet, from: usize) -> Asks
     requires some { 0 < from }
     requires within { from ≤ length signs.now }
     requires few { length signs.now ≤ 400 }
-    ensures asks { (all : List Bool) → length all ≡ length sizes.now → ((i : ℕ) → Has marks i → slice_index_or all i false ≡ true)
-        → AreAsks (is_under (slice_index_or signs.now (from - 1) Above)) (drop from signs.now) (drop from sizes.now) (drop from all)
+    ensures asks { (all : List Bool) → length all ≡ length sizes.now
+        → ((i : ℕ) → Has marks i → slice_index_or all i false ≡ true)
+        → AreAsks (is_under (slice_index_or signs.now (from - 1) Above)) (drop from signs.now) (drop from sizes.now)
+        (drop from all)
         result.add result.most result.more }
     ensures few { AreFewAsks result 401 }
 {
@@ -94,19 +98,22 @@ fn asks_from(signs: &[Sign], sizes: &[u8], marks: LineSet, from: usize) -> Asks
     asks
 }
 
-// Whether the segment at a place, not the first, is a valley of one square if the sign at its right is above or a wall stands there.
+// Whether the segment at a place, not the first, is a valley of one square if the sign at its right is above or a wall
+// stands there.
 fn is_single(signs: &[Sign], sizes: &[u8], place: usize) -> bool
     requires some { 0 < place }
     requires within { place ≤ length signs.now }
     requires long { length sizes.now ≡ length signs.now + 1 }
-    ensures { result ≡ (is_under (slice_index_or signs.now (place - 1) Above) && nat_eq (slice_index_or sizes.now place 0) 1) }
+    ensures { result ≡ (is_under (slice_index_or signs.now (place - 1) Above) && nat_eq
+        (slice_index_or sizes.now place 0) 1) }
 {
     signs[place - 1].is_under() && sizes[place] == 1
 }
 
 // What the last segment asks for: whether it is a valley of one square, and marked.
 fn at_end(single: bool, mark: bool) -> Asks
-    ensures asks { (low : Bool) (size : ℕ) (marked : Bool) → cond {A = ℕ} single 1 0 ≡ single_valley low size → (mark ≡ true → marked ≡ true)
+    ensures asks { (low : Bool) (size : ℕ) (marked : Bool) → cond {A = ℕ} single 1 0 ≡ single_valley low size
+        → (mark ≡ true → marked ≡ true)
         → AreAsks low [] (size ∷ []) (marked ∷ []) result.add result.most result.more }
     ensures few { AreFewAsks result 1 }
 {
@@ -118,12 +125,14 @@ fn at_end(single: bool, mark: bool) -> Asks
     }
 }
 
-// And a segment in front of others, with this sign at its right.
+// What a segment in front of others asks for, with this sign at its right.
 fn in_front(rest: Asks, sign: Sign, single: bool, mark: bool) -> Asks
     requires { AreFewAsks rest 3000 }
     ensures asks { (low : Bool) (signs : List SeenSign) (size : ℕ) (sizes : List ℕ) (marked : Bool) (marks : List Bool)
-        → AreAsks (is_under sign) signs sizes marks rest.add rest.most rest.more → cond {A = ℕ} single 1 0 ≡ single_valley low size
-        → (mark ≡ true → marked ≡ true) → AreAsks low (sign ∷ signs) (size ∷ sizes) (marked ∷ marks) result.add result.most result.more }
+        → AreAsks (is_under sign) signs sizes marks rest.add rest.most rest.more
+        → cond {A = ℕ} single 1 0 ≡ single_valley low size
+        → (mark ≡ true → marked ≡ true)
+        → AreAsks low (sign ∷ signs) (size ∷ sizes) (marked ∷ marks) result.add result.most result.more }
     ensures few { (k : ℕ) → AreFewAsks rest k → AreFewAsks result (k + 1) }
 {
     let one = usize::from(single);

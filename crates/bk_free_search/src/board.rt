@@ -5,7 +5,7 @@ ghost use Rattle.std.specs.Prelude.{IsTrue, [], cond, length, nat_eq, take, ℕ,
 ghost use Rattle.bk_word.specs.Outline.{IsLegalMove};
 ghost use Rattle.bk_word.specs.Play.{IsLegal, outline_of};
 ghost use Rattle.bk_word.specs.Word.{order_of};
-ghost use Rattle.bk_layout.specs.LineNumbers.{left_end, lefts_of, right_end, sides_of};
+ghost use Rattle.bk_layout.specs.LineNumbers.{left_end, lefts_of, right_end, square_lines};
 ghost use Rattle.bk_free_search.specs.BoardOutlines.{IsBoardOutline};
 ghost use Rattle.bk_free_search.specs.Joining.{TouchOneOf};
 ghost use Rattle.bk_free_search.specs.Lefts.{IsLeftOfOne};
@@ -25,10 +25,10 @@ use bk_short::Short;
 use bk_word::INLINE_ORDER;
 use std::marker::Model;
 
-/// A skeleton of at most 16 squares, of each of its squares the numbers of the lines at its left and its right edge, of each closed
-/// node the lines that it touches, how many squares the first move hangs, and how many lie at each wall. Line 0 is the left wall, 1
-/// the right one, and k + 2 that between the square at place k, in the order of hanging from 0, and the next of its move. It is seen
-/// as the list of its moves. (Own.)
+/// A skeleton of at most 16 squares, of each of its squares the numbers of the lines at its left and its right edge, of
+/// each closed node the lines that it touches, how many squares the first move hangs, and how many lie at each wall.
+/// Line 0 is the left wall, 1 the right one, and k + 2 that between the square at place k, in the order of hanging from
+/// 0, and the next of its move. It is seen as the list of its moves.
 #[derive(Drop)]
 pub struct Board {
     skel: SmallSkel,
@@ -40,7 +40,7 @@ pub struct Board {
     right: u8,
 }
 
-/// How a board stands before a move, by which that move is taken back. It is copied at one stroke. (Own.)
+/// How a board stands before a move, by which that move is taken back. It is copied at one stroke.
 #[derive(Clone, Copy, Drop)]
 pub(crate) struct BoardOutline {
     skel: SmallOutline,
@@ -120,13 +120,6 @@ impl Board {
         self.lefts.as_slice()
     }
 
-    /// The number of the line at the right edge of each square, in the order of hanging.
-    pub fn rights(&self) -> &[u8]
-        ensures { result.now ≡ rights_of self.now }
-    {
-        self.rights.as_slice()
-    }
-
     /// How many squares the first move hangs: none where there is no move.
     pub(crate) fn first(&self) -> u8
         ensures { result ≡ first_count self.now }
@@ -134,8 +127,8 @@ impl Board {
         self.first
     }
 
-    /// How many squares and moves there are, and how many squares hang from the top, stand in the first open segment, which is the last
-    /// one of a complete word, and lie at each wall.
+    /// How many squares and moves there are, and how many squares hang from the top, stand in the first open segment,
+    /// which is the last one of a complete word, and lie at each wall.
     pub fn counts(&self) -> Counts
         ensures { seen_counts result ≡ counts_of_word self.now }
     {
@@ -165,7 +158,7 @@ impl Board {
 
     /// The line at the left of the first of these squares: the left wall where there are none.
     pub(crate) fn left_end(&self, squares: &[u8]) -> u8
-        ensures value { result ≡ left_end (sides_of self.now) squares.now }
+        ensures value { result ≡ left_end (square_lines self.now) squares.now }
         ensures low { result < 32 }
     {
         left_of_first(self.lefts.as_slice(), squares)
@@ -173,7 +166,7 @@ impl Board {
 
     /// The line at the right of the last of them: the right wall where there are none.
     pub(crate) fn right_end(&self, squares: &[u8]) -> u8
-        ensures value { result ≡ right_end (sides_of self.now) squares.now }
+        ensures value { result ≡ right_end (square_lines self.now) squares.now }
         ensures low { result < 32 }
     {
         right_of_last(self.rights.as_slice(), squares)

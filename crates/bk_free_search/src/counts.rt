@@ -2,8 +2,8 @@
 
 ghost use Rattle.std.specs.Prelude.{cond, ◌≡◌};
 
-/// How many squares and moves a word has, how many squares hang from the top and stand in its first open segment, and how many
-/// lie at each wall.
+/// How many squares and moves a word has, how many squares hang from the top and stand in its first open segment, and
+/// how many lie at each wall.
 #[derive(Clone, Copy, Drop)]
 pub struct Counts {
     pub squares: u8,

@@ -5,7 +5,7 @@ ghost use Rattle.std.specs.List.{list_any};
 ghost use Rattle.std.specs.Prelude.{IsTrue, Some, [], length, slice_get, ◌++◌, ◌<◌, ◌∷◌, ◌≡◌, ◌≤◌};
 ghost use Rattle.bk_word.specs.Outline.{IsLegalMove, valley_place};
 ghost use Rattle.bk_word.specs.Play.{IsLegal, outline_of, parts};
-ghost use Rattle.bk_play.specs.SmallSkeleton.{IsValley};
+ghost use Rattle.bk_play.specs.SmallSkeleton.{IsValleyPlace};
 ghost use Rattle.bk_layout.specs.NodeCut.{ShareANode};
 ghost use Rattle.bk_layout.specs.NetWord.{IsNetBarren};
 ghost use Rattle.bk_free_search.specs.Joining.{JoinsLeft, JoinsRight};
@@ -15,11 +15,11 @@ use crate::line_set::{no_line, with_line};
 use bk_play::{SmallMove, SmallSkel, ValleyPlace};
 use bk_word::Sign;
 
-/// Whether no word of the order goes on from the board's moves by this legal one, as it hangs one square: it leaves one segment
-/// while squares are left, or two lines at the segment that it joins share a closed node. A move of more squares joins no two
-/// segments that stand open before.
+/// Whether no word of the order goes on from the board's moves by this legal one, as it hangs one square: it leaves one
+/// segment while squares are left, or two lines at the segment that it joins share a closed node. A move of more
+/// squares joins no two segments that stand open before.
 pub(crate) fn joins_barrenly(board: &Board, valley: &ValleyPlace, m: &SmallMove, order: u8) -> bool
-    requires valley { IsValley board.now valley.now }
+    requires valley { IsValleyPlace board.now valley.now }
     requires legal { IsLegalMove (outline_of board.now) m.now }
     ensures { IsTrue result → IsNetBarren order (board.now ++ m.now ∷ []) }
 {
@@ -51,7 +51,7 @@ fn any_parts(signs: &[Sign]) -> bool
 
 // Whether, after a legal move of one square, two lines at the segment that it joins bound a part of the tiling.
 pub(crate) fn joins_parted(board: &Board, valley: &ValleyPlace, m: &SmallMove) -> bool
-    requires valley { IsValley board.now valley.now }
+    requires valley { IsValleyPlace board.now valley.now }
     requires legal { IsLegalMove (outline_of board.now) m.now }
     requires one { m.now.count ≡ 1 }
     ensures { IsTrue result → ShareANode (board.now ++ m.now ∷ []) }
@@ -73,7 +73,7 @@ pub(crate) fn joins_parted(board: &Board, valley: &ValleyPlace, m: &SmallMove) -
 // The squares of the segment at the left of the valley, where the move joins its square with them; else none.
 fn joined_left<'a>(skel: &'a SmallSkel, valley: &ValleyPlace, m: &SmallMove) -> &'a [u8]
     requires word { IsLegal skel.now }
-    requires valley { IsValley skel.now valley.now }
+    requires valley { IsValleyPlace skel.now valley.now }
     ensures { JoinsLeft (outline_of skel.now) m.now result.now }
 {
     if valley.place == 0 || m.signs.as_slice().first() != Some(&Sign::Even) {
@@ -83,10 +83,10 @@ fn joined_left<'a>(skel: &'a SmallSkel, valley: &ValleyPlace, m: &SmallMove) -> 
     &skel.ends()[valley.start - many..valley.start]
 }
 
-// Those at its right, likewise.
+// The squares of the segment at the right of the valley, where the move joins its square with them; else none.
 fn joined_right<'a>(skel: &'a SmallSkel, valley: &ValleyPlace, m: &SmallMove) -> &'a [u8]
     requires word { IsLegal skel.now }
-    requires valley { IsValley skel.now valley.now }
+    requires valley { IsValleyPlace skel.now valley.now }
     ensures { JoinsRight (outline_of skel.now) m.now result.now }
 {
     if valley.place == skel.signs().len() || m.signs.as_slice().last() != Some(&Sign::Even) {

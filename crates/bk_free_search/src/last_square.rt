@@ -1,4 +1,5 @@
-//! The last square of a word: it is even with the segments at both its sides, so what the word then is can be asked before the square is played.
+//! The last square of a word: it is even with the segments at both its sides, so what the word then is can be asked
+//! before the square is played.
 #![tactic(auto)]
 
 ghost use Rattle.std.specs.Prelude.{IfNone, IfSome, IsTrue, replicate, ◌+◌, ◌≡◌, ◌≤◌};
@@ -16,7 +17,8 @@ use bk_play::{SmallMove, SmallSkel, open_side};
 use bk_short::Short;
 use bk_word::Sign;
 
-/// The move by which words of a normal layout go on from the board, of which one square is left: `None` where none goes on.
+/// The move by which words of a normal layout go on from the board, of which one square is left: `None` where none goes
+/// on.
 pub(crate) fn last_move(board: &Board, order: u8) -> Option<SmallMove>
     requires least { 3 ≤ order }
     requires one { order_of board.now + 1 ≡ order }
@@ -49,8 +51,8 @@ fn stays_open(board: &Board, order: u8) -> bool
     skel.signs().len() != neighbours(skel)
 }
 
-// Whether the whole word has more squares at the bottom than at the top, or at the left wall than at the right, or at the right wall than at
-// the top where it has as many moves as can be.
+// Whether the whole word has more squares at the bottom than at the top, or at the left wall than at the right, or at
+// the right wall than at the top where it has as many moves as can be.
 fn bars_counts(board: &Board, order: u8) -> bool
     requires least { 3 ≤ order }
     requires one { order_of board.now + 1 ≡ order }

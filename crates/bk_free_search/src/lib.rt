@@ -1,4 +1,5 @@
-//! The search for normal images by their nets: it meets each word that is sought, and none whose beginning is known to be barren.
+//! The search for normal images by their nets: it meets each word that is sought, and none whose beginning is known to
+//! be barren.
 #![tactic(auto)]
 
 mod ahead;

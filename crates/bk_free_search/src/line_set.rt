@@ -3,7 +3,7 @@
 ghost use Rattle.std.specs.Prelude.{IsTrue, true, ℕ, ◌<◌, ◌≡◌, ◌⊎◌};
 ghost use Rattle.bk_free_search.specs.NodeLines.{Has};
 
-/// A set of lines, of which it keeps those with numbers below 32. (Own.)
+/// A set of lines, of which it keeps those with numbers below 32.
 #[derive(Clone, Copy, Default, Drop)]
 pub(crate) struct LineSet {
     pub(crate) bits: u32,

@@ -1,5 +1,5 @@
-//! Which open segments are marked: those that a line from the top bounds or that one ended on, and those with as many squares as the top. None
-//! of them is the last one.
+//! Which open segments are marked: those that a line from the top bounds or that one ended on, and those with as many
+//! squares as the top. None of them is the last one.
 
 ghost use Rattle.std.specs.List.{sum};
 ghost use Rattle.std.specs.Prelude.{IsTrue, false, length, slice_index_or, true, ℕ, ◌+◌, ◌<◌, ◌≡◌, ◌≤◌, ◌⊎◌};
@@ -7,10 +7,10 @@ ghost use Rattle.bk_catalogue.specs.VerticalCut.{begins_on_line, edges_on_lines}
 ghost use Rattle.bk_word.specs.Outline.{sizes_of, valley_of};
 ghost use Rattle.bk_word.specs.Play.{outline_of};
 ghost use Rattle.bk_word.specs.Word.{order_of};
-ghost use Rattle.bk_play.specs.SmallSkeleton.{IsValley};
+ghost use Rattle.bk_play.specs.SmallSkeleton.{IsValleyPlace};
 ghost use Rattle.bk_layout.specs.WordNumbers.{first_count};
 ghost use Rattle.bk_free_search.specs.Apart.{marks_of_word};
-ghost use Rattle.bk_free_search.specs.Asking.{AreMarks};
+ghost use Rattle.bk_free_search.specs.AskedSigns.{AreMarks};
 ghost use Rattle.bk_free_search.specs.NodeLines.{Has};
 ghost use Rattle.bk_free_search.specs.Strong.{AreFilled, marks_by_lists};
 ghost use Rattle.bk_free_search.specs.TopLines.{HasOneFrom, on_top_lines};
@@ -20,7 +20,7 @@ use crate::line_set::{LineSet, has_line, no_line, with_place};
 use crate::top_lines::places_on_lines;
 use bk_play::ValleyPlace;
 
-/// The places of marked segments of a board. (Own.)
+/// The places of marked segments of a board.
 pub(crate) fn marks_of(board: &Board) -> LineSet
     requires few { order_of board.now ≤ 16 }
     ensures { AreMarks board.now result }
@@ -29,13 +29,14 @@ pub(crate) fn marks_of(board: &Board) -> LineSet
     marks_in(skel.sizes(), skel.ends(), board.lefts(), board.first())
 }
 
-// Those of segments of so many squares each, of which these are the numbers, by the left line of each square, and how many squares hang from
-// the top.
+// The places of marked segments, of which these are the sizes and the square numbers, by the left line of each square
+// and how many squares hang from the top.
 fn marks_in(sizes: &[u8], ends: &[u8], lefts: &[u8], top: u8) -> LineSet
     requires whole { sum sizes.now ≡ length ends.now }
     requires many { length ends.now ≤ 16 }
     requires filled { AreFilled sizes.now }
-    ensures { (i : ℕ) → Has result i → slice_index_or (marks_by_lists top (on_top_lines top lefts.now) sizes.now ends.now) i false ≡ true }
+    ensures { (i : ℕ) → Has result i
+        → slice_index_or (marks_by_lists top (on_top_lines top lefts.now) sizes.now ends.now) i false ≡ true }
 {
     let on_lines = places_on_lines(ends, lefts, top);
     let mut marks = no_line();
@@ -68,7 +69,7 @@ fn has_one(places: LineSet, start: usize, many: usize) -> bool
 
 /// Whether a line from the top stands at the left of the valley.
 pub(crate) fn is_left_on_line(board: &Board, valley: &ValleyPlace) -> bool
-    requires { IsValley board.now valley.now }
+    requires { IsValleyPlace board.now valley.now }
     ensures { IsTrue result → begins_on_line (edges_on_lines board.now) (valley_of (outline_of board.now)) ≡ true }
 {
     let line = board.left_end(&board.skel().ends()[valley.start..valley.end]);

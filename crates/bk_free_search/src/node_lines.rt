@@ -1,13 +1,14 @@
 //! The lines that nodes touch.
 
 ghost use Rattle.std.specs.Prelude.{IsTrue, ℕ, ◌+◌, ◌<◌, ◌≡◌, ◌≤◌, ◌⊎◌};
-ghost use Rattle.bk_free_search.specs.NodeLines.{AreLow, Has, HasPair, HasPairIn, IsBeside, IsBesideNew, IsBesideOneOf, StandBetween};
+ghost use Rattle.bk_free_search.specs.NodeLines.{AreLow, Has, HasPair, HasPairIn, IsAtSquare, IsBesideNew};
+ghost use Rattle.bk_free_search.specs.NodeLines.{IsBesideOneOf, StandBetween};
 
 use crate::line_set::{LineSet, joined_lines, no_line, with_line};
 use crate::sides::{left_of, right_of};
 
-/// The lines that a node touches: those at the sides of the squares that end on it, by their numbers, and of so many that hang
-/// from it between these two lines, where so many squares were hung before.
+/// The lines that a node touches: those at the sides of the squares that end on it, by their numbers, and of so many
+/// that hang from it between these two lines, where so many squares were hung before.
 pub(crate) fn node_lines(
     lefts: &[u8],
     rights: &[u8],
@@ -25,7 +26,8 @@ pub(crate) fn node_lines(
     ensures only { (line : ℕ) → Has result line
         → IsBesideOneOf lefts.now rights.now squares.now line ⊎ IsBesideNew lefts.now rights.now hung count line }
     ensures all { (line : ℕ) → line < 32
-        → IsBesideOneOf lefts.now rights.now squares.now line ⊎ IsBesideNew lefts.now rights.now hung count line → Has result line }
+        → IsBesideOneOf lefts.now rights.now squares.now line ⊎ IsBesideNew lefts.now rights.now hung count line
+        → Has result line }
 {
     let ended = lines_beside(lefts, rights, squares);
     let outer = with_line(with_line(ended, first), last);
@@ -62,8 +64,8 @@ fn lines_beside(lefts: &[u8], rights: &[u8], squares: &[u8]) -> LineSet
 fn with_sides(lines: LineSet, lefts: &[u8], rights: &[u8], square: u8) -> LineSet
     requires lefts { AreLow lefts.now }
     requires rights { AreLow rights.now }
-    ensures only { (line : ℕ) → Has result line → IsBeside lefts.now rights.now square line ⊎ Has lines line }
-    ensures all { (line : ℕ) → line < 32 → IsBeside lefts.now rights.now square line → Has result line }
+    ensures only { (line : ℕ) → Has result line → IsAtSquare lefts.now rights.now square line ⊎ Has lines line }
+    ensures all { (line : ℕ) → line < 32 → IsAtSquare lefts.now rights.now square line → Has result line }
     ensures kept { (line : ℕ) → Has lines line → Has result line }
 {
     let with_left = with_line(lines, left_of(lefts, square));
@@ -85,7 +87,8 @@ pub(crate) fn has_pair(nodes: &[LineSet], lefts: LineSet, rights: LineSet) -> bo
     false
 }
 
-// Whether a line of each set is among these: the left wall, which is line 0, with the right one, which is line 1, is no such pair.
+// Whether a line of each set is among these: the left wall, which is line 0, with the right one, which is line 1, is no
+// such pair.
 fn touches_pair(lines: LineSet, lefts: LineSet, rights: LineSet) -> bool
     ensures { IsTrue result → HasPairIn lines lefts rights }
 {

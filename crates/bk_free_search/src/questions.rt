@@ -1,15 +1,18 @@
-//! What is asked of words that have begun: each answer that bars them rests on a law that no word of a normal layout goes on so.
+//! What is asked of words that have begun: each answer that bars them rests on a law that no word of a normal layout
+//! goes on so.
 
-ghost use Rattle.std.specs.Prelude.{IfNone, IfSome, IsTrue, List, [], false, length, true, ℕ, ◌++◌, ◌+◌, ◌<◌, ◌∷◌, ◌≡◌, ◌≤◌};
+ghost use Rattle.std.specs.Prelude.{IfNone, IfSome, IsTrue, List, [], false, length, true, ℕ, ◌++◌, ◌+◌, ◌<◌, ◌∷◌, ◌≡◌};
+ghost use Rattle.std.specs.Prelude.{◌≤◌};
 ghost use Rattle.bk_word.specs.Outline.{IsLegalMove, has_left_wall, open_side};
 ghost use Rattle.bk_word.specs.Play.{outline_of};
 ghost use Rattle.bk_word.specs.Word.{Move as SeenMove, Word as Moves, order_of};
 ghost use Rattle.bk_word.specs.declared.Sign.{Sign as SeenSign};
 ghost use Rattle.bk_word.specs.declared.Sign.TheVariants.{Above, Even, Under};
-ghost use Rattle.bk_play.specs.SmallSkeleton.{IsValley};
+ghost use Rattle.bk_play.specs.SmallSkeleton.{IsValleyPlace};
 ghost use Rattle.bk_layout.specs.NormalCuts.{IsNormalBarren};
-ghost use Rattle.bk_free_search.specs.Asking.{AreFewAsks, BarsSigns, IsAsked, IsBegun, IsWithOwn, StandBeside, asks_then};
-ghost use Rattle.bk_free_search.specs.Strong.{IsFew};
+ghost use Rattle.bk_free_search.specs.AskedSigns.{AreFewAsks, BarsSigns, IsAsked, IsMoveBegun, IsWithOwn, StandBeside};
+ghost use Rattle.bk_free_search.specs.AskedSigns.{asks_then};
+ghost use Rattle.bk_free_search.specs.Strong.{IsFewPassed};
 ghost use Rattle.bk_free_search.specs.declared.asking.Next.{Next};
 
 use crate::all_under::ends_otherwise;
@@ -22,7 +25,8 @@ use bk_play::{ValleyPlace, open_side};
 use bk_word::Sign;
 
 impl Search {
-    // Whether the next move would be the last one, though two squares or more are left, or would need more even signs than it has neighbours.
+    // Whether the next move would be the last one, though two squares or more are left, or would need more even signs
+    // than it has neighbours.
     pub(crate) fn lacks_next(&self, beside: &Beside) -> bool
         requires few { order_of self.now.board < self.now.order }
         requires beside { StandBeside self.now.order self.now.board beside.now }
@@ -40,7 +44,7 @@ impl Search {
         requires most { self.now.order ≤ 16 }
         requires few { order_of self.now.board + begun.now.m.count < self.now.order }
         requires legal { IsLegalMove (outline_of self.now.board) begun.now.m }
-        requires valley { IsValley self.now.board valley.now }
+        requires valley { IsValleyPlace self.now.board valley.now }
         ensures { IsTrue result → IsNormalBarren self.now.order (self.now.board ++ begun.now.m ∷ []) }
     {
         if joins_barrenly(&self.board, valley, &begun.m, self.order) {
@@ -50,12 +54,14 @@ impl Search {
     }
 }
 
-/// Whether more moves or squares are asked for with a next move's first signs, which have no right neighbour's sign behind them, than are left.
+/// Whether more moves or squares are asked for with a next move's first signs, which have no right neighbour's sign
+/// behind them, than are left.
 #[inline(always)]
 pub(crate) fn asks_too_much(begun: &Begun, around: &Beside, asked: &Asked) -> bool
-    requires few { IsFew asked.now.passed 3000 }
+    requires few { IsFewPassed asked.now.passed 3000 }
     requires small { AreFewAsks around.now.behind.even 3000 }
-    ensures { IsTrue result → (n : ℕ) (front : Moves) (signs : List SeenSign) → IsBegun n front begun.now.m begun.now.next around.now
+    ensures { IsTrue result → (n : ℕ) (front : Moves) (signs : List SeenSign)
+        → IsMoveBegun n front begun.now.m begun.now.next around.now
         → IsAsked front signs asked.now → open_side (has_left_wall (outline_of front)) ≤ length signs
         → length signs ≤ begun.now.next.own → BarsSigns n front begun.now.m.count signs }
 {
@@ -70,10 +76,11 @@ pub(crate) fn asks_too_much(begun: &Begun, around: &Beside, asked: &Asked) -> bo
 /// Whether they are with all its signs, where the last one isn't even.
 #[inline(always)]
 pub(crate) fn asks_too_much_then(begun: &Begun, around: &Beside, asked: &Asked) -> bool
-    requires few { IsFew asked.now.passed 3000 }
+    requires few { IsFewPassed asked.now.passed 3000 }
     requires small { AreFewAsks around.now.behind.under 3000 }
     requires small_above { AreFewAsks around.now.behind.above 3000 }
-    ensures { IsTrue result → (n : ℕ) (front : Moves) (signs : List SeenSign) → IsBegun n front begun.now.m begun.now.next around.now
+    ensures { IsTrue result → (n : ℕ) (front : Moves) (signs : List SeenSign)
+        → IsMoveBegun n front begun.now.m begun.now.next around.now
         → IsAsked front signs asked.now → length signs ≡ begun.now.next.wanted
         → BarsSigns n front begun.now.m.count signs }
 {
@@ -96,7 +103,8 @@ fn asks_then(behind: &Behind, low: bool) -> &Asks
 // Whether a sign that isn't even at the left neighbour leaves too few that can be.
 #[inline(always)]
 fn needs_left_even(around: &Beside) -> bool
-    ensures { IsTrue result → (n : ℕ) (front : Moves) → StandBeside n front around.now → (count : ℕ) (sign : SeenSign) → (sign ≡ Even → ⊥)
+    ensures { IsTrue result → (n : ℕ) (front : Moves) → StandBeside n front around.now → (count : ℕ) (sign : SeenSign)
+        → (sign ≡ Even → ⊥)
         → BarsSigns n front count (sign ∷ []) }
 {
     open_side(around.right_wall) < around.ahead.evens
@@ -105,8 +113,10 @@ fn needs_left_even(around: &Beside) -> bool
 // Whether one that isn't even at the right neighbour does.
 #[inline(always)]
 fn lacks_even(around: &Beside, asked: &Asked) -> bool
-    ensures { IsTrue result → (n : ℕ) (front : Moves) (m : SeenMove) (next : Next) → IsBegun n front m next around.now → IsAsked front m.signs asked.now
-        → length m.signs + 1 ≡ next.wanted → (sign : SeenSign) → (sign ≡ Even → ⊥) → BarsSigns n front m.count (m.signs ++ sign ∷ []) }
+    ensures { IsTrue result → (n : ℕ) (front : Moves) (m : SeenMove) (next : Next)
+        → IsMoveBegun n front m next around.now → IsAsked front m.signs asked.now
+        → length m.signs + 1 ≡ next.wanted → (sign : SeenSign) → (sign ≡ Even → ⊥)
+        → BarsSigns n front m.count (m.signs ++ sign ∷ []) }
 {
     asked.evens < around.ahead.evens
 }
@@ -114,7 +124,8 @@ fn lacks_even(around: &Beside, asked: &Asked) -> bool
 /// Whether fewer squares are left after a next move at the left wall than are asked for before its first sign.
 #[inline(always)]
 pub(crate) fn bars_none(begun: &Begun, around: &Beside) -> bool
-    ensures { IsTrue result → (n : ℕ) (front : Moves) → IsBegun n front begun.now.m begun.now.next around.now → begun.now.m.signs ≡ []
+    ensures { IsTrue result → (n : ℕ) (front : Moves) → IsMoveBegun n front begun.now.m begun.now.next around.now
+        → begun.now.m.signs ≡ []
         → has_left_wall (outline_of front) ≡ true → BarsSigns n front begun.now.m.count begun.now.m.signs }
 {
     begun.next.left < around.needs.none
@@ -123,8 +134,10 @@ pub(crate) fn bars_none(begun: &Begun, around: &Beside) -> bool
 /// Whether no word goes on with the sign even at a left neighbour: fewer squares are left than are asked for with it.
 #[inline(always)]
 pub(crate) fn bars_first_even(begun: &Begun, around: &Beside) -> bool
-    ensures { IsTrue result → (n : ℕ) (front : Moves) → IsBegun n front begun.now.m begun.now.next around.now → begun.now.m.signs ≡ []
-        → has_left_wall (outline_of front) ≡ false → BarsSigns n front begun.now.m.count (begun.now.m.signs ++ Even ∷ []) }
+    ensures { IsTrue result → (n : ℕ) (front : Moves) → IsMoveBegun n front begun.now.m begun.now.next around.now
+        → begun.now.m.signs ≡ []
+        → has_left_wall (outline_of front) ≡ false
+        → BarsSigns n front begun.now.m.count (begun.now.m.signs ++ Even ∷ []) }
 {
     begun.next.left < around.needs.even
 }
@@ -132,33 +145,38 @@ pub(crate) fn bars_first_even(begun: &Begun, around: &Beside) -> bool
 /// Whether none does with the sign under there: likewise, or since too few signs then can be even.
 #[inline(always)]
 pub(crate) fn bars_first_under(begun: &Begun, around: &Beside) -> bool
-    ensures { IsTrue result → (n : ℕ) (front : Moves) → IsBegun n front begun.now.m begun.now.next around.now → begun.now.m.signs ≡ []
-        → has_left_wall (outline_of front) ≡ false → BarsSigns n front begun.now.m.count (begun.now.m.signs ++ Under ∷ []) }
+    ensures { IsTrue result → (n : ℕ) (front : Moves) → IsMoveBegun n front begun.now.m begun.now.next around.now
+        → begun.now.m.signs ≡ []
+        → has_left_wall (outline_of front) ≡ false
+        → BarsSigns n front begun.now.m.count (begun.now.m.signs ++ Under ∷ []) }
 {
     needs_left_even(around) || begun.next.left < around.needs.under
 }
 
-/// Whether none does with the sign above between two of the move's own squares, with which this is asked for: rule R bars it behind the sign
-/// even alone.
+/// Whether none does with the sign above between two of the move's own squares, with which this is asked for: rule R
+/// bars it behind the sign even alone.
 #[inline(always)]
 pub(crate) fn bars_own_above(begun: &Begun, around: &Beside, asked: &Asked, above: &Asked) -> bool
-    requires few { IsFew above.now.passed 3000 }
+    requires few { IsFewPassed above.now.passed 3000 }
     requires small { AreFewAsks around.now.behind.even 3000 }
-    ensures { IsTrue result → (n : ℕ) (front : Moves) → IsWithOwn n front begun.now.m begun.now.next around.now asked.now
+    ensures { IsTrue result → (n : ℕ) (front : Moves)
+        → IsWithOwn n front begun.now.m begun.now.next around.now asked.now
         → IsAsked front (begun.now.m.signs ++ Above ∷ []) above.now → length begun.now.m.signs < begun.now.next.own
         → BarsSigns n front begun.now.m.count (begun.now.m.signs ++ Above ∷ []) }
 {
     bars_above(&begun.m, asked) || asks_too_much(begun, around, above)
 }
 
-/// Whether none does with this sign, which isn't even, at a right neighbour: too few signs then are even, or too much is asked for.
+/// Whether none does with this sign, which isn't even, at a right neighbour: too few signs then are even, or too much
+/// is asked for.
 #[inline(always)]
 pub(crate) fn bars_last(begun: &Begun, around: &Beside, asked: &Asked, sign: Sign) -> bool
-    requires few { IsFew asked.now.passed 2999 }
+    requires few { IsFewPassed asked.now.passed 2999 }
     requires evens { asked.now.evens ≤ 1000 }
     requires small { AreFewAsks around.now.behind.under 3000 }
     requires small_above { AreFewAsks around.now.behind.above 3000 }
-    ensures { IsTrue result → (n : ℕ) (front : Moves) → IsWithOwn n front begun.now.m begun.now.next around.now asked.now
+    ensures { IsTrue result → (n : ℕ) (front : Moves)
+        → IsWithOwn n front begun.now.m begun.now.next around.now asked.now
         → length begun.now.m.signs + 1 ≡ begun.now.next.wanted → (sign ≡ Even → ⊥)
         → BarsSigns n front begun.now.m.count (begun.now.m.signs ++ sign ∷ []) }
 {

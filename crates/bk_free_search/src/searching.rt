@@ -5,8 +5,8 @@ ghost use Rattle.bk_word.specs.Outline.{IsLegalMove};
 ghost use Rattle.bk_word.specs.Play.{IsComplete, outline_of};
 ghost use Rattle.bk_word.specs.Word.{Word as Moves, order_of};
 ghost use Rattle.bk_layout.specs.NormalImage.{IsNormalSought};
-ghost use Rattle.bk_play.specs.SmallSkeleton.{IsValley};
-ghost use Rattle.bk_free_search.specs.Asking.{BarsSigns, IsAsked, IsBegun, IsWithOwn};
+ghost use Rattle.bk_play.specs.SmallSkeleton.{IsValleyPlace};
+ghost use Rattle.bk_free_search.specs.AskedSigns.{BarsSigns, IsAsked, IsMoveBegun, IsWithOwn};
 ghost use Rattle.bk_free_search.specs.Sought.{GoesOn, GoesOnBy};
 
 use crate::asking::{Asked, Beside, asked_with, stand_beside};
@@ -44,8 +44,8 @@ pub trait Leaves {
         ensures fixed { fixed self.new ≡ fixed self.old };
 }
 
-/// Meets each word that is sought: complete, of the order, by rule R, and with no beginning that no word of a normal layout has. What no
-/// meeting changes is as it was.
+/// Meets each word that is sought: complete, of the order, by rule R, and with no beginning that no word of a normal
+/// layout has. What no meeting changes is as it was.
 pub fn search<S: Leaves>(leaves: &mut S, order: u8)
     requires least { 3 ≤ order }
     requires most { order ≤ 16 }
@@ -84,7 +84,8 @@ impl Search {
         self.with_counts(leaves);
     }
 
-    // Meets all that go on from the board's moves, where two squares or more are left. The next move doesn't hang them all.
+    // Meets all that go on from the board's moves, where two squares or more are left. The next move doesn't hang them
+    // all.
     #[cycle(search)]
     fn with_counts<S: Leaves>(&mut self, leaves: &mut S)
         requires least { 3 ≤ self.old.order }
@@ -107,13 +108,15 @@ impl Search {
         }
     }
 
-    // Meets those that go on by a move of the count. The sign at a left neighbour is even or under; at the left wall there is none.
+    // Meets those that go on by a move of the count. The sign at a left neighbour is even or under; at the left wall
+    // there is none.
     #[cycle(search)]
     #[inline(always)]
     fn with_left<S: Leaves>(&mut self, begun: &mut Begun, around: &Beside, leaves: &mut S)
-        requires begun { IsBegun self.old.order self.old.board begun.old.m begun.old.next around.now }
+        requires begun { IsMoveBegun self.old.order self.old.board begun.old.m begun.old.next around.now }
         requires none { begun.old.m.signs ≡ [] }
-        ensures all { (w : Moves) → IsNormalSought self.old.order w → GoesOnBy self.old.board begun.old.m.count begun.old.m.signs w → S.has_met leaves.new w }
+        ensures all { (w : Moves) → IsNormalSought self.old.order w
+            → GoesOnBy self.old.board begun.old.m.count begun.old.m.signs w → S.has_met leaves.new w }
         ensures kept { (w : Moves) → S.has_met leaves.old w → S.has_met leaves.new w }
         ensures fixed { S.fixed leaves.new ≡ S.fixed leaves.old }
         ensures same { self.new ≡ self.old }
@@ -133,7 +136,8 @@ impl Search {
         self.with_sign(begun, around, &before.under, Sign::Under, barred, leaves);
     }
 
-    // Meets those that go on by a move that begins so, with the sign at a left neighbour. The signs between its own squares are above or under.
+    // Meets those that go on by a move that begins so, with the sign at a left neighbour. The signs between its own
+    // squares are above or under.
     #[cycle(search)]
     fn with_own<S: Leaves>(
         &mut self,
@@ -143,7 +147,8 @@ impl Search {
         leaves: &mut S,
     )
         requires { IsWithOwn self.old.order self.old.board begun.old.m begun.old.next around.now asked.now }
-        ensures all { (w : Moves) → IsNormalSought self.old.order w → GoesOnBy self.old.board begun.old.m.count begun.old.m.signs w → S.has_met leaves.new w }
+        ensures all { (w : Moves) → IsNormalSought self.old.order w
+            → GoesOnBy self.old.board begun.old.m.count begun.old.m.signs w → S.has_met leaves.new w }
         ensures kept { (w : Moves) → S.has_met leaves.old w → S.has_met leaves.new w }
         ensures fixed { S.fixed leaves.new ≡ S.fixed leaves.old }
         ensures same { self.new ≡ self.old }
@@ -161,7 +166,8 @@ impl Search {
         self.with_sign(begun, around, &under, Sign::Under, barred, leaves);
     }
 
-    // Meets those whose next sign is this, and which go on to the move's own squares. There are none where it is barred.
+    // Meets those whose next sign is this, and which go on to the move's own squares. There are none where it is
+    // barred.
     #[cycle(search)]
     #[inline(always)]
     fn with_sign<S: Leaves>(
@@ -173,10 +179,11 @@ impl Search {
         barred: bool,
         leaves: &mut S,
     )
-        requires begun { IsBegun self.old.order self.old.board begun.old.m begun.old.next around.now }
+        requires begun { IsMoveBegun self.old.order self.old.board begun.old.m begun.old.next around.now }
         requires asked { IsAsked self.old.board (begun.old.m.signs ++ sign ∷ []) asked.now }
         requires own { length begun.old.m.signs + 1 ≤ begun.old.next.own }
-        requires barred { IsTrue barred → BarsSigns self.old.order self.old.board begun.old.m.count (begun.old.m.signs ++ sign ∷ []) }
+        requires barred { IsTrue barred
+            → BarsSigns self.old.order self.old.board begun.old.m.count (begun.old.m.signs ++ sign ∷ []) }
         ensures all { (w : Moves) → IsNormalSought self.old.order w
             → GoesOnBy self.old.board begun.old.m.count (begun.old.m.signs ++ sign ∷ []) w → S.has_met leaves.new w }
         ensures kept { (w : Moves) → S.has_met leaves.old w → S.has_met leaves.new w }
@@ -192,7 +199,8 @@ impl Search {
         pop_sign(&mut begun.m);
     }
 
-    // Meets those that go on by a move that begins so, with all signs but one at a right neighbour. At the right wall there is none.
+    // Meets those that go on by a move that begins so, with all signs but one at a right neighbour. At the right wall
+    // there is none.
     #[cycle(search)]
     #[inline(always)]
     fn with_right<S: Leaves>(
@@ -204,7 +212,8 @@ impl Search {
     )
         requires with_own { IsWithOwn self.old.order self.old.board begun.old.m begun.old.next around.now asked.now }
         requires own { length begun.old.m.signs ≡ begun.old.next.own }
-        ensures all { (w : Moves) → IsNormalSought self.old.order w → GoesOnBy self.old.board begun.old.m.count begun.old.m.signs w → S.has_met leaves.new w }
+        ensures all { (w : Moves) → IsNormalSought self.old.order w
+            → GoesOnBy self.old.board begun.old.m.count begun.old.m.signs w → S.has_met leaves.new w }
         ensures kept { (w : Moves) → S.has_met leaves.old w → S.has_met leaves.new w }
         ensures fixed { S.fixed leaves.new ≡ S.fixed leaves.old }
         ensures same { self.new ≡ self.old }
@@ -235,9 +244,10 @@ impl Search {
         barred: bool,
         leaves: &mut S,
     )
-        requires begun { IsBegun self.old.order self.old.board begun.old.m begun.old.next around.now }
+        requires begun { IsMoveBegun self.old.order self.old.board begun.old.m begun.old.next around.now }
         requires last { length begun.old.m.signs + 1 ≡ begun.old.next.wanted }
-        requires barred { IsTrue barred → BarsSigns self.old.order self.old.board begun.old.m.count (begun.old.m.signs ++ sign ∷ []) }
+        requires barred { IsTrue barred
+            → BarsSigns self.old.order self.old.board begun.old.m.count (begun.old.m.signs ++ sign ∷ []) }
         ensures all { (w : Moves) → IsNormalSought self.old.order w
             → GoesOnBy self.old.board begun.old.m.count (begun.old.m.signs ++ sign ∷ []) w → S.has_met leaves.new w }
         ensures kept { (w : Moves) → S.has_met leaves.old w → S.has_met leaves.new w }
@@ -260,8 +270,9 @@ impl Search {
         requires most { self.old.order ≤ 16 }
         requires few { order_of self.old.board + begun.now.m.count < self.old.order }
         requires legal { IsLegalMove (outline_of self.old.board) begun.now.m }
-        requires valley { IsValley self.old.board valley.now }
-        ensures all { (w : Moves) → IsNormalSought self.old.order w → GoesOn (self.old.board ++ begun.now.m ∷ []) w → S.has_met leaves.new w }
+        requires valley { IsValleyPlace self.old.board valley.now }
+        ensures all { (w : Moves) → IsNormalSought self.old.order w → GoesOn (self.old.board ++ begun.now.m ∷ []) w
+            → S.has_met leaves.new w }
         ensures kept { (w : Moves) → S.has_met leaves.old w → S.has_met leaves.new w }
         ensures fixed { S.fixed leaves.new ≡ S.fixed leaves.old }
         ensures same { self.new ≡ self.old }

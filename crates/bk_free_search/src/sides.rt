@@ -1,5 +1,5 @@
-//! The lines at the sides of squares, by numbers: 0 is the left wall, 1 the right one, and k + 2 the line between the square at
-//! place k, in the order of hanging from 0, and the next of its move.
+//! The lines at the sides of squares, by numbers: 0 is the left wall, 1 the right one, and k + 2 the line between the
+//! square at place k, in the order of hanging from 0, and the next of its move.
 
 ghost use Rattle.std.specs.Prelude.{[], length, slice_index_or, ℕ, ◌++◌, ◌+◌, ◌-◌, ◌<◌, ◌∷◌, ◌≡◌, ◌≤◌};
 ghost use Rattle.bk_word.specs.Play.{numbers_from};
@@ -63,7 +63,7 @@ pub(crate) fn lines_left_of(lefts: &[u8], squares: &[u8]) -> LineSet
     lines
 }
 
-/// Those at their right.
+/// The lines at the right of the squares of these numbers.
 pub(crate) fn lines_right_of(rights: &[u8], squares: &[u8]) -> LineSet
     requires { AreLow rights.now }
     ensures { (line : ℕ) → Has result line → IsRightOfOne rights.now squares.now line }
@@ -75,7 +75,8 @@ pub(crate) fn lines_right_of(rights: &[u8], squares: &[u8]) -> LineSet
     lines
 }
 
-/// Appends the left lines of a move's squares, of which the first stands at a line, where so many squares were hung before.
+/// Appends the left lines of a move's squares, of which the first stands at a line, where so many squares were hung
+/// before.
 pub(crate) fn push_lefts(lefts: &mut Short<u8, INLINE_ORDER>, first: u8, hung: u8, count: u8)
     requires some { 0 < count }
     requires few { hung + count ≤ 200 }
@@ -88,7 +89,8 @@ pub(crate) fn push_lefts(lefts: &mut Short<u8, INLINE_ORDER>, first: u8, hung: u
     }
 }
 
-/// Appends the right lines of a move's squares, of which the last one stands at a line, where so many squares were hung before.
+/// Appends the right lines of a move's squares, of which the last one stands at a line, where so many squares were hung
+/// before.
 pub(crate) fn push_rights(rights: &mut Short<u8, INLINE_ORDER>, last: u8, hung: u8, count: u8)
     requires some { 0 < count }
     requires few { hung + count ≤ 200 }

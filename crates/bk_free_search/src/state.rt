@@ -5,7 +5,7 @@ ghost use Rattle.bk_word.specs.Play.{IsComplete};
 ghost use Rattle.bk_word.specs.Word.{Word as Moves, order_of};
 ghost use Rattle.bk_word.specs.declared.Sign.{Sign as SeenSign};
 ghost use Rattle.bk_layout.specs.NormalImage.{IsNormalSought};
-ghost use Rattle.bk_free_search.specs.Asking.{IsNext, StandBeside};
+ghost use Rattle.bk_free_search.specs.AskedSigns.{IsNextCount, StandBeside};
 ghost use Rattle.bk_free_search.specs.Sought.{GoesOn};
 
 use crate::asking::{Beside, Next, next_of};
@@ -16,14 +16,14 @@ use bk_play::SmallMove;
 use bk_short::Short;
 use bk_word::Sign;
 
-/// A search for words of an order: the board on which it plays them. (Own.)
+/// A search for words of an order: the board on which it plays them.
 #[derive(Drop)]
 pub(crate) struct Search {
     pub(crate) board: Board,
     pub(crate) order: u8,
 }
 
-/// A next move that is being made: its count and its first signs, and what is known of it by its count. (Own.)
+/// A next move that is being made: its count and its first signs, and what is known of it by its count.
 #[derive(Drop)]
 pub(crate) struct Begun {
     pub(crate) m: SmallMove,
@@ -48,8 +48,9 @@ pub(crate) fn not_begun() -> Begun
 pub(crate) fn begin(begun: &mut Begun, around: &Beside, count: u8, left: usize)
     requires some { 0 < count }
     requires few { count ≤ 16 }
-    ensures next { (order : ℕ) (front : Moves) → StandBeside order front around.now → left ≡ order - order_of front - count
-        → IsNext order front count begun.new.next }
+    ensures next { (order : ℕ) (front : Moves) → StandBeside order front around.now
+        → left ≡ order - order_of front - count
+        → IsNextCount order front count begun.new.next }
     ensures count { begun.new.m.count ≡ count }
     ensures signs { begun.new.m.signs ≡ begun.old.m.signs }
 {
@@ -76,7 +77,8 @@ pub(crate) fn pop_sign(m: &mut SmallMove)
     m.signs.truncate(m.signs.len().saturating_sub(1));
 }
 
-/// Meets the word of the board, if it is complete. What that takes stands in no frame of the search, which has one for each sign.
+/// Meets the word of the board, if it is complete. What that takes stands in no frame of the search, which has one for
+/// each sign.
 #[inline(never)]
 pub(crate) fn meet_closed<S: Leaves>(board: &Board, leaves: &mut S)
     requires few { order_of board.now ≤ 16 }
@@ -89,7 +91,8 @@ pub(crate) fn meet_closed<S: Leaves>(board: &Board, leaves: &mut S)
     }
 }
 
-/// Meets the word that goes on from the board by the last square, if one does that a normal layout has. The board is left as it was.
+/// Meets the word that goes on from the board by the last square, if one does that a normal layout has. The board is
+/// left as it was.
 #[inline(never)]
 pub(crate) fn meet_with_last<S: Leaves>(board: &mut Board, order: u8, leaves: &mut S)
     requires least { 3 ≤ order }

@@ -2,12 +2,13 @@
 
 ghost use Rattle.std.specs.Prelude.{true, ℕ, ◌+◌, ◌∷◌, ◌≡◌, ◌≤◌};
 ghost use Rattle.bk_layout.specs.StrongPass.{none_passed, pass};
-ghost use Rattle.bk_free_search.specs.Strong.{IsFew, seen_passed, with_mark};
+ghost use Rattle.bk_free_search.specs.Strong.{IsFewPassed, seen_passed, with_mark};
 
 use bk_word::Sign;
 
-/// What a pass has counted up to a segment: the greatest number of moves that a segment before it asks for, how many signs are above, how
-/// many squares more the valleys of one square ask for, and whether the segment has a wall or the sign under at its left. (Own.)
+/// What a pass has counted up to a segment: the greatest number of moves that a segment before it asks for, how many
+/// signs are above, how many squares more the valleys of one square ask for, and whether the segment has a wall or the
+/// sign under at its left.
 #[derive(Clone, Copy, Drop)]
 pub(crate) struct Passed {
     pub(crate) most: usize,
@@ -19,7 +20,7 @@ pub(crate) struct Passed {
 /// In front of the first segment nothing is counted.
 pub(crate) fn none_passed() -> Passed
     ensures passed { seen_passed result ≡ none_passed }
-    ensures few { IsFew result 0 }
+    ensures few { IsFewPassed result 0 }
 {
     Passed {
         most: 0,
@@ -32,9 +33,9 @@ pub(crate) fn none_passed() -> Passed
 /// What is counted behind a segment of one square, with this sign behind it, which may be marked.
 #[inline(always)]
 pub(crate) fn past_one(passed: Passed, sign: Sign, mark: bool) -> Passed
-    requires { IsFew passed 3000 }
+    requires { IsFewPassed passed 3000 }
     ensures passed { seen_passed result ≡ pass (seen_passed passed) sign 1 mark }
-    ensures few { (k : ℕ) → IsFew passed k → IsFew result (k + 1) }
+    ensures few { (k : ℕ) → IsFewPassed passed k → IsFewPassed result (k + 1) }
 {
     let single = usize::from(passed.low);
     let here = passed.aboves + usize::from(mark);
@@ -60,11 +61,11 @@ pub(crate) fn past_one(passed: Passed, sign: Sign, mark: bool) -> Passed
     }
 }
 
-/// And in front of a marked segment, where its mark is counted already.
+/// What is counted in front of a marked segment, where its mark is counted already.
 pub(crate) fn in_front_of_mark(passed: Passed) -> Passed
-    requires { IsFew passed 3000 }
+    requires { IsFewPassed passed 3000 }
     ensures passed { seen_passed result ≡ with_mark (seen_passed passed) }
-    ensures few { (k : ℕ) → IsFew passed k → IsFew result k }
+    ensures few { (k : ℕ) → IsFewPassed passed k → IsFewPassed result k }
 {
     Passed {
         most: passed.most.max(passed.aboves + 1),

@@ -8,10 +8,12 @@ ghost use Rattle.bk_free_search.specs.TopLines.{is_top_line, on_top_lines};
 use crate::line_set::{LineSet, no_line, with_place};
 use crate::sides::left_of;
 
-/// The places of those of these squares whose left edges lie on lines from the top, between two squares of a first move of so many. (Own.)
+/// The places of those of these squares whose left edges lie on lines from the top, between two squares of a first move
+/// of so many.
 pub(crate) fn places_on_lines(ends: &[u8], lefts: &[u8], first: u8) -> LineSet
     requires few { length ends.now ≤ 16 }
-    ensures { (j : ℕ) → Has result j → (j < length ends.now) × (on_line (on_top_lines first lefts.now) (slice_index_or ends.now j 0) ≡ true) }
+    ensures { (j : ℕ) → Has result j
+        → (j < length ends.now) × (on_line (on_top_lines first lefts.now) (slice_index_or ends.now j 0) ≡ true) }
 {
     let mut places = no_line();
     'ends: for place in 0..ends.len() {
@@ -27,8 +29,8 @@ fn on_line(lefts: &[u8], first: u8, square: u8) -> bool
     is_top_line(first, left_of(lefts, square))
 }
 
-// Whether the line of this number begins between two squares of a first move of so many. Such lines have the numbers from 2 on, and are one less
-// than the squares; a wall's number wraps to a great one.
+// Whether the line of this number begins between two squares of a first move of so many. Such lines have the numbers
+// from 2 on, and are one less than the squares; a wall's number wraps to a great one.
 fn is_top_line(first: u8, line: u8) -> bool
     ensures { result ≡ is_top_line first line }
 {

@@ -6,6 +6,7 @@ on_at_most_one : (Holds : Type 0) (before after : ℕ) → CountsOn Holds before
 on_at_most_one Holds before after (inl (h, e)) = omega (arith, e)
 on_at_most_one Holds before after (inr (h, e)) = omega (arith, e)
 
+-- at most n of the places below n are counted
 pub no_more_than : (Holds : ℕ → Type 0) (n count : ℕ) → HoldsAtSoMany Holds n count → count ≤ n
 no_more_than Holds zero count none = omega (arith, none)
 no_more_than Holds (suc n) count (before, rest, on) = omega (arith, no_more_than Holds n before rest, on_at_most_one (Holds n) before count on)
@@ -16,6 +17,7 @@ on_once Holds before a b (inl (h, e)) (inr (k, f)) = absurd (k h)
 on_once Holds before a b (inr (h, e)) (inl (k, f)) = absurd (h k)
 on_once Holds before a b (inr (h, e)) (inr (k, f)) = e ∙ sym f
 
+-- a property holds at one number of places below n
 pub one_count : (Holds : ℕ → Type 0) (n a b : ℕ) → HoldsAtSoMany Holds n a → HoldsAtSoMany Holds n b → a ≡ b
 one_count Holds zero a b none none' = none ∙ sym none'
 one_count Holds (suc n) a b (before, rest, on) (before', rest', on') =

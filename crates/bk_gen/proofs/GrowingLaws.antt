@@ -2,7 +2,6 @@
 use Rattle.std.specs.List.{AllByRecursion}
 use Rattle.std.proofs.Common.{Bool, List, [], arith, cond, false, inl, inr, length, map, refl, subst, suc, sym, true, zero, zero-add, ℕ, ◌%◌, ◌+◌}
 use Rattle.std.proofs.Common.{◌<◌, ◌^◌, ◌∷◌, ◌≡◌, ◌≤◌, ◌⊎◌}
-use Rattle.std.specs.Prelude.{IsPermutation}
 use Rattle.std.proofs.lemmas.Bool.{le-leb, cases_lt, lt-leb}
 use Rattle.std.proofs.lemmas.List.Elements.{All-from_recursion}
 use Rattle.std.proofs.lemmas.List.{length-append, length-map}
@@ -12,11 +11,10 @@ use Rattle.bk_tiling.proofs.CutRectangles.{left_part, lower_part, rectangle, rig
 use Rattle.bk_tiling.proofs.JoinedParts.{HasCell, Splits, tiles_alone, tiles_joined}
 use Rattle.bk_tiling.proofs.MovedSquares.{all_moved, moved_rectangle, tiles_moved}
 use Rattle.bk_tiling.proofs.OneRefusal.{kept_from, tiles_apart, tiles_cells}
-use Rattle.bk_tiling.proofs.Refusing.{IsSortedByPlace, sorted_in_order}
 use Rattle.bk_tiling.proofs.Sizes.{most_height, most_width}
 use Rattle.bk_tiling.specs.CodeOrder.{in_code_order}
-use Rattle.bk_tiling.specs.Kept.{IsKept, IsSide}
-use Rattle.bk_tiling.specs.Refusal.{sized}
+use Rattle.bk_tiling.specs.KeptTiling.{IsKept, IsSide}
+use Rattle.bk_tiling.specs.Refusal.{HaveSides, ShareNoCell, sized}
 use Rattle.bk_tiling.specs.Scale.{moved_square}
 use Rattle.bk_tiling.specs.Tiling.{IsOneOf, IsWithin, Rectangle, Tiles, Tiling}
 use Rattle.bk_tiling.specs.declared.Square.{Square}
@@ -27,18 +25,19 @@ use Rattle.bk_gen.specs.Growing.{IsGrowing}
 pub kept_in_order : (t : Tiling) → IsGrowing t → IsKept (record t { squares = in_code_order t.squares })
 kept_in_order t g = kept_from t.width t.height t.squares (in_code_order t.squares) g.width_fits g.height_fits g.accepted refl
 
--- its squares sorted by place stand in the order of a code
-pub growing_sorted : (t : Tiling) → IsGrowing t → (sorted : List Square) → IsPermutation t.squares sorted → IsSortedByPlace sorted
-    → sorted ≡ in_code_order t.squares
-growing_sorted t g sorted permuted by_place =
-    sorted_in_order t.squares sorted (All-from_recursion (λ (q : Square). IsSide q.s) t.squares (g.accepted).sides)
-    (tiles_apart t.width t.height t.squares (g.accepted).tiles) permuted by_place
+-- its squares have sides that squares may have
+pub growing_sides : (t : Tiling) → IsGrowing t → HaveSides t.squares
+growing_sides t g = All-from_recursion (λ (q : Square). IsSide q.s) t.squares (g.accepted).sides
+
+-- its squares share no cell
+pub growing_apart : (t : Tiling) → IsGrowing t → ShareNoCell t.squares
+growing_apart t g = tiles_apart t.width t.height t.squares (g.accepted).tiles
 
 -- a growing rectangle has at most the width that a tiling of 200 squares can have
 pub growing_width : (t : Tiling) → IsGrowing t → t.width ≤ 199999999999999800
 growing_width t g = most_width (record t { squares = in_code_order t.squares }) (kept_in_order t g)
 
--- and at most this height
+-- a growing rectangle has at most the height that a tiling of 200 squares can have
 pub growing_height : (t : Tiling) → IsGrowing t → t.height ≤ 199999999999999800
 growing_height t g = most_height (record t { squares = in_code_order t.squares }) (kept_in_order t g)
 
@@ -129,7 +128,7 @@ module _ (t : Tiling) (g : IsGrowing t) (few : length t.squares < 200) where
     height_fits = g.height_fits;
   }
 
-  -- and with one above
+  -- a rectangle with a square above it can grow
   pub grows_above : t.width ≤ 999_999_999_999_999 → IsGrowing (with_above t)
   grows_above side = record {
     accepted = record {
@@ -191,7 +190,7 @@ next_length v i t = cases (goes_up_or_down v i) (is_set v (i % 64))
     )
     cases false false = omega (arith, length-append t.squares (square_at t.width 0 t.height ∷ []))
 
--- and with as many as are attached turn by turn, while there are at most 200 squares
+-- a rectangle can grow with as many squares as are attached turn by turn, up to 200
 pub grows_on : (n v i : ℕ) (t : Tiling) → IsGrowing t → length t.squares + n ≤ 200 → IsGrowing (attached n v i t)
 grows_on zero v i t g few = g
 grows_on (suc n) v i t g few = cases (cases_lt 999_999_999_999_999 (next_side v i t))

@@ -5,7 +5,7 @@ use Rattle.std.proofs.Common.{List, [], arith, leb-true, length, ltb-true, nat_l
 use Rattle.std.proofs.lemmas.Bool.{and_parts}
 use Rattle.bk_laws.proofs.AllOfLists.{all_from_test}
 use Rattle.bk_tiling.proofs.TilingTest.{tiling_from_test}
-use Rattle.bk_tiling.specs.Kept.{IsKept, IsSide}
+use Rattle.bk_tiling.specs.KeptTiling.{IsKept, IsSide}
 use Rattle.bk_tiling.specs.declared.Square.{Square}
 use Rattle.bk_gen.specs.Attaching.{attached}
 use Rattle.bk_gen.specs.Growing.{IsGrowing}
@@ -46,7 +46,7 @@ growing_69x61 = record {
   height_fits = omega arith;
 }
 
--- and the third
+-- the third rectangle that a trial code begins with can grow
 pub growing_65x47 : IsGrowing rectangle_65x47
 growing_65x47 = record {
   accepted = record {
@@ -68,7 +68,7 @@ one_of_three (suc (suc (suc m))) = growing_33x32
 pub first_growing : (v : ℕ) → IsGrowing (first_rectangle v)
 first_growing v = one_of_three (v % 3)
 
--- and it has grown once all squares are attached
+-- the rectangle of a trial code has grown once all squares are attached
 pub all_attached : (v : ℕ) → IsGrowing (attached (200 - length (first_rectangle v).squares) v 0 (first_rectangle v))
 all_attached v =
     let few : length (first_rectangle v).squares ≤ 200 = ((first_growing v).accepted).few in
@@ -78,6 +78,6 @@ all_attached v =
 pub trial_kept : (v : ℕ) → IsKept (trial_tiling v)
 trial_kept v = kept_in_order (attached (200 - length (first_rectangle v).squares) v 0 (first_rectangle v)) (all_attached v)
 
--- and that of each place of a seed
+-- the tiling of each place of a seed can be a `Tiling`
 pub sample_kept : (seed k : ℕ) → IsKept (trial_tiling (mixed seed k))
 sample_kept seed k = trial_kept (mixed seed k)

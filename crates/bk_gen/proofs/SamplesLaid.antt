@@ -11,6 +11,7 @@ use Rattle.bk_gen.specs.TrialLineLaws.{ASampleIsLaid}
 has_code : (seed k : ℕ) → HasCode (sample seed k) (tiling_at seed k)
 has_code seed k = record { tiling = (sample_kept seed k).tiling; code_is = refl }
 
+-- each trial code is that of its tiling and laying never refuses it
 pub a_sample_is_laid : ASampleIsLaid
 a_sample_is_laid seed k = (
   has_code seed k,

@@ -20,6 +20,7 @@ pub record AreFew (n a p s q : ℕ) : Type 0 where
   pub simple : s ≤ n
   pub squares : q ≤ n * 200
 
+-- the counts of a tally are at most what so many trial codes can have
 pub tally_few : (seed n a p s q : ℕ) → IsTally seed n a p s q → AreFew n a p s q
 tally_few seed n a p s q tally = record {
   accepted = omega (arith, tally.all_accepted);
@@ -28,6 +29,7 @@ tally_few seed n a p s q tally = record {
   squares = omega (arith, tally.together, squares_few seed n);
 }
 
+-- a tally with the next trial code counted is a tally of one place more
 pub tally_more : (seed n a p s q a' p' s' q' : ℕ) (t : Tiling) → t ≡ tiling_at seed n → IsTally seed n a p s q → a' ≡ a + 1 → CountsOn (IsPerfect t) p p'
     → CountsOn (IsSimple t) s s'
     → q' ≡ q + order t → IsTally seed (n + 1) a' p' s' q'
@@ -41,6 +43,7 @@ tally_more seed n a p s q a' p' s' q' t same tally accepted perfect simple squar
       together = squares ∙ (λ z. tally.together z + order (same z));
     }
 
+-- a seed and a count have one trial line
 pub one_line : (seed n : ℕ) (line other : List ℕ) → IsTrialLine seed n line → IsTrialLine seed n other → line ≡ other
 one_line seed n line other a b =
     let perfects : a.perfect ≡ b.perfect = one_count (λ k. IsPerfect (tiling_at seed k)) n a.perfect b.perfect (a.tally).perfects (b.tally).perfects in

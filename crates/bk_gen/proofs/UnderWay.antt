@@ -38,7 +38,7 @@ pub under_way_stops : (v end turn : ℕ) (first now : Tiling) → 999_999_999_99
     → now ≡ attached end v 0 first
 under_way_stops v end turn first now more way = sym (attach_stop (end - turn) v turn now more) ∙ way.same
 
--- and so it does where no turn is left
+-- a rectangle with no turn left is what all turns lead to from the first one
 pub under_way_end : (v end turn : ℕ) (first now : Tiling) → end ≤ turn → IsUnderWay v end turn first now → now ≡ attached end v 0 first
 under_way_end v end turn first now all way =
     let none : end - turn ≡ 0 = omega arith in

@@ -20,7 +20,7 @@ with_right t = record {
   squares = t.squares ++ record { x = t.width; y = 0; s = t.height } ∷ [];
 }
 
--- the same at its left
+-- a square of the rectangle's height put at its left
 abbrev pub with_left : Tiling → Tiling
 with_left t = record {
   width = t.width + t.height;
@@ -36,7 +36,7 @@ with_below t = record {
   squares = t.squares ++ record { x = 0; y = t.height; s = t.width } ∷ [];
 }
 
--- the same above it
+-- a square of the rectangle's width put above it
 abbrev pub with_above : Tiling → Tiling
 with_above t = record {
   width = t.width;

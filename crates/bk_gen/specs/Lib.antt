@@ -1,9 +1,9 @@
 -- What the crate says.
-pub mod TrialCodes
 pub mod Attaching
+pub mod TrialCodes
 pub mod TrialLaws
 pub mod TrialLine
 pub mod TrialLineLaws
 -- How its code keeps it.
-pub mod Growing
 pub mod Counting
+pub mod Growing

@@ -6,7 +6,7 @@ ghost use Rattle.bk_tiling.specs.Scale.{moved_square};
 ghost use Rattle.bk_gen.specs.Attaching.{goes_up_or_down, is_set};
 
 use arrayvec::ArrayVec;
-use bk_tiling::{MOST_SQUARES, Square, Tiling};
+use bk_tiling::{MOST_SQUARES, Square, Tiling, put_in_order};
 use std::marker::Model;
 
 // A rectangle tiled by squares that stand in any order.
@@ -144,7 +144,7 @@ impl Growing {
             height,
             mut squares,
         } = self;
-        squares.sort_unstable_by_key(|q| (q.y, q.x));
+        put_in_order(&mut squares);
         Tiling::from_known(width, height, squares)
     }
 }

@@ -1,5 +1,5 @@
-//! Trial codes: large valid codes that are made from two numbers; and the line about them, for which they are written, read again, laid and
-//! counted.
+//! Trial codes: large valid codes that are made from two numbers; and the line about them, for which they are written,
+//! read again, laid and counted.
 #![tactic(auto)]
 
 ghost use Rattle.std.specs.Prelude.{length, ◌-◌, ◌≡◌};
@@ -19,14 +19,15 @@ use first::first_rectangle;
 use growing::Growing;
 pub use trial_line::{a_sample_is_laid, a_seed_has_one_line, trial};
 
-/// The trial code of a seed and a place: the code (Bouwkamp 1946-47) of a large rectangle that is made from the two. Let v
-/// be (seed + k) times 0x9E3779B97F4A7C15, both modulo 2^64.
+/// The trial code of a seed and a place: the code (Bouwkamp 1946-47) of a large rectangle that is made from the two.
+/// Let v be (seed + k) times 0x9E3779B97F4A7C15, both modulo 2^64.
 ///
 /// The rectangle to start with is, by v modulo 3, `[18,15][7,8][14,4][10,1][9]`, `[36,33][5,28][25,9,2][7][16]` or
-/// `[25,17,23][11,6][5,24][22,3][19]`. Then squares are attached, turn by turn from 0. Where v and the turn are odd, the
-/// square has the width as its side, and is put below where bit `turn` modulo 64 of v is 0, and above where it is 1. Else
-/// it has the height as its side, and is put at the right where that bit is 0, and at the left where it is 1. This ends
-/// where there are 200 squares, or where the next side would be above 999,999,999,999,999. The trial codes are our own.
+/// `[25,17,23][11,6][5,24][22,3][19]`. Then squares are attached, turn by turn from 0. Where v and the turn are odd,
+/// the square has the width as its side, and is put below where bit `turn` modulo 64 of v is 0, and above where it is
+/// 1. Else it has the height as its side, and is put at the right where that bit is 0, and at the left where it is 1.
+/// This ends where there are 200 squares, or where the next side would be above 999,999,999,999,999. The trial codes
+/// are our own.
 pub fn sample(seed: u64, k: u32) -> Code
     ensures { result ≡ sample seed k }
 {

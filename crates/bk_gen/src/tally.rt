@@ -10,8 +10,8 @@ use bk_grammar::AnswerBuffer;
 use bk_simple::{is_perfect, part};
 use bk_tiling::Tiling;
 
-// How many codes were accepted, how many of their tilings are perfect and how many simple, and how many squares they have
-// together.
+// How many codes were accepted, how many of their tilings are perfect and how many simple, and how many squares they
+// have together.
 #[derive(Drop)]
 pub(crate) struct Tally {
     pub(crate) accepted: u64,

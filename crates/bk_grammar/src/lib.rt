@@ -9,7 +9,8 @@ ghost use Rattle.arrayvec.specs.ArrayVec.{array_vec_len};
 use arrayvec::ArrayVec;
 use itoa::Buffer;
 
-/// Room for one answer, which is made once and used for line after line: the longest answer is that of `flow`, 8,241 bytes.
+/// Room for one answer, which is made once and used for line after line: the longest answer is that of `flow`, 8,241
+/// bytes.
 pub type AnswerBuffer = ArrayVec<u8, 9000>;
 
 /// Appends bytes to a line. The line must have room for them.

@@ -8,7 +8,7 @@ abbrev pub all_below : (ℕ → Bool) → ℕ → Bool
 all_below p zero = true
 all_below p (suc n) = p n && all_below p n
 
--- so it passes at any of them
+-- a test that passes at all numbers below n passes at any of them
 pub each_below : (p : ℕ → Bool) (n : ℕ) → all_below p n ≡ true → (c : ℕ) → c < n → p c ≡ true
 each_below p zero e c h = absurd (omega arith)
 each_below p (suc n) e c h = cases (last c n (omega arith)) (each_below p n parts.1)
@@ -31,14 +31,14 @@ after_of false b e f = absurd (impossible f)
     impossible : false ≡ true → ⊥
     impossible g = cc
 
--- one for a place among places, where both are counted one further; and none for the first place and another
-pub shift : (a v : ℕ) → ◌≡◌ {A = ℕ} (cond (nat_eq (1 + a) (suc v)) 1 0) (cond (nat_eq a v) 1 0)
-shift a v = grind (arith, nat_tests)
+-- two numbers count as the same if their successors do
+pub successors_count_alike : (a v : ℕ) → ◌≡◌ {A = ℕ} (cond (nat_eq (1 + a) (suc v)) 1 0) (cond (nat_eq a v) 1 0)
+successors_count_alike a v = grind (arith, nat_tests)
 
--- 0 is no successor
-pub far : (v : ℕ) → ◌≡◌ {A = ℕ} (cond (nat_eq 0 (suc v)) 1 0) 0
-far v = grind (arith, nat_tests)
+-- 0 counts as no successor
+pub zero_counts_for_no_successor : (v : ℕ) → ◌≡◌ {A = ℕ} (cond (nat_eq 0 (suc v)) 1 0) 0
+zero_counts_for_no_successor v = grind (arith, nat_tests)
 
--- and no successor is 0
-pub near : (a : ℕ) → ◌≡◌ {A = ℕ} (cond (nat_eq (1 + a) 0) 1 0) 0
-near a = grind (arith, nat_tests)
+-- no successor counts as 0
+pub no_successor_counts_for_zero : (a : ℕ) → ◌≡◌ {A = ℕ} (cond (nat_eq (1 + a) 0) 1 0) 0
+no_successor_counts_for_zero a = grind (arith, nat_tests)

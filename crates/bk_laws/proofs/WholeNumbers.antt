@@ -65,7 +65,7 @@ mul-neg k x = ap (λ (y : ℤ). k *ℤ y) less ∙ mul-sub k (pos 0) x ∙ omega
     less : neg_ℤ x ≡ pos 0 -ℤ x
     less = omega (arith, ints)
 
--- and so does that of the first
+-- the opposite of the first factor makes the opposite product
 pub neg-mul : (x k : ℤ) → neg_ℤ x *ℤ k ≡ neg_ℤ (x *ℤ k)
 neg-mul x k = *ℤ_comm (neg_ℤ x) k ∙ mul-neg k x ∙ ap neg_ℤ (*ℤ_comm k x)
 
@@ -93,7 +93,7 @@ mul_swap x y z = mul_assoc x y z ∙ ap (λ (w : ℤ). x *ℤ w) (*ℤ_comm y z)
 pub mul_cross : (x y z w : ℤ) → (x *ℤ y) *ℤ (z *ℤ w) ≡ (x *ℤ z) *ℤ (y *ℤ w)
 mul_cross x y z w = sym (mul_assoc (x *ℤ y) z w) ∙ ap (λ (v : ℤ). v *ℤ w) (mul_swap x y z) ∙ mul_assoc (x *ℤ z) y w
 
--- a positive factor cancels
+-- a product by a positive number is 0 only if the other factor is
 zero_factor : (n : ℕ) (z : ℤ) → 0 < n → pos n *ℤ z ≡ pos 0 → z ≡ pos 0
 zero_factor n (pos zero) some e = refl
 zero_factor n (pos (suc m)) some e = absurd (omega (arith, ints, mul-pos {m = n} {n = suc m} some (omega arith), e, pos-*ℤ-pos n (suc m)))
@@ -104,18 +104,18 @@ pub cancel_left : (n : ℕ) (x y : ℤ) → 0 < n → pos n *ℤ x ≡ pos n *�
 cancel_left n x y some e =
     let none : x -ℤ y ≡ pos 0 = zero_factor n (x -ℤ y) some (mul-sub (pos n) x y ∙ omega (arith, ints, e)) in omega (arith, ints, none)
 
--- and one on the right
+-- a positive factor on the right is cancelled
 pub cancel_right : (n : ℕ) (x y : ℤ) → 0 < n → x *ℤ pos n ≡ y *ℤ pos n → x ≡ y
 cancel_right n x y some e = cancel_left n x y some (*ℤ_comm (pos n) x ∙ e ∙ *ℤ_comm y (pos n))
 
--- a quotient by a divisor
+-- a divisor times the quotient by it, of numbers that aren't negative
 exact_nat : (g n : ℕ) → g ∣ n → pos g *ℤ pos (n / g) ≡ pos n
 exact_nat g n d = pos-*ℤ-pos g (n / g) ∙ ap pos (mul-div_cancel' g d)
 
 -- a divisor times the quotient by it
-pub exact : (g : ℕ) (a : ℤ) → g ∣ nat_abs a → pos g *ℤ int_div a (pos g) ≡ a
-exact g (pos n) d = exact_nat g n d
-exact g (negsuc n) d = mul-neg (pos g) (pos (suc n / g)) ∙ ap neg_ℤ (exact_nat g (suc n) d)
+pub divisor_times_quotient : (g : ℕ) (a : ℤ) → g ∣ nat_abs a → pos g *ℤ int_div a (pos g) ≡ a
+divisor_times_quotient g (pos n) d = exact_nat g n d
+divisor_times_quotient g (negsuc n) d = mul-neg (pos g) (pos (suc n / g)) ∙ ap neg_ℤ (exact_nat g (suc n) d)
 
 -- the magnitude of a number times one that isn't negative
 pub abs-mul : (n : ℕ) (z : ℤ) → nat_abs (pos n *ℤ z) ≡ n * nat_abs z
@@ -123,7 +123,7 @@ abs-mul n z = unsigned_abs-mul (pos n) z
 
 -- the number of which z is the multiple by g is the quotient of z by g
 pub quotient_is : (g : ℕ) (z w : ℤ) → 0 < g → pos g *ℤ w ≡ z → int_div z (pos g) ≡ w
-quotient_is g z w some e = cancel_left g (int_div z (pos g)) w some (exact g z divides ∙ sym e)
+quotient_is g z w some e = cancel_left g (int_div z (pos g)) w some (divisor_times_quotient g z divides ∙ sym e)
   where
     divides : g ∣ nat_abs z
     divides = subst (λ (n : ℕ). g ∣ n) (sym (abs-mul g w) ∙ ap nat_abs e) (dvd-mul_right g (nat_abs w))
@@ -144,7 +144,7 @@ abs-neg (pos zero) = refl
 abs-neg (pos (suc n)) = refl
 abs-neg (negsuc n) = refl
 
--- and so is a number taken from 0
+-- a number taken from 0 is of the magnitude of the number
 pub abs-less : (z : ℤ) → nat_abs (pos 0 -ℤ z) ≡ nat_abs z
 abs-less z = ap nat_abs less ∙ abs-neg z
   where

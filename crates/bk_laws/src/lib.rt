@@ -1,2 +1,3 @@
-//! Laws of lists, tests and numbers that the standard library lacks. Here is no function: the proofs of the crates above cite them.
+//! Laws of lists, tests and numbers that the standard library lacks. Here is no function: the proofs of the crates
+//! above cite them.
 #![tactic(auto)]

@@ -39,7 +39,7 @@ module _ (t : Tiling) (laid : List Square) (v : Segment) (tiling : IsTiling t) (
   pub in_tiling : (q : Square) → IsOneOf q (squares_under t v) → IsOneOf q t.squares
   in_tiling q h = (from_filter (hangs_under v) t.squares q h).0
 
-  -- and hang from its level, within its columns
+  -- a square laid under the valley hangs from its level, within its columns
   pub is_under : (q : Square) → IsOneOf q (squares_under t v) → IsUnder v q
   is_under q h = under_from v q (from_filter (hangs_under v) t.squares q h).1
 
@@ -61,7 +61,7 @@ module _ (t : Tiling) (laid : List Square) (v : Segment) (tiling : IsTiling t) (
       none_old k q h e = let over = over_from c j q e in let l = over.left in let r = over.right in let b = over.bottom in
           omega (arith, not_laid t laid v tiling fills found low c q h l r)
 
-      -- and one new square does
+      -- a new cell is covered by one of the new squares
       one_new : depth laid c ≤ j → count_by (covers c j) (squares_under t v) ≡ 1
       one_new k = from (depth_comes_from (laid ++ squares_under t v) c j deep)
         where

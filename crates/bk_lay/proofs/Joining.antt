@@ -27,7 +27,7 @@ take-signs [] a ys = refl
 take-signs (x ∷ []) a ys = refl
 take-signs (x ∷ y ∷ xs) a ys = ap (λ signs. sign_between x y ∷ signs) (take-signs (y ∷ xs) a ys)
 
--- and the others are those from the level on
+-- the signs from a level on are those between it and the levels behind it
 pub drop-signs : (xs : List ℕ) (a : ℕ) (ys : List ℕ) → drop (length xs) (signs_between (xs ++ a ∷ ys)) ≡ signs_between (a ∷ ys)
 drop-signs [] a ys = refl
 drop-signs (x ∷ []) a ys = refl

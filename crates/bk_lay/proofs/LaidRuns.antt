@@ -35,12 +35,12 @@ span_more laid more level x [] end s = s
 span_more laid more level x (n ∷ numbers) end s =
     (s.0, ((s.1).0, (s.1).1, get_append laid more (s.1).0 s.0 (s.1).2), s.2, s.3, span_more laid more level (x + (s.0).s) numbers end s.4)
 
--- and a segment is shown as before
+-- a segment is shown as before when more squares are laid
 pub segment_more : (laid more : List Square) (v : Segment) (numbers : List ℕ) → IsSegment laid v numbers → IsSegment (laid ++ more) v numbers
 segment_more laid more v numbers (inl s) = inl (span_more laid more v.level v.x numbers (v.x + v.width) s)
 segment_more laid more v numbers (inr s) = inr s
 
--- and what hangs from one of the nodes does so where there are more
+-- what hangs from a node does so where there are more nodes
 pub hangs_more : (nodes more : List Segment) (q : Square) (node : ℕ) → Hangs nodes q node → Hangs (nodes ++ more) q node
 hangs_more nodes more q node h = (h.0, get_append nodes more node h.0 h.1, h.2, h.3, h.4)
 
@@ -104,6 +104,7 @@ module _ (t : Tiling) (laid : List Square) (v : Segment) (tiling : IsTiling t) (
   runs_end x [] after cut = omega (arith, cut.0)
   runs_end x (r ∷ before) after cut = omega (arith, runs_end (x + r.width) before after cut.2)
 
+  -- with the squares under a valley laid, their runs take the place of the valley among all runs
   pub runs_new_all : (x : ℕ) (before after : List Segment) → AreRuns t.width laid x (before ++ v ∷ after)
       → AreRuns t.width (laid ++ squares_under t v) x (before ++ map run_of (squares_under t v) ++ after)
   runs_new_all x [] after cut = subst (λ (y : ℕ). AreRuns t.width (laid ++ squares_under t v) y (map run_of (squares_under t v) ++ after)) cut.0

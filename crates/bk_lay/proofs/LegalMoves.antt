@@ -25,7 +25,7 @@ last_is laid x before left = record { shape = cases left }
     cases (inl (none, at)) = inl (ap levels none, ap (depth_before laid) at)
     cases (inr h) = inr (levels h.front, (h.last).level, ap levels h.is ∙ map-append (λ r. r.level) h.front (h.last ∷ []), h.level)
 
--- and what stands at its right
+-- what stands at the right of a valley, as its level tells it
 pub first_is : (width : ℕ) (laid : List Square) (x : ℕ) (after : List Segment) → ((after ≡ []) × (x ≡ width)) ⊎ HasFirst width laid x after
     → FirstIs (levels after) (depth_from width laid x)
 first_is width laid x after right = record { shape = cases right }

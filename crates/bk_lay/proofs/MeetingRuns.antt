@@ -28,7 +28,7 @@ pub right_at_end : (laid : List Square) (x : ℕ) (front : List Run) (r : Run) (
 right_at_end laid x [] r end f = (sym f.2, f.1, f.0)
 right_at_end laid x (s ∷ front) r end f = let rest = right_at_end laid x front r s.x f.2 in (rest.0, rest.1, (f.0, f.1, rest.2))
 
--- and one run more at their left end
+-- runs that are listed from the right, with one more at their left end
 pub right_more : (laid : List Square) (front : List Run) (r : Run) (end : ℕ) → RunsFromRight laid r.end front end → IsRun laid r
     → RunsFromRight laid r.x (front ++ r ∷ []) end
 right_more laid [] r end f is = (f, is, refl)

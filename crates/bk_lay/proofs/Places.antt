@@ -53,7 +53,7 @@ depth_before_at laid (suc d) c e = ap (λ (k : ℕ). depth laid k ∷ []) same
     same : d ≡ c
     same = omega arith
 
--- and the depth from a column within the width on is its own
+-- the depth from a column within the width on is that column's own
 pub depth_from_at : (width : ℕ) (laid : List Square) (x : ℕ) → x < width → depth_from width laid x ≡ depth laid x ∷ []
 depth_from_at width laid x h = ap (λ (b : Bool). cond b (depth laid x ∷ []) []) test
   where

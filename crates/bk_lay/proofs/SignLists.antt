@@ -27,8 +27,3 @@ pub few_signs : (levels : List ℕ) → length (signs_between levels) ≤ length
 few_signs [] = omega arith
 few_signs (a ∷ []) = omega arith
 few_signs (a ∷ b ∷ levels) = omega (arith, few_signs (b ∷ levels))
-
--- an optional level is a list of at most one
-pub few_of_option : (o : Option ℕ) → length (option_to_list o) ≤ 1
-few_of_option None = omega arith
-few_of_option (Some a) = omega arith

@@ -6,7 +6,7 @@ use Rattle.std.proofs.lemmas.List.Sums.{count_by-le-length, length-filter, sum_b
 use Rattle.std.proofs.lemmas.List.{append-nil, append_assoc, length-append, length-map}
 use Rattle.bk_tiling.proofs.Cells.{all_from}
 use Rattle.bk_tiling.proofs.TilingLaws.{within_of}
-use Rattle.bk_tiling.specs.Kept.{IsKept}
+use Rattle.bk_tiling.specs.KeptTiling.{IsKept}
 use Rattle.bk_tiling.specs.Tiling.{IsOneOf, Tiling}
 use Rattle.bk_tiling.specs.declared.Square.{Square}
 use Rattle.bk_word.specs.KeptWord.{CanStand}
@@ -60,12 +60,12 @@ module _ (t : Tiling) (kept : IsKept t) where
     right_fits = all_from (λ q. q.x + q.s < 2 ^ 64) squares (λ q h. let w = (within_of t kept.tiling q (of_tiling q h)).right in let fits =
         kept.width_fits in omega arith)
 
-    -- and so is its bottom
+    -- the bottom of each square is a number of the machine
     pub bottom_fits : AllByRecursion (λ q. q.y + q.s < 2 ^ 64) squares
     bottom_fits = all_from (λ q. q.y + q.s < 2 ^ 64) squares (λ q h. let w = (within_of t kept.tiling q (of_tiling q h)).bottom in let fits =
         kept.height_fits in omega arith)
 
-    -- and one is found
+    -- some square is found under the valley
     pub some_squares : 0 < length squares
     some_squares = omega (
       arith,

@@ -20,7 +20,7 @@ pub record IsUnder (v : Segment) (q : Square) : Type 0 where
 pub under_from : (v : Segment) (q : Square) → hangs_under v q ≡ true → IsUnder v q
 under_from v q e = record { level = grind (arith, nat_tests); left = grind (arith, nat_tests); right = grind (arith, nat_tests) }
 
--- and such a square the test finds
+-- a square that hangs from the valley's level, within its columns, passes the test
 pub hangs_from : (v : Segment) (q : Square) → q.y ≡ v.level → v.x ≤ q.x → q.x + q.s ≤ v.x + v.width → hangs_under v q ≡ true
 hangs_from v q a b c = grind (arith, nat_tests)
 

@@ -112,6 +112,6 @@ one_word t laid (m ∷ v) (n ∷ w) p q = λ i. heads i ∷ one_word t (laid ++ 
     rest : MovesFollow t (laid ++ squares_under t q.0) v
     rest = subst (λ (u : Segment). MovesFollow t (laid ++ squares_under t u) v) same p.4
 
--- and so a tiling has one word at most
+-- a tiling has one word at most
 pub a_tiling_has_one_word : ATilingHasOneWord
 a_tiling_has_one_word t v w p q = one_word t [] v w p q

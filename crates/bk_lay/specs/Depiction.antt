@@ -1,5 +1,6 @@
 -- What is laid of a tiling, and the outline that depicts it.
--- Example (DepictionExamples): the squares 2 and 1 at the top of the rectangle 3x2 are depicted by the segments 1; 2 with the sign u.
+-- Example (DepictionExamples): the squares 2 and 1 at the top of the rectangle 3x2 are depicted by the segments 1; 2
+-- with the sign u.
 use Rattle.std.specs.List.{AllByRecursion, AllZip}
 use Rattle.std.specs.Prelude.{List, Some, [], map, slice_get, suc, true, ℕ, ◌+◌, ◌∷◌, ◌≡◌, ◌≤◌, ◌⊎◌}
 use Rattle.bk_tiling.specs.Column.{AreRuns, IsFilled}

@@ -1,5 +1,6 @@
 -- The lower outline of laid squares about its leftmost valley, cut into level runs of columns.
--- Example (LevelRunExamples): under the first three squares of 65x47, of sides 25, 17, 23, the valley is the run under 17.
+-- Example (LevelRunExamples): under the first three squares of 65x47, of sides 25, 17, 23, the valley is the run under
+-- 17.
 use Rattle.std.specs.Prelude.{Bool, List, [], map, nat_eq, nat_le, nat_lt, suc, ℕ, ◌&&◌, ◌++◌, ◌+◌, ◌<◌, ◌∷◌, ◌≡◌, ◌≤◌}
 use Rattle.bk_tiling.specs.Column.{depth}
 use Rattle.bk_tiling.specs.declared.Square.{Square}
@@ -11,7 +12,7 @@ pub record IsRun (laid : List Square) (r : Run) : Type 0 where
   pub some : r.x < r.end
   pub level : (c : ℕ) → r.x ≤ c → c < r.end → depth laid c ≡ r.level
 
--- and the column before it is deeper, where there is one
+-- a run whose column before it is deeper, where there is one
 pub record IsFallingRun (laid : List Square) (r : Run) : Type 0 where
   pub run : IsRun laid r
   pub wall : (c : ℕ) → suc c ≡ r.x → r.level < depth laid c

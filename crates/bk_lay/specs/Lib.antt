@@ -1,7 +1,6 @@
--- What the crate says.
-pub mod TilingWord
+-- What the crate says. Its code is kept by what proofs/ says alone.
 pub mod Depiction
-pub mod WordLaws
--- How its code keeps it.
 pub mod LevelRuns
+pub mod TilingWord
 pub mod Turning
+pub mod WordLaws

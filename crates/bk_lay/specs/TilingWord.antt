@@ -1,6 +1,7 @@
 -- The word of a tiling: its squares laid valley by valley, always under the leftmost valley.
 -- Example (WordExamples): the words of the rectangles 65x47, 33x32 and 69x61, valley by valley.
-use Rattle.std.specs.Prelude.{Bool, List, [], cond, filter, length, map, nat_eq, nat_le, nat_lt, suc, zero, ℕ, ◌&&◌, ◌++◌, ◌+◌, ◌<◌, ◌∷◌, ◌≡◌, ◌≤◌}
+use Rattle.std.specs.Prelude.{Bool, List, [], cond, filter, length, map, nat_eq, nat_le, nat_lt, suc, zero, ℕ, ◌&&◌}
+use Rattle.std.specs.Prelude.{◌++◌, ◌+◌, ◌<◌, ◌∷◌, ◌≡◌, ◌≤◌}
 use Rattle.bk_tiling.specs.Column.{IsLevel, depth}
 use Rattle.bk_tiling.specs.declared.Segment.{Segment}
 use Rattle.bk_tiling.specs.Tiling.{Tiling}
@@ -63,6 +64,6 @@ MovesFollow t laid [] = (c : ℕ) → c < t.width → depth laid c ≡ t.height
 MovesFollow t laid (m ∷ moves) = (v : Segment) × IsLeftmostValley t.width laid v × (v.level < t.height)
     × (m ≡ move_under t laid v) × MovesFollow t (laid ++ squares_under t v) moves
 
--- the word of the tiling: what follows while nothing is laid
+-- the word of the tiling: what follows while nothing is laid. A tiling has only one (`a_tiling_has_one_word`)
 abbrev pub IsWordOf : Tiling → Word → Type 0
 IsWordOf t w = MovesFollow t [] w

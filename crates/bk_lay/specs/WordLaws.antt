@@ -1,6 +1,6 @@
 -- What joins the word of a tiling to the play of words. Statements alone; each is proved apart.
--- Example (DepictionExamples): under the squares 2 and 1 the columns never get deeper before the valley in column 2; under 1, 2 and 1 they
--- do before the valley in column 3.
+-- Example (DepictionExamples): under the squares 2 and 1 the columns never get deeper before the valley in column 2;
+-- under 1, 2 and 1 they do before the valley in column 3.
 use Rattle.std.specs.Prelude.{List, [], length, suc, ℕ, ◌++◌, ◌<◌, ◌∷◌, ◌≡◌, ◌≤◌}
 use Rattle.bk_tiling.specs.Column.{depth}
 use Rattle.bk_tiling.specs.declared.Segment.{Segment}

@@ -1,7 +1,8 @@
 //! The word of a tiling.
 #![tactic(auto)]
 
-ghost use Rattle.bk_lay.specs.WordLaws.{EveryTilingHasAWord, ATilingHasOneWord, LeftmostIsFirstRise, TilingWordIsComplete};
+ghost use Rattle.bk_lay.specs.WordLaws.{EveryTilingHasAWord, ATilingHasOneWord, LeftmostIsFirstRise};
+ghost use Rattle.bk_lay.specs.WordLaws.{TilingWordIsComplete};
 
 mod outline;
 mod signs;

@@ -1,7 +1,8 @@
 //! The lower outline of laid squares, as level runs of columns about its leftmost valley.
 
 ghost use Rattle.std.specs.List.{AllByRecursion};
-ghost use Rattle.std.specs.Prelude.{IfNone, IfSome, List, [], length, map, option_to_list, ℕ, ◌+◌, ◌++◌, ◌<◌, ◌^◌, ◌∷◌, ◌≡◌, ◌≤◌};
+ghost use Rattle.std.specs.Prelude.{IfNone, IfSome, List, [], length, map, option_to_list, ℕ, ◌+◌, ◌++◌, ◌<◌, ◌^◌, ◌∷◌};
+ghost use Rattle.std.specs.Prelude.{◌≡◌, ◌≤◌};
 ghost use Rattle.bk_tiling.specs.declared.Square.{Square as Placed};
 ghost use Rattle.bk_lay.specs.LevelRuns.{AreBeside, IsDeeperAtEnd, IsOutline, Meet, bottoms_of, last_level, runs_under};
 ghost use Rattle.bk_lay.specs.TilingWord.{signs_between};
@@ -61,10 +62,12 @@ impl Outline {
 
     // Makes of a move the one that hangs these squares under the valley.
     pub(crate) fn move_under(&self, squares: &[Square], m: &mut Move)
-        requires few { length squares.now ≤ 200 }
+        requires few { length squares.now ≤ MOST_SQUARES }
         requires fit { AllByRecursion (λ q. q.y + q.s < 2 ^ 64) squares.now }
         ensures count { m.new.count ≡ length squares.now }
-        ensures signs { m.new.signs ≡ signs_between (last_level self.now.left.items ++ bottoms_of squares.now ++ last_level self.now.right.items) }
+        ensures signs { m.new.signs
+            ≡ signs_between (last_level self.now.left.items ++ bottoms_of squares.now
+            ++ last_level self.now.right.items) }
     {
         let before = level_of_last(self.left.as_slice());
         let after = level_of_last(self.right.as_slice());
@@ -75,7 +78,7 @@ impl Outline {
     // Lays squares that fill the valley from left to right, and goes on to the valley that is then the leftmost.
     pub(crate) fn lay(&mut self, squares: &[Square])
         requires some { 0 < length squares.now }
-        requires room { length self.old.left.items + (length self.old.right.items + length squares.now) ≤ 200 }
+        requires room { length self.old.left.items + (length self.old.right.items + length squares.now) ≤ MOST_SQUARES }
         requires right { AllByRecursion (λ q. q.x + q.s < 2 ^ 64) squares.now }
         requires fit { AllByRecursion (λ q. q.y + q.s < 2 ^ 64) squares.now }
         ensures outline { (width : ℕ) (laid : List Placed)
@@ -101,14 +104,12 @@ fn level_of_last(runs: &[Run]) -> Option<u64>
 
 // Appends the runs under squares that stand from left to right, the last one first.
 fn push_runs(right: &mut ArrayVec<Run, MOST_SQUARES>, squares: &[Square])
-    requires room { length right.old.items + length squares.now ≤ 200 }
+    requires room { length right.old.items + length squares.now ≤ MOST_SQUARES }
     requires right { AllByRecursion (λ q. q.x + q.s < 2 ^ 64) squares.now }
     requires fit { AllByRecursion (λ q. q.y + q.s < 2 ^ 64) squares.now }
     ensures { right.new.items ≡ right.old.items ++ runs_under squares.now }
 {
-    let mut i = squares.len();
-    'squares: while i > 0 {
-        i -= 1;
+    for i in (0..squares.len()).rev() {
         let q = squares[i];
         right.push(Run {
             x: q.x,
@@ -124,7 +125,7 @@ fn take_valley(
     right: &mut ArrayVec<Run, MOST_SQUARES>,
 ) -> Run
     requires some { 0 < length left.old.items + length right.old.items }
-    requires room { length left.old.items + length right.old.items ≤ 200 }
+    requires room { length left.old.items + length right.old.items ≤ MOST_SQUARES }
     ensures beside { (width : ℕ) (laid : List Placed) → Meet width laid left.old.items right.old.items
         → AreBeside width laid left.new.items result right.new.items }
     ensures deeper { IsDeeperAtEnd result.level right.new.items }
@@ -147,7 +148,8 @@ fn take_last(left: &mut ArrayVec<Run, MOST_SQUARES>, right: &mut ArrayVec<Run, M
     requires { 0 < length left.old.items + length right.old.items }
     ensures beside { (width : ℕ) (laid : List Placed) → Meet width laid left.old.items right.old.items
         → AreBeside width laid left.new.items result right.new.items }
-    ensures fewer { length left.new.items + length right.new.items + 1 ≡ length left.old.items + length right.old.items }
+    ensures fewer { length left.new.items + length right.new.items + 1
+        ≡ length left.old.items + length right.old.items }
 {
     match left.pop() {
         Some(run) => run,

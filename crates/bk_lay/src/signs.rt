@@ -2,6 +2,7 @@
 
 ghost use Rattle.std.specs.List.{AllByRecursion};
 ghost use Rattle.std.specs.Prelude.{[], length, map, option_to_list, ◌+◌, ◌++◌, ◌<◌, ◌^◌, ◌∷◌, ◌≡◌, ◌≤◌};
+ghost use Rattle.bk_tiling.specs.declared.TheConstants.{MOST_SQUARES};
 ghost use Rattle.bk_lay.specs.LevelRuns.{bottoms_of};
 ghost use Rattle.bk_lay.specs.TilingWord.{sign_between, signs_between};
 
@@ -16,9 +17,10 @@ pub(crate) fn write_signs(
     squares: &[Square],
     after: Option<u64>,
 )
-    requires few { length squares.now ≤ 200 }
+    requires few { length squares.now ≤ MOST_SQUARES }
     requires fit { AllByRecursion (λ q. q.y + q.s < 2 ^ 64) squares.now }
-    ensures { signs.new.items ≡ signs_between (option_to_list before ++ bottoms_of squares.now ++ option_to_list after) }
+    ensures { signs.new.items
+        ≡ signs_between (option_to_list before ++ bottoms_of squares.now ++ option_to_list after) }
 {
     signs.clear();
     let mut last = before;
@@ -34,7 +36,7 @@ pub(crate) fn write_signs(
 
 // Appends the sign between two levels, where there is one at the left.
 fn push_sign(signs: &mut ArrayVec<Sign, MOST_SIGNS>, left: Option<u64>, right: u64)
-    requires { length signs.old.items < 201 }
+    requires { length signs.old.items < MOST_SIGNS }
     ensures { signs.new.items ≡ signs.old.items ++ signs_between (option_to_list left ++ right ∷ []) }
 {
     if let Some(level) = left {
@@ -42,8 +44,8 @@ fn push_sign(signs: &mut ArrayVec<Sign, MOST_SIGNS>, left: Option<u64>, right: u
     }
 }
 
-/// The sign between the levels of two neighbouring bottoms, from left to right: above where the left one is less, even where
-/// they are equal, under where it is greater. (Own.)
+/// The sign between the levels of two neighbouring bottoms, from left to right: above where the left one is less, even
+/// where they are equal, under where it is greater.
 pub fn sign_between(left: u64, right: u64) -> Sign
     ensures { result ≡ sign_between left right }
 {

@@ -1,10 +1,11 @@
 //! The word of a tiling, turn by turn.
 
-ghost use Rattle.std.specs.Prelude.{IfNone, IfOk, IfSome, IsOk, IsTrue, [], count_by, false, filter, length, ◌<◌, ◌≡◌, ◌≤◌};
+ghost use Rattle.std.specs.Prelude.{IfOk, IsOk, IsTrue, [], count_by, false, filter, length, ◌<◌, ◌≡◌};
+ghost use Rattle.std.specs.Prelude.{◌≤◌};
 ghost use Rattle.bk_tiling.specs.CodeOrder.{InCodeOrder, comes_before};
 ghost use Rattle.bk_tiling.specs.Tiling.{order};
 ghost use Rattle.bk_lay.specs.LevelRuns.{IsOutline, begins_under, corner};
-ghost use Rattle.bk_tiling.specs.Kept.{IsKept};
+ghost use Rattle.bk_tiling.specs.KeptTiling.{IsKept};
 ghost use Rattle.bk_word.specs.Word.{Word as Moves};
 ghost use Rattle.bk_lay.specs.TilingWord.{IsWordOf};
 ghost use Rattle.bk_lay.specs.Turning.{AreTurns, IsTurn, Turned};
@@ -15,7 +16,7 @@ use bk_word::{Move, NoMemory, Word};
 use std::alloc::Global;
 use std::marker::Model;
 
-/// The turns in which tilings are laid: one after the other, and one tiling after the other in the same room. (Own.)
+/// The turns in which tilings are laid: one after the other, and one tiling after the other in the same room.
 #[derive(Drop)]
 pub struct Turns {
     outline: Outline,
@@ -47,21 +48,9 @@ impl Turns {
         self.outline.begin(tiling.width());
     }
 
-    /// Lays the squares of the tiling's next turn. Its move goes on from the moves before it; where there is none more, these are the word.
-    pub fn next(&mut self, tiling: &Tiling) -> Option<Move>
-        requires { AreTurns tiling.now self.old }
-        ensures next { IfSome result (λ m. (w : Moves) → Turned tiling.now w self.old → IsTurn tiling.now w self.new m) }
-        ensures last { IfNone result ((w : Moves) → Turned tiling.now w self.old → IsWordOf tiling.now w) }
-    {
-        let mut m = Move::empty();
-        if !self.next_in(tiling, &mut m) {
-            return None;
-        }
-        Some(m)
-    }
-
-    /// The same in room that is there: whether there is a next turn. Its move stands in `m` then, and where there is none more `m` is
-    /// left as it is. What stood in `m` before says nothing.
+    /// Lays the squares of the tiling's next turn, and says whether there is one. Its move stands in `m` then and goes
+    /// on from the moves before it; where there is none more, these are the word, and `m` is left as it is. What stood
+    /// in `m` before says nothing.
     pub fn next_in(&mut self, tiling: &Tiling, m: &mut Move) -> bool
         requires { AreTurns tiling.now self.old }
         ensures next { IsTrue result → (w : Moves) → Turned tiling.now w self.old → IsTurn tiling.now w self.new m.new }
@@ -78,8 +67,8 @@ impl Turns {
 
 /// The word of a tiling. Its squares are laid in turns, always all those under the leftmost valley of what is laid: the
 /// leftmost run of columns of one depth whose neighbouring columns are deeper, or are walls. Each turn is a move: the
-/// number of its squares, and the signs between their bottoms and the depths beside the valley, from left to right. There
-/// is no memory only where the order is above 16. This word is our own.
+/// number of its squares, and the signs between their bottoms and the depths beside the valley, from left to right.
+/// There is no memory only where the order is above 16. This word is our own.
 pub fn word_of(alloc: Global, tiling: &Tiling) -> Result<Word, NoMemory>
     ensures word { IfOk result (IsWordOf tiling.now) }
     ensures inline { order tiling.now ≤ 16 → IsOk result }
@@ -125,7 +114,8 @@ fn place_in_order(squares: &[Square], level: u64, x: u64) -> usize
     squares.partition_point(|q| is_before(q, level, x))
 }
 
-// The same where so many of them are known to come before it: the few more that do are gone over one by one.
+// How many squares come before one with this corner, where so many are known to: the few more that do are gone over one
+// by one.
 fn place_from(squares: &[Square], known: usize, level: u64, x: u64) -> usize
     requires ordered { InCodeOrder squares.now }
     requires known { known ≤ count_by (λ q. comes_before q (corner x level)) squares.now }

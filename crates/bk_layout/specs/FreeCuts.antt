@@ -1,6 +1,6 @@
--- What a search through free words may pass over: the words that begin with certain moves, because no layout of a simple
--- tiling has such a word. It is said of sound layouts and not of tilings, since the words that a search meets also belong to
--- layouts in which squares of the tiling are reversed. Each cut is one law that ends in `IsFreeBarren`.
+-- What a search through free words may pass over: the words that begin with certain moves, because no layout of a
+-- simple tiling has such a word. It is said of sound layouts and not of tilings, since the words that a search meets
+-- also belong to layouts in which squares of the tiling are reversed. Each cut is one law that ends in `IsFreeBarren`.
 -- Statements alone; each is proved apart.
 -- Example (NodeCutExamples): no word of a sound layout begins with 3aa.2ue.1ea.
 use Rattle.std.specs.Prelude.{Contains, [], length, ℕ, ◌++◌, ◌+◌, ◌<◌, ◌∷◌, ◌≡◌, ◌≢◌, ◌≤◌}
@@ -15,7 +15,6 @@ use Rattle.bk_layout.specs.Layout.{Fits, Layout}
 use Rattle.bk_layout.specs.LayoutLaws.{IsWordOfLayout}
 use Rattle.bk_layout.specs.SimpleLayout.{IsSimpleLayout}
 use Rattle.bk_layout.specs.TilingLayout.{layout_of}
-use Rattle.bk_catalogue.specs.ClosingBound.{closing_bound}
 use Rattle.bk_word.specs.OwnSigns.{own_signs}
 use Rattle.bk_catalogue.specs.SingleValleys.{single_valleys}
 use Rattle.bk_catalogue.specs.VerticalCut.{line_bound_of}
@@ -46,7 +45,8 @@ IsFreeBarren n front = (l : Layout) (w rest : Word) → IsSound n l → IsWordOf
 
 -- a move whose first sign is above, where the valley has a left neighbour
 abbrev pub StayingAboveIsFreeBarren : Type 0
-StayingAboveIsFreeBarren = (n : ℕ) (front : Word) (m : Move) → (IsFreeMove (outline_of front) m → ⊥) → IsFreeBarren n (front ++ m ∷ [])
+StayingAboveIsFreeBarren = (n : ℕ) (front : Word) (m : Move) → (IsFreeMove (outline_of front) m → ⊥)
+    → IsFreeBarren n (front ++ m ∷ [])
 
 -- moves that leave one segment, while they hang fewer squares than the order
 abbrev pub OneSegmentIsFreeBarren : Type 0
@@ -63,18 +63,9 @@ abbrev pub OneUnderOneIsFreeBarren : Type 0
 OneUnderOneIsFreeBarren = (n : ℕ) (front : Word) (m : Move) → m.count ≡ 1 → length (valley_of (outline_of front)) ≡ 1
     → IsFreeBarren n (front ++ m ∷ [])
 
--- moves after which fewer squares are left than segments that must be closed
-abbrev pub TooManyToCloseIsFreeBarren : Type 0
-TooManyToCloseIsFreeBarren = (n : ℕ) (front : Word) → n < order_of front + closing_bound (outline_of front).signs → IsFreeBarren n front
-
--- moves after which fewer squares are left than segments that must be closed and valleys of one square
-abbrev pub TooManySinglesIsFreeBarren : Type 0
-TooManySinglesIsFreeBarren = (n : ℕ) (front : Word) → 2 ≤ n
-    → n < order_of front + closing_bound (outline_of front).signs + single_valleys (outline_of front).signs (sizes_of (outline_of front))
-    → IsFreeBarren n front
-
--- moves after which fewer squares are left than segments that must be closed, with those on which lines from the top end,
--- and valleys of one square
+-- moves after which fewer squares are left than segments that must be closed, with those on which lines from the top
+-- end, and valleys of one square
 abbrev pub TooManyLinesIsFreeBarren : Type 0
 TooManyLinesIsFreeBarren = (n : ℕ) (front : Word) → 3 ≤ n
-    → n < order_of front + line_bound_of front + single_valleys (outline_of front).signs (sizes_of (outline_of front)) → IsFreeBarren n front
+    → n < order_of front + line_bound_of front + single_valleys (outline_of front).signs (sizes_of (outline_of front))
+    → IsFreeBarren n front

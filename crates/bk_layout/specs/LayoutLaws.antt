@@ -9,18 +9,19 @@ use Rattle.bk_word_net.specs.WordNet.{net_of_word}
 use Rattle.bk_layout.specs.FreeWord.{IsFree, IsWithoutTwins}
 use Rattle.bk_layout.specs.Layout.{Fits, HasNoTwins, IsFirst, IsLast, Layout, net_of_layout}
 
--- the squares of a move, each of which has the square of its number, stand side by side, the first at the line at which the
--- valley's first square stands
+-- the squares of a move, each of which has the square of its number, stand side by side, the first at the line at which
+-- the valley's first square stands
 pub record HangsByLines (l : Layout) (square : ℕ → ℕ) (o : Outline) (m : Move) : Type 0 where
   pub first : (a : ℕ) → slice_get (valley_of o) 0 ≡ Some a → l.left (square (length o.hung + 1)) ≡ l.left (square a)
-  pub next : (k : ℕ) → suc k < m.count → l.right (square (length o.hung + 1 + k)) ≡ l.left (square (length o.hung + 2 + k))
+  pub next : (k : ℕ) → suc k < m.count
+      → l.right (square (length o.hung + 1 + k)) ≡ l.left (square (length o.hung + 2 + k))
 
 abbrev pub HangByLinesFrom : Layout → (ℕ → ℕ) → Outline → Word → Type 0
 HangByLinesFrom l square o [] = ⊤
 HangByLinesFrom l square o (m ∷ moves) = HangsByLines l square o m × HangByLinesFrom l square (after_move o m) moves
 
--- the valley's squares are all that end on one node, and those of the move all that hang from it; where it is the one open
--- segment, it reaches from wall to wall
+-- the valley's squares are all that end on one node, and those of the move all that hang from it; where it is the one
+-- open segment, it reaches from wall to wall
 pub record HangsNode (l : Layout) (square : ℕ → ℕ) (o : Outline) (m : Move) : Type 0 where
   pub node : ℕ
   pub low : node < l.bottom
@@ -33,8 +34,8 @@ abbrev pub HangByNodesFrom : Layout → (ℕ → ℕ) → Outline → Word → T
 HangByNodesFrom l square o [] = ⊤
 HangByNodesFrom l square o (m ∷ moves) = HangsNode l square o m × HangByNodesFrom l square (after_move o m) moves
 
--- a complete word of as many squares, with the sign rule of free words; its squares, in the order of hanging, and its nodes,
--- in the order of closing, are those of the layout
+-- a complete word of as many squares, with the sign rule of free words; its squares, in the order of hanging, and its
+-- nodes, in the order of closing, are those of the layout
 pub record IsWordOfLayout (l : Layout) (w : Word) : Type 0 where
   pub complete : IsComplete w
   pub order : order_of w ≡ l.squares

@@ -1,9 +1,10 @@
--- Net words: the words that a search by nets has to meet. Each simple tiling of at least 3 squares has one, and a search may pass
--- over whatever no net word begins with. Statements alone; each is proved apart.
--- Example (NetWordExamples): the rectangle 11x13 of the sides 4, 7, 4, 5, 1, 6 has the word 2a.1u.2ea.1e, which breaks rule R, and the signed word
--- 2a.1a.2ue.1e, which keeps it. That is no net word, since what begins with 2a.1a is barren: one square hangs under one. The rectangle is compound.
+-- Net words: the words that a search by nets has to meet. Each simple tiling of at least 3 squares has one, and a
+-- search may pass over whatever no net word begins with. Statements alone; each is proved apart.
+-- Example (NetWordExamples): the rectangle 11x13 of the sides 4, 7, 4, 5, 1, 6 has the word 2a.1u.2ea.1e, which breaks
+-- rule R, and the signed word 2a.1a.2ue.1e, which keeps it. That is no net word, since what begins with 2a.1a is
+-- barren: one square hangs under one. The rectangle is compound.
 use Rattle.std.specs.List.{AllByRecursion}
-use Rattle.std.specs.Prelude.{[], false, ℕ, ◌++◌, ◌∷◌, ◌≡◌, ◌≤◌}
+use Rattle.std.specs.Prelude.{[], ℕ, ◌++◌, ◌∷◌, ◌≡◌, ◌≤◌}
 use Rattle.bk_simple.specs.Simple.{IsSimple}
 use Rattle.bk_tiling.specs.Tiling.{IsTiling, Tiling, order}
 use Rattle.bk_word.specs.Word.{Move, Word}
@@ -15,19 +16,17 @@ use Rattle.bk_layout.specs.SignedWord.{IsSignedWordOf}
 
 -- no word of a sound layout of so many squares that keeps rule R begins with these moves
 abbrev pub IsNetBarren : ℕ → Word → Type 0
-IsNetBarren n front = (l : Layout) (w rest : Word) → IsSound n l → IsWordOfLayout l w → AllByRecursion BeginsNoEvenAbove w → w ≡ front ++ rest → ⊥
+IsNetBarren n front = (l : Layout) (w rest : Word) → IsSound n l → IsWordOfLayout l w
+    → AllByRecursion BeginsNoEvenAbove w → w ≡ front ++ rest → ⊥
 
 -- so each cut on free words is one
 abbrev pub AFreeBarrenWordIsNetBarren : Type 0
 AFreeBarrenWordIsNetBarren = (n : ℕ) (front : Word) → IsFreeBarren n front → IsNetBarren n front
 
--- and a move of two squares or more that begins with even and above
+-- moves that end with one of two squares or more, begun with even and above, are net barren
 abbrev pub EvenThenAboveIsNetBarren : Type 0
-EvenThenAboveIsNetBarren = (n : ℕ) (front : Word) (m : Move) → (BeginsNoEvenAbove m → ⊥) → IsNetBarren n (front ++ m ∷ [])
-
--- and all that begins with what is
-abbrev pub WhatGoesOnIsNetBarren : Type 0
-WhatGoesOnIsNetBarren = (n : ℕ) (front more : Word) → IsNetBarren n front → IsNetBarren n (front ++ more)
+EvenThenAboveIsNetBarren = (n : ℕ) (front : Word) (m : Move) → (BeginsNoEvenAbove m → ⊥)
+    → IsNetBarren n (front ++ m ∷ [])
 
 -- a net word of a tiling: a signed word that keeps rule R, and of which no beginning is barren
 pub record IsNetWordOf (t : Tiling) (w : Word) : Type 0 where
@@ -37,12 +36,3 @@ pub record IsNetWordOf (t : Tiling) (w : Word) : Type 0 where
 
 abbrev pub ASimpleTilingHasANetWord : Type 0
 ASimpleTilingHasANetWord = (t : Tiling) → IsTiling t → IsSimple t → 3 ≤ order t → (w : Word) × IsNetWordOf t w
-
--- without rule R: a signed word in which no square is reversed, and of which no beginning is barren
-pub record IsPositiveWordOf (t : Tiling) (w : Word) : Type 0 where
-  pub signed : IsSignedWordOf t w
-  pub kept : (q : ℕ) → signed.turned q ≡ false
-  pub no_barren : (front rest : Word) → w ≡ front ++ rest → IsFreeBarren (order t) front → ⊥
-
-abbrev pub ASimpleTilingHasAPositiveWord : Type 0
-ASimpleTilingHasAPositiveWord = (t : Tiling) → IsTiling t → IsSimple t → 3 ≤ order t → (w : Word) × IsPositiveWordOf t w

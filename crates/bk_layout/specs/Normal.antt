@@ -1,7 +1,8 @@
--- Normal tilings: those of few moves, and with no fewer squares at the top than at the bottom and at the right than at the left. Each
--- tiling has a normal image, so a search for tilings may pass over the others. Statements alone; they are proved apart.
--- Example (CountExamples): the rectangle 33x32 has 9 squares, 5 moves, 2 squares at the top and at the left and 3 at the bottom and at
--- the right. It isn't normal, but its image with top and bottom exchanged is.
+-- Normal tilings: those of few moves, and with no fewer squares at the top than at the bottom and at the right than at
+-- the left. Each tiling has a normal image, so a search for tilings may pass over the others. Statements alone; they
+-- are proved apart.
+-- Example (CountExamples): the rectangle 33x32 has 9 squares, 5 moves, 2 squares at the top and at the left and 3 at
+-- the bottom and at the right. It isn't normal, but its image with top and bottom exchanged is.
 use Rattle.std.specs.Prelude.{Bool, List, [], cond, count_by, length, max, ℕ, ◌&&◌, ◌*◌, ◌+◌, ◌==◌, ◌||◌, ◌∷◌, ◌≡◌, ◌≤◌}
 use Rattle.bk_tiling.specs.SquareGroups.{square_groups}
 use Rattle.bk_tiling.specs.Tiling.{IsTiling, Tiling, order}
@@ -49,8 +50,8 @@ counts_of t = record {
 abbrev pub IsHalf : Counts → Type 0
 IsHalf c = 2 * (c.moves + 1) ≡ c.squares + 3
 
--- the nodes are at most so many; where they are just so many, no more squares lie at the right than at the top; and no more lie at the
--- bottom than at the top, and at the left than at the right
+-- the nodes are at most so many; where they are just so many, no more squares lie at the right than at the top; and no
+-- more lie at the bottom than at the top, and at the left than at the right
 pub record AreNormal (c : Counts) : Type 0 where
   pub few : 2 * (c.moves + 1) ≤ c.squares + 3
   pub half : IsHalf c → c.right ≤ c.top
@@ -82,13 +83,14 @@ abbrev pub longest : (Square → Bool) → List Square → ℕ
 longest test [] = 0
 longest test (q ∷ squares) = max (cond (test q) q.s 0) (longest test squares)
 
--- where such counts tie, others decide. With just so many nodes and as many squares at the right as at the top, no more lie at the left than
--- at the bottom, and where these are as many too, the rectangle is at least as wide as high; with as many squares at the bottom as at the
--- top the longest in a corner is no longer at the bottom than at the top, and with as many at the left as at the right no longer at the
--- right than at the left
+-- where such counts tie, others decide. With just so many nodes and as many squares at the right as at the top, no more
+-- lie at the left than at the bottom, and where these are as many too, the rectangle is at least as wide as high; with
+-- as many squares at the bottom as at the top the longest in a corner is no longer at the bottom than at the top, and
+-- with as many at the left as at the right no longer at the right than at the left
 pub record AreTiesSettled (t : Tiling) : Type 0 where
   pub sides : IsHalf (counts_of t) → (counts_of t).right ≡ (counts_of t).top → (counts_of t).left ≤ (counts_of t).bottom
-  pub size : IsHalf (counts_of t) → (counts_of t).right ≡ (counts_of t).top → (counts_of t).left ≡ (counts_of t).bottom → t.height ≤ t.width
+  pub size : IsHalf (counts_of t) → (counts_of t).right ≡ (counts_of t).top → (counts_of t).left ≡ (counts_of t).bottom
+      → t.height ≤ t.width
   pub level : (counts_of t).bottom ≡ (counts_of t).top
       → longest (is_in_bottom_corner t.width t.height) t.squares ≤ longest (is_in_top_corner t.width) t.squares
   pub across : (counts_of t).left ≡ (counts_of t).right

@@ -2,17 +2,16 @@
 -- Statements alone; each is proved apart.
 -- Example (NormalExamples): no word of a normal layout of five squares begins with 2u.2ua.
 use Rattle.std.specs.List.{AllByRecursion, list_any}
-use Rattle.std.specs.Prelude.{Bool, List, [], cond, length, max, nat_le, nat_lt, ℕ, ◌/◌, ◌⊎◌, ◌||◌, ◌*◌, ◌++◌, ◌+◌, ◌-◌, ◌<◌, ◌∷◌, ◌≡◌, ◌≤◌}
+use Rattle.std.specs.Prelude.{Bool, List, [], cond, length, max, nat_le, nat_lt, ℕ, ◌/◌, ◌⊎◌, ◌||◌, ◌*◌, ◌++◌, ◌+◌, ◌-◌}
+use Rattle.std.specs.Prelude.{◌<◌, ◌∷◌, ◌≡◌, ◌≤◌}
 use Rattle.bk_simple.specs.Simple.{IsSimple}
 use Rattle.bk_tiling.specs.Tiling.{IsTiling, Tiling, order}
-use Rattle.bk_word.specs.Outline.{sizes_of}
 use Rattle.bk_word.specs.Play.{IsLegal, outline_of}
 use Rattle.bk_word.specs.Word.{Word, order_of}
 use Rattle.bk_layout.specs.Layout.{Layout}
 use Rattle.bk_layout.specs.LayoutLaws.{IsWordOfLayout}
 use Rattle.bk_layout.specs.Normal.{IsNormal, counts_of}
-use Rattle.bk_catalogue.specs.SingleValleys.{single_valleys}
-use Rattle.bk_catalogue.specs.VerticalCut.{edges_on_lines, line_bound, line_bound_of, next_on_line, on_line}
+use Rattle.bk_catalogue.specs.VerticalCut.{line_bound_of, next_on_line, on_line}
 use Rattle.bk_layout.specs.FreeCuts.{IsSound}
 use Rattle.bk_layout.specs.RuleR.{BeginsNoEvenAbove}
 use Rattle.bk_layout.specs.SignedWord.{IsSignedWordOf}
@@ -22,16 +21,13 @@ use Rattle.bk_layout.specs.WordNumbers.{counts_of_word, first_count, left_square
 
 -- no word of a sound and normal layout of so many squares that keeps rule R begins with these moves
 abbrev pub IsNormalBarren : ℕ → Word → Type 0
-IsNormalBarren n front = (l : Layout) (w rest : Word) → IsSound n l → IsNormalLayout l → IsWordOfLayout l w → AllByRecursion BeginsNoEvenAbove w
+IsNormalBarren n front = (l : Layout) (w rest : Word) → IsSound n l → IsNormalLayout l → IsWordOfLayout l w
+    → AllByRecursion BeginsNoEvenAbove w
     → w ≡ front ++ rest → ⊥
 
 -- so each cut on all net words is one
 abbrev pub ANetBarrenWordIsNormalBarren : Type 0
 ANetBarrenWordIsNormalBarren = (n : ℕ) (front : Word) → IsNetBarren n front → IsNormalBarren n front
-
--- and all that begins with what is
-abbrev pub WhatGoesOnIsNormalBarren : Type 0
-WhatGoesOnIsNormalBarren = (n : ℕ) (front more : Word) → IsNormalBarren n front → IsNormalBarren n (front ++ more)
 
 -- a signed word of a tiling that keeps rule R, with the tiling's counts, and of which no beginning is barren
 pub record IsNormalWordOf (t : Tiling) (w : Word) : Type 0 where
@@ -42,57 +38,46 @@ pub record IsNormalWordOf (t : Tiling) (w : Word) : Type 0 where
 
 -- a normal and simple tiling of at least 3 squares has one
 abbrev pub ANormalTilingHasANormalWord : Type 0
-ANormalTilingHasANormalWord = (t : Tiling) → IsTiling t → IsSimple t → 3 ≤ order t → IsNormal t → (w : Word) × IsNormalWordOf t w
+ANormalTilingHasANormalWord = (t : Tiling) → IsTiling t → IsSimple t → 3 ≤ order t → IsNormal t
+    → (w : Word) × IsNormalWordOf t w
 
 -- ---- the cuts
 
--- a word of a normal layout that begins with these moves has at most so many: at most half of n + 1, and one less than just half where more
--- squares stand at a wall already than hang from the top
+-- a word of a normal layout that begins with these moves has at most so many: at most half of n + 1, and one less than
+-- just half where more squares stand at a wall already than hang from the top
 abbrev pub AreMostMoves : ℕ → Word → ℕ → Type 0
-AreMostMoves n front most = (n ≤ 2 * most) ⊎ ((n ≤ 2 * most + 1) × (first_count front < max (left_squares front) (right_squares front)))
+AreMostMoves n front most = (n ≤ 2 * most)
+    ⊎ ((n ≤ 2 * most + 1) × (first_count front < max (left_squares front) (right_squares front)))
 
 -- the least such number, but for more squares that are still to come at a wall
 abbrev pub most_moves_of : ℕ → Word → ℕ
-most_moves_of n front = cond (nat_lt (first_count front) (max (left_squares front) (right_squares front))) (n / 2) ((n + 1) / 2)
+most_moves_of n front = cond (nat_lt (first_count front) (max (left_squares front) (right_squares front))) (n / 2)
+    ((n + 1) / 2)
 
 abbrev pub MostMovesAreMost : Type 0
 MostMovesAreMost = (n : ℕ) (front : Word) → AreMostMoves n front (most_moves_of n front)
 
 -- where the moves go on, the number stays one
 abbrev pub MostMovesStay : Type 0
-MostMovesStay = (n most : ℕ) (front more : Word) → IsLegal (front ++ more) → AreMostMoves n front most → AreMostMoves n (front ++ more) most
-
--- more moves
-abbrev pub TooManyMovesIsNormalBarren : Type 0
-TooManyMovesIsNormalBarren = (n most : ℕ) (front : Word) → AreMostMoves n front most → most < length front → IsNormalBarren n front
+MostMovesStay = (n most : ℕ) (front more : Word) → IsLegal (front ++ more) → AreMostMoves n front most
+    → AreMostMoves n (front ++ more) most
 
 -- moves after which fewer moves are left than segments that must be closed, with those on which lines from the top end
 abbrev pub TooFewMovesIsNormalBarren : Type 0
-TooFewMovesIsNormalBarren = (n most : ℕ) (front : Word) → 3 ≤ n → AreMostMoves n front most → most < length front + line_bound_of front → IsNormalBarren n front
+TooFewMovesIsNormalBarren = (n most : ℕ) (front : Word) → 3 ≤ n → AreMostMoves n front most
+    → most < length front + line_bound_of front → IsNormalBarren n front
 
--- moves after which more squares and segments are left than the moves that are left can take: a move takes three at most, and two at
--- a wall; and some moves at the right wall must come, where more squares stand at the left wall
+-- moves after which more squares and segments are left than the moves that are left can take: a move takes three at
+-- most, and two at a wall; and some moves at the right wall must come, where more squares stand at the left wall
 abbrev pub TooManySquaresIsNormalBarren : Type 0
 TooManySquaresIsNormalBarren = (n most : ℕ) (front : Word) → AreMostMoves n front most
-    → order_of front + 3 * most + 1 < n + 3 * length front + length (outline_of front).segments + (left_squares front - right_squares front)
+    → order_of front + 3 * most + 1 < n + 3 * length front + length (outline_of front).segments +
+    (left_squares front - right_squares front)
     → IsNormalBarren n front
 
 -- of each segment whether a line from the top touches it, or it has at least as many squares as said
 abbrev pub touched_or_wide : ℕ → List Bool → List (List ℕ) → List Bool
 touched_or_wide top lines [] = []
 touched_or_wide top lines (segment ∷ segments) =
-    ((list_any (on_line lines) segment || next_on_line lines segments) || nat_le top (length segment)) ∷ touched_or_wide top lines segments
-
--- the bound after the moves of a word, where a segment that has as many squares as the top is closed too: a later square makes it wider
-abbrev pub wide_bound_of : Word → ℕ
-wide_bound_of w = line_bound (outline_of w).signs (touched_or_wide (first_count w) (edges_on_lines w) (outline_of w).segments)
-
--- moves after which fewer moves are left than segments that must be closed, with those and the ones on which lines from the top end
-abbrev pub TooWideSegmentsAreNormalBarren : Type 0
-TooWideSegmentsAreNormalBarren = (n most : ℕ) (front : Word) → 3 ≤ n → AreMostMoves n front most → 0 < length front → order_of front < n
-    → most < length front + wide_bound_of front → IsNormalBarren n front
-
--- and moves after which fewer squares are left than such segments and valleys of one square
-abbrev pub TooManyWideIsNormalBarren : Type 0
-TooManyWideIsNormalBarren = (n : ℕ) (front : Word) → 3 ≤ n → 0 < length front → order_of front < n
-    → n < order_of front + wide_bound_of front + single_valleys (outline_of front).signs (sizes_of (outline_of front)) → IsNormalBarren n front
+    ((list_any (on_line lines) segment || next_on_line lines segments) || nat_le top
+    (length segment)) ∷ touched_or_wide top lines segments

@@ -1,7 +1,7 @@
--- What a search that meets one image of eight has to meet: each simple tiling has an image that is normal, with a word of which no beginning is
--- barren. Statements alone; each is proved apart.
--- Examples (NormalImageExamples): the rectangle 33x32 has such an image. No sought word of five squares begins with 2u.2ua.
-use Rattle.std.specs.List.{AllByRecursion}
+-- What a search that meets one image of eight has to meet: each simple tiling has an image that is normal, with a word
+-- of which no beginning is barren. Statements alone; each is proved apart.
+-- Examples (NormalImageExamples): the rectangle 33x32 has such an image. No sought word of five squares begins with
+-- 2u.2ua.
 use Rattle.std.specs.Prelude.{List, ℕ, ◌++◌, ◌≡◌, ◌≤◌}
 use Rattle.bk_simple.specs.Simple.{IsSimple}
 use Rattle.bk_tiling.specs.CodeOrder.{in_code_order}
@@ -11,16 +11,14 @@ use Rattle.bk_tiling.specs.declared.Square.{Square}
 use Rattle.bk_sym.specs.Canonical.{IsCanonicalOf}
 use Rattle.bk_sym.specs.Image.{image}
 use Rattle.bk_sym.specs.declared.Turn.{Turn}
-use Rattle.bk_layout.specs.Normal.{AreNormal, AreTiesSettled, Counts, IsHalf, IsNormal, is_in_bottom_corner, is_in_left_corner, is_in_right_corner}
+use Rattle.bk_layout.specs.Normal.{AreNormal, AreTiesSettled, Counts, IsHalf, IsNormal, is_in_bottom_corner}
+use Rattle.bk_layout.specs.Normal.{is_in_left_corner, is_in_right_corner}
 use Rattle.bk_layout.specs.Normal.{is_in_top_corner, longest}
 use Rattle.bk_word.specs.Play.{IsComplete}
 use Rattle.bk_word.specs.Word.{Word, order_of}
 use Rattle.bk_word.specs.declared.Class.{Class}
 use Rattle.bk_catalogue.specs.Catalogue.{IsMember, IsOfClass}
-use Rattle.bk_layout.specs.TilingLayout.{layout_of}
-use Rattle.bk_layout.specs.RuleR.{BeginsNoEvenAbove}
 use Rattle.bk_layout.specs.NormalCuts.{IsNormalBarren, IsNormalWordOf}
-use Rattle.bk_layout.specs.NormalLayout.{IsNormalLayout}
 use Rattle.bk_layout.specs.WordNumbers.{counts_of_word}
 
 -- an image of a tiling is simple
@@ -33,11 +31,10 @@ pub record IsMetByNormalWord (u : Tiling) (w : Word) : Type 0 where
   pub simple : IsSimple u
   pub normal : IsNormal u
   pub ties : AreTiesSettled u
-  pub layout : IsNormalLayout (layout_of u)
   pub is_word : IsNormalWordOf u w
 
--- what is asked of the counts of such a word besides: where they are just half and as many squares stand at the right as at the top, no more stand
--- at the left than at the bottom
+-- what is asked of the counts of such a word besides: where they are just half and as many squares stand at the right
+-- as at the top, no more stand at the left than at the bottom
 pub record AreSettledCounts (c : Counts) : Type 0 where
   pub normal : AreNormal c
   pub sides : IsHalf c → c.right ≡ c.top → c.left ≤ c.bottom
@@ -46,15 +43,19 @@ pub record AreSettledCounts (c : Counts) : Type 0 where
 abbrev pub ANormalWordHasSettledCounts : Type 0
 ANormalWordHasSettledCounts = (u : Tiling) (w : Word) → IsMetByNormalWord u w → AreSettledCounts (counts_of_word w)
 
--- and of its squares, in any order: where the counts at two sides tie, of the longest squares in the corners
+-- what is asked of the squares of a normal word, in any order: where the counts at two sides tie, of the longest
+-- squares in the corners
 pub record AreCornersSettled (c : Counts) (width height : ℕ) (squares : List Square) : Type 0 where
   pub size : IsHalf c → c.right ≡ c.top → c.left ≡ c.bottom → height ≤ width
-  pub level : c.bottom ≡ c.top → longest (is_in_bottom_corner width height) squares ≤ longest (is_in_top_corner width) squares
-  pub across : c.left ≡ c.right → longest (is_in_right_corner width height) squares ≤ longest (is_in_left_corner height) squares
+  pub level : c.bottom ≡ c.top
+      → longest (is_in_bottom_corner width height) squares ≤ longest (is_in_top_corner width) squares
+  pub across : c.left ≡ c.right
+      → longest (is_in_right_corner width height) squares ≤ longest (is_in_left_corner height) squares
 
 -- so a search may pass over squares that a word places otherwise
 abbrev pub ANormalWordHasSettledCorners : Type 0
-ANormalWordHasSettledCorners = (u : Tiling) (w : Word) (squares : List Square) → IsMetByNormalWord u w → in_code_order squares ≡ u.squares
+ANormalWordHasSettledCorners = (u : Tiling) (w : Word) (squares : List Square) → IsMetByNormalWord u w
+    → in_code_order squares ≡ u.squares
     → AreCornersSettled (counts_of_word w) u.width u.height squares
 
 -- a turn by which the image is such a tiling, and the word
@@ -67,14 +68,13 @@ pub record HasNormalWord (t : Tiling) : Type 0 where
 abbrev pub EachSimpleTilingHasANormalWord : Type 0
 EachSimpleTilingHasANormalWord = (t : Tiling) → IsTiling t → IsSimple t → 3 ≤ order t → HasNormalWord t
 
--- what a search for them looks for: a complete word of the order that keeps rule R, and of which no beginning is barren
+-- what a search for them looks for: a complete word of the order, of which no beginning is barren; so it keeps rule R
 pub record IsNormalSought (n : ℕ) (w : Word) : Type 0 where
   pub complete : IsComplete w
   pub order : order_of w ≡ n
-  pub keeps : AllByRecursion BeginsNoEvenAbove w
   pub fertile : (front rest : Word) → w ≡ front ++ rest → IsNormalBarren n front → ⊥
 
--- those words are sought
+-- the normal words of a tiling are sought
 abbrev pub ANormalWordIsSought : Type 0
 ANormalWordIsSought = (t : Tiling) (w : Word) → IsNormalWordOf t w → IsNormalSought (order t) w
 
@@ -88,16 +88,17 @@ pub record IsMembersImage (n : ℕ) (class : Class) (t u : Tiling) : Type 0 wher
   pub canonical : IsCanonicalOf u t
 
 abbrev pub EachImageIsAMembers : Type 0
-EachImageIsAMembers = (n : ℕ) (class : Class) (t : Tiling) (turn : Turn) → IsMember n class t → IsMembersImage n class t (image turn t)
+EachImageIsAMembers = (n : ℕ) (class : Class) (t : Tiling) (turn : Turn) → IsMember n class t
+    → IsMembersImage n class t (image turn t)
 
 -- a member's turn and word, which is sought
 pub record IsMemberMet (n : ℕ) (class : Class) (t : Tiling) : Type 0 where
   pub turn : Turn
   pub word : Word
   pub met : IsMetByNormalWord (image turn t) word
-  pub image_is : IsMembersImage n class t (image turn t)
   pub sought : IsNormalSought n word
 
--- so a search that finds of each sought word the tilings of which it is a signed one, and takes their canonical tilings, misses no member
+-- so a search that finds of each sought word the tilings of which it is a signed one, and takes their canonical
+-- tilings, misses no member
 abbrev pub EachMemberIsMet : Type 0
 EachMemberIsMet = (n : ℕ) (class : Class) (t : Tiling) → 3 ≤ n → IsMember n class t → IsMemberMet n class t

@@ -1,7 +1,8 @@
--- Normal layouts: those with the counts of a normal tiling, of which each tiling has an image. The counts stay where squares are reversed, so
--- that a layout with a word by rule R is normal where the tiling's is. Statements alone; each is proved apart.
--- Example (NormalExamples): the layout of the rectangle 3x2 of the squares 2, 1, 1, with two squares at the top and two at the
--- bottom, one at the left and two at the right, and two moves, is normal.
+-- Normal layouts: those with the counts of a normal tiling, of which each tiling has an image. The counts stay where
+-- squares are reversed, so that a layout with a word by rule R is normal where the tiling's is. Statements alone; each
+-- is proved apart.
+-- Example (NormalExamples): the layout of the rectangle 3x2 of the squares 2, 1, 1, with two squares at the top and two
+-- at the bottom, one at the left and two at the right, and two moves, is normal.
 use Rattle.std.specs.Prelude.{ℕ, ◌<◌, ◌↔◌, ◌≡◌}
 use Rattle.bk_tiling.specs.Tiling.{IsTiling, Tiling}
 use Rattle.bk_layout.specs.Layout.{Fits, Layout}
@@ -25,4 +26,5 @@ pub record HasCountsOf (l m : Layout) : Type 0 where
   pub at_right : (q : ℕ) → q < l.squares → (m.right q ≡ 1) ↔ (l.right q ≡ 1)
 
 abbrev pub ReversalsKeepCounts : Type 0
-ReversalsKeepCounts = (l m : Layout) → Fits l → AreOuterWalls l → Fits m → AreOuterWalls m → IsUpToReversals l m → HasCountsOf l m
+ReversalsKeepCounts = (l m : Layout) → Fits l → AreOuterWalls l → Fits m → AreOuterWalls m → IsUpToReversals l m
+    → HasCountsOf l m

@@ -1,7 +1,7 @@
--- Rule R: no move beside a left neighbour, of two squares or more, begins with the signs even and above. Of all words whose
--- nets are one up to reversed squares, those that keep it are enough.
--- Example (RuleExamples): the free word 2a.2uu.2ea.2eue.1e of 33x32 breaks it; with the square of side 7 reversed the layout
--- has the word 2a.2ua.3euue.1e.1e.
+-- Rule R: no move beside a left neighbour, of two squares or more, begins with the signs even and above. Of all words
+-- whose nets are one up to reversed squares, those that keep it are enough.
+-- Example (RuleExamples): the free word 2a.2uu.2ea.2eue.1e of 33x32 breaks it; with the square of side 7 reversed the
+-- layout has the word 2a.2ua.3euue.1e.1e.
 use Rattle.std.specs.List.{AllByRecursion}
 use Rattle.std.specs.Prelude.{Some, [], false, slice_get, ⊤, ◌<◌, ◌∷◌, ◌≡◌}
 use Rattle.bk_word.specs.Outline.{Outline, has_left_wall, start}
@@ -13,7 +13,8 @@ use Rattle.bk_layout.specs.LayoutLaws.{IsWordOfLayout}
 use Rattle.bk_layout.specs.Reversal.{IsUpToReversals}
 
 abbrev pub KeepsRuleR : Outline → Move → Type 0
-KeepsRuleR o m = has_left_wall o ≡ false → 1 < m.count → slice_get m.signs 0 ≡ Some Even → slice_get m.signs 1 ≡ Some Above → ⊥
+KeepsRuleR o m = has_left_wall o ≡ false → 1 < m.count → slice_get m.signs 0 ≡ Some Even
+    → slice_get m.signs 1 ≡ Some Above → ⊥
 
 abbrev pub KeepRuleRFrom : Outline → Word → Type 0
 KeepRuleRFrom o [] = ⊤

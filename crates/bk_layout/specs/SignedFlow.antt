@@ -1,10 +1,10 @@
--- The sides of a tiling, in the order of a signed word's squares and negative where a square is reversed, are the one flow of the
--- word's net, and its potentials give the squares' levels. Statements alone; they are proved apart.
+-- The sides of a tiling, in the order of a signed word's squares and negative where a square is reversed, are the one
+-- flow of the word's net. Statements alone; they are proved apart.
 -- Example (SignedWordExamples): of the squares 2, 1, 1 with the first reversed the signed sides are -2, 1, 1.
-use Rattle.std.specs.Prelude.{Bool, cond, map, neg_ℤ, pos, slice_index_or, ℕ, ℤ, ◌-ℤ◌, ◌<◌, ◌≡◌}
+use Rattle.std.specs.Prelude.{Bool, cond, map, neg_ℤ, pos, slice_index_or, ℕ, ℤ, ◌-ℤ◌}
 use Rattle.bk_tiling.specs.Tiling.{IsTiling, Tiling, order}
 use Rattle.bk_net.specs.Diagram.{node_levels}
-use Rattle.bk_net.specs.Flow.{Flow, IsOneFlow, potential}
+use Rattle.bk_net.specs.Flow.{Flow, IsOneFlow}
 use Rattle.bk_word.specs.Play.{numbers_from}
 use Rattle.bk_word.specs.Word.{Word}
 use Rattle.bk_word_net.specs.WordNet.{net_of_word}
@@ -19,18 +19,17 @@ signed_side t turned q = cond (turned q) (neg_ℤ (pos (square_of t q).s)) (pos 
 abbrev pub signed_flow : (t : Tiling) (w : Word) → IsSignedWordOf t w → Flow
 signed_flow t w s = record {
   total = pos t.width;
-  potentials = map (λ v. pos t.height -ℤ pos (slice_index_or (node_levels t) (s.node v) 0)) (numbers_from 0 (net_of_word w).nodes);
+  potentials = map (λ v. pos t.height -ℤ pos (slice_index_or (node_levels t) (s.node v) 0))
+      (numbers_from 0 (net_of_word w).nodes);
   currents = map (λ k. signed_side t s.turned (s.square k)) (numbers_from 0 (order t));
 }
 
 abbrev pub SignedSidesAreTheOneFlow : Type 0
-SignedSidesAreTheOneFlow = (t : Tiling) (w : Word) → IsTiling t → (s : IsSignedWordOf t w) → IsOneFlow (net_of_word w) (signed_flow t w s)
+SignedSidesAreTheOneFlow = (t : Tiling) (w : Word) → IsTiling t → (s : IsSignedWordOf t w)
+    → IsOneFlow (net_of_word w) (signed_flow t w s)
 
--- the node of the word from which the tiling's square hangs: of a reversed square it is that at which the word's square ends
+-- the node of the word from which the tiling's square hangs: of a reversed square it is that at which the word's square
+-- ends
 abbrev pub upper_end : Word → Bool → ℕ → ℕ
-upper_end w turned k = cond turned (slice_index_or (net_of_word w).wires k (0, 0)).1 (slice_index_or (net_of_word w).wires k (0, 0)).0
-
--- a square's level is how far the potential there lies under that of the first node
-abbrev pub SignedSquaresHangByFlow : Type 0
-SignedSquaresHangByFlow = (t : Tiling) (w : Word) → IsTiling t → (s : IsSignedWordOf t w) → (k : ℕ) → k < order t
-    → pos (square_of t (s.square k)).y ≡ potential (signed_flow t w s) 0 -ℤ potential (signed_flow t w s) (upper_end w (s.turned (s.square k)) k)
+upper_end w turned k = cond turned (slice_index_or (net_of_word w).wires k (0, 0)).1
+    (slice_index_or (net_of_word w).wires k (0, 0)).0

@@ -1,7 +1,8 @@
--- Words of a tiling in which squares may be reversed: turned top to bottom and left to right, which changes the sign of a square's
--- current and nothing else in Kirchhoff's laws. Statements alone; they are proved apart.
--- Example (SignedWordExamples): in the rectangle 3x2 of the squares 2, 1, 1 with the first reversed, its edges are taken as 2 and 0.
-use Rattle.std.specs.Prelude.{Bool, List, Some, [], cond, false, slice_get, suc, zero, ℕ, ◌+◌, ◌∷◌, ◌≡◌}
+-- Words of a tiling in which squares may be reversed: turned top to bottom and left to right, which changes the sign of
+-- a square's current and nothing else in Kirchhoff's laws. Statements alone; they are proved apart.
+-- Example (SignedWordExamples): in the rectangle 3x2 of the squares 2, 1, 1 with the first reversed, its edges are
+-- taken as 2 and 0.
+use Rattle.std.specs.Prelude.{Bool, List, Some, [], cond, slice_get, suc, zero, ℕ, ◌+◌, ◌∷◌, ◌≡◌}
 use Rattle.bk_tiling.specs.Tiling.{IsTiling, Tiling, order}
 use Rattle.bk_net.specs.Diagram.{smith_diagram}
 use Rattle.bk_net.specs.Net.{Net}
@@ -14,7 +15,7 @@ use Rattle.bk_layout.specs.FreeWord.{IsFree}
 use Rattle.bk_layout.specs.Layout.{Fits, Layout}
 use Rattle.bk_layout.specs.LayoutLaws.{IsWordOfLayout}
 use Rattle.bk_layout.specs.TilingLayout.{layout_of, square_of}
-use Rattle.bk_layout.specs.LineNumbers.{sides_of}
+use Rattle.bk_layout.specs.LineNumbers.{square_lines}
 use Rattle.bk_layout.specs.Reversal.{IsUpToReversals}
 
 -- wires, numbered from here on, of which the turned ones lead the other way
@@ -33,33 +34,33 @@ left_edge t turned q = cond (turned q) ((square_of t q).x + (square_of t q).s) (
 abbrev pub right_edge : Tiling → (ℕ → Bool) → ℕ → ℕ
 right_edge t turned q = cond (turned q) (square_of t q).x ((square_of t q).x + (square_of t q).s)
 
--- the column of a line of the word by its number: 0 is the left wall, 1 the right wall, k + 2 the gap behind the square at place k
+-- the column of a line of the word by its number: 0 is the left wall, 1 the right wall, k + 2 the gap behind the square
+-- at place k
 abbrev pub line_column : Tiling → (ℕ → Bool) → (ℕ → ℕ) → ℕ → ℕ
 line_column t turned square zero = 0
 line_column t turned square (suc zero) = t.width
 line_column t turned square (suc (suc k)) = right_edge t turned (square k)
 
--- a free word of as many squares, and of as many in its first move as the tiling's word, whose net is the tiling's Smith diagram
--- with other numbers and the turned wires reversed, and whose squares stand along its lines
+-- a free word of as many squares, and of as many in its first move as the tiling's word, whose net is the tiling's
+-- Smith diagram with other numbers and the turned wires reversed, and whose squares stand along its lines
 pub record IsSignedWordOf (t : Tiling) (w : Word) : Type 0 where
   pub complete : IsComplete w
   pub order_is : order_of w ≡ order t
   pub free : IsFree w
-  pub first_count : (word : Word) (m n : Move) → IsWordOf t word → slice_get word 0 ≡ Some n → slice_get w 0 ≡ Some m → m.count ≡ n.count
+  pub first_count : (word : Word) (m n : Move) → IsWordOf t word → slice_get word 0 ≡ Some n → slice_get w 0 ≡ Some m
+      → m.count ≡ n.count
   -- which squares of the tiling are reversed, by their numbers in the code from 0
   pub turned : ℕ → Bool
   -- the node and the square of the tiling for each of the word
   pub node : ℕ → ℕ
   pub square : ℕ → ℕ
   pub net : IsRenumbering (net_of_word w) (reversed_net turned (smith_diagram t)) node square
-  pub lines : (k f g : ℕ) → slice_get (sides_of w) k ≡ Some (f, g)
-      → (left_edge t turned (square k) ≡ line_column t turned square f) × (right_edge t turned (square k) ≡ line_column t turned square g)
+  pub lines : (k f g : ℕ) → slice_get (square_lines w) k ≡ Some (f, g)
+      → (left_edge t turned (square k) ≡ line_column t turned square f)
+      × (right_edge t turned (square k) ≡ line_column t turned square g)
 
 -- each word of a layout that is the tiling's up to reversed squares is one
 abbrev pub AWordUpToReversalsIsSigned : Type 0
-AWordUpToReversalsIsSigned = (t : Tiling) (m : Layout) (w : Word) → IsTiling t → Fits m → (same : IsUpToReversals (layout_of t) m) → IsWordOfLayout m w
+AWordUpToReversalsIsSigned = (t : Tiling) (m : Layout) (w : Word) → IsTiling t → Fits m
+    → (same : IsUpToReversals (layout_of t) m) → IsWordOfLayout m w
     → (s : IsSignedWordOf t w) × (s.turned ≡ same.turned)
-
--- each tiling has one in which no square is reversed
-abbrev pub ATilingHasAPositiveWord : Type 0
-ATilingHasAPositiveWord = (t : Tiling) → IsTiling t → (w : Word) × (s : IsSignedWordOf t w) × ((q : ℕ) → s.turned q ≡ false)

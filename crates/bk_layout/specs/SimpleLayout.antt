@@ -1,8 +1,8 @@
--- What the layout of a simple tiling has, beside fitting: nothing in it is a part. The law at the end is a statement alone; it is
--- proved apart.
--- Examples (SimpleLayoutExamples): the rectangle 33x32 has such a layout. In 3x2 of the squares 2, 1, 1 the two squares of side 1 are a
--- part: the line between and the right wall both touch the top and the bottom, and the node between the two has one square above and
--- one below.
+-- What the layout of a simple tiling has, beside fitting: nothing in it is a part. The law at the end is a statement
+-- alone; it is proved apart.
+-- Examples (SimpleLayoutExamples): the rectangle 33x32 has such a layout. In 3x2 of the squares 2, 1, 1 the two squares
+-- of side 1 are a part: the line between and the right wall both touch the top and the bottom, and the node between the
+-- two has one square above and one below.
 use Rattle.std.specs.Prelude.{length, ℕ, ◌<◌, ◌≡◌, ◌≢◌, ◌≤◌, ◌⊎◌}
 use Rattle.bk_simple.specs.Simple.{IsSimple}
 use Rattle.bk_tiling.specs.Tiling.{IsTiling, Tiling, order}

@@ -2,17 +2,13 @@
 use Rattle.std.specs.List.{AllByRecursion}
 use Rattle.std.proofs.Common.{Contains, List, None, Some, [], inl, inr, length, ℕ, ◌++◌, ◌∷◌, ◌≡◌, ◌⊎◌}
 use Rattle.std.proofs.lemmas.List.Elements.{Contains-append_left, Contains-append_right}
-use Rattle.bk_laws.proofs.AllOfLists.{all_append}
+use Rattle.bk_laws.proofs.AllOfLists.{all-weaken, all_append}
 use Rattle.bk_word.proofs.WordOrder.{follows_trans}
 use Rattle.bk_word.specs.Word.{Follows, Word}
-use Rattle.bk_word.specs.declared.Class.{Class}
 use Rattle.bk_catalogue.specs.Catalogue.{AreAscending, Entry, IsEntry}
-use Rattle.bk_list.specs.Listing.{AreFirst, AtEnd, AtLimit, Ending, EndsBy, WideAt}
-use Rattle.bk_list.specs.ListingLaws.{AListingGoesOn, cursor_after}
-
-pub all_map : {A : Type 0} (P Q : A → Type 0) → ((x : A) → P x → Q x) → (xs : List A) → AllByRecursion P xs → AllByRecursion Q xs
-all_map P Q f [] a = tt
-all_map P Q f (x ∷ xs) a = (f x a.0, all_map P Q f xs a.1)
+use Rattle.bk_list.specs.Listing.{AreFirst, Catalogue}
+use Rattle.bk_list.specs.StoppedListing.{AtEnd, AtLimit, Ending, EndsAs, WideAt}
+use Rattle.bk_list.specs.ListingLaws.{AListingGoesOn, all_after, cursor_after}
 
 -- what follows the last of ascending words follows the cursor before them, and each of them
 pub after_last : (cursor : Word) (entries : List Entry) → AllByRecursion (λ e. Follows e.word cursor) entries → AreAscending entries → (w : Word)
@@ -20,6 +16,7 @@ pub after_last : (cursor : Word) (entries : List Entry) → AllByRecursion (λ e
 after_last cursor [] after up w h = h
 after_last cursor (e ∷ entries) after up w h = follows_trans cursor e.word w after.0 (after_last e.word entries up.0 up.1 w h)
 
+-- what follows the last of ascending entries follows each of them
 pub after_each : (cursor : Word) (entries : List Entry) → AreAscending entries → (w : Word) → Follows w (cursor_after cursor entries)
     → AllByRecursion (λ e. Follows w e.word) entries
 after_each cursor [] up w h = tt
@@ -36,17 +33,18 @@ ascending_append : (cursor : Word) (entries more : List Entry) → AreAscending 
 ascending_append cursor [] more up rest h = rest
 ascending_append cursor (e ∷ entries) more up rest h = (
   all_append (λ f. Follows f.word e.word) entries more up.0
-      (all_map (λ f. Follows f.word (cursor_after e.word entries)) (λ f. Follows f.word e.word) (λ f k. after_last e.word entries up.0 up.1 f.word k) more h),
+      (all-weaken (λ f. Follows f.word (cursor_after e.word entries)) (λ f. Follows f.word e.word) (λ f k. after_last e.word entries up.0 up.1 f.word k) more
+      h),
   ascending_append e.word entries more up.1 rest h,
 )
 
-module _ (n : ℕ) (class : Class) (cursor : Word) (entries more : List Entry) (a : AreFirst n class cursor entries)
-    (b : AreFirst n class (cursor_after cursor entries) more) where
+module _ (catalogue : Catalogue) (cursor : Word) (entries more : List Entry) (a : AreFirst catalogue cursor entries)
+    (b : AreFirst catalogue (cursor_after cursor entries) more) where
   no_limit : (k : ℕ) → None ≡ Some k → ⊥
   no_limit k e = cc
 
   -- a member after the cursor is among the first entries, or comes after all of them and after the cursor there
-  pub first_or_later : (e : Entry) → IsEntry n class e → Follows e.word cursor
+  pub first_or_later : (e : Entry) → IsEntry catalogue.order catalogue.class e → Follows e.word cursor
       → Contains entries e ⊎ (AllByRecursion (λ listed. Follows e.word listed.word) entries × Follows e.word (cursor_after cursor entries))
   first_or_later e entry h = cases (a.none_between e entry h)
     where
@@ -55,17 +53,18 @@ module _ (n : ℕ) (class : Class) (cursor : Word) (entries more : List Entry) (
       cases (inl c) = inl c
       cases (inr each) = inr (each, follows_last cursor entries e.word h each)
 
-  pub both : AreFirst n class cursor (entries ++ more)
+  -- the first entries after a cursor, and the first ones after these, are together the first ones after the cursor
+  pub both : AreFirst catalogue cursor (entries ++ more)
   both = record {
-    each = all_append (IsEntry n class) entries more a.each b.each;
+    each = all_append (IsEntry catalogue.order catalogue.class) entries more a.each b.each;
     after = all_append (λ e. Follows e.word cursor) entries more a.after
-        (all_map (λ e. Follows e.word (cursor_after cursor entries)) (λ e. Follows e.word cursor)
+        (all-weaken (λ e. Follows e.word (cursor_after cursor entries)) (λ e. Follows e.word cursor)
         (λ e k. after_last cursor entries a.after a.ascending e.word k) more b.after);
     ascending = ascending_append cursor entries more a.ascending b.ascending b.after;
     none_between = λ e entry h. between e entry (first_or_later e entry h);
   }
     where
-      between : (e : Entry) → IsEntry n class e
+      between : (e : Entry) → IsEntry catalogue.order catalogue.class e
           → Contains entries e ⊎ (AllByRecursion (λ listed. Follows e.word listed.word) entries × Follows e.word (cursor_after cursor entries))
           → Contains (entries ++ more) e ⊎ AllByRecursion (λ listed. Follows e.word listed.word) (entries ++ more)
       between e entry (inl c) = inl (Contains-append_left entries more e c)
@@ -77,7 +76,8 @@ module _ (n : ℕ) (class : Class) (cursor : Word) (entries more : List Entry) (
           second (inr each) = inr (all_append (λ listed. Follows e.word listed.word) entries more later.0 each)
 
   -- where each later member is among the further entries, each is among both
-  among_both : (e : Entry) → IsEntry n class e → Follows e.word cursor → (Follows e.word (cursor_after cursor entries) → Contains more e)
+  among_both : (e : Entry) → IsEntry catalogue.order catalogue.class e → Follows e.word cursor →
+      (Follows e.word (cursor_after cursor entries) → Contains more e)
       → Contains (entries ++ more) e
   among_both e entry h rest = cases (first_or_later e entry h)
     where
@@ -87,7 +87,8 @@ module _ (n : ℕ) (class : Class) (cursor : Word) (entries more : List Entry) (
       cases (inr later) = Contains-append_right entries more e (rest later.1)
 
   -- the further entries end as both do
-  ends_both : (ending : Ending) → EndsBy n class (cursor_after cursor entries) None more ending → EndsBy n class cursor None (entries ++ more) ending
+  ends_both : (ending : Ending) → EndsAs (all_after catalogue (cursor_after cursor entries)) more ending → EndsAs (all_after catalogue cursor) (entries ++ more)
+      ending
   ends_both AtLimit e = absurd (no_limit (length more) e)
   ends_both AtEnd e = (tt, λ f entry h. among_both f entry h (λ k. e.1 f entry k))
   ends_both (WideAt w) (low, stop) = (
@@ -102,5 +103,6 @@ module _ (n : ℕ) (class : Class) (cursor : Word) (entries more : List Entry) (
     },
   )
 
+-- a listing from where another one stopped goes on with it
 pub a_listing_goes_on : AListingGoesOn
-a_listing_goes_on n class cursor entries more ending a b e = (both n class cursor entries more a b, ends_both n class cursor entries more a b ending e)
+a_listing_goes_on catalogue cursor entries more ending a b e = (both catalogue cursor entries more a b, ends_both catalogue cursor entries more a b ending e)

@@ -1,16 +1,11 @@
 -- What is told of a result at the exit of a call that failed, and the cause of what came before it.
 use Rattle.std.proofs.Common.{Err, Ok, Result, le_of_eq, subst, sym, ℕ, ◌≡◌}
-use Rattle.std.specs.Prelude.{IfOk}
 use Rattle.std.specs.Result.{IsErrAnd}
 use Rattle.bk_ports.specs.Causes.{HasCause}
 
--- nothing is told of a success
-pub not_ok : {T E : Type 0} (Q : E → Type 0) (r : Result T E) (P : T → Type 0) → IsErrAnd r Q → IfOk r P
-not_ok Q (Ok x) P h = absurd h
-not_ok Q (Err y) P h = tt
-
 -- the failed call has the cause
 module _ {A F T E : Type 0} (Q : E → Type 0) (a b c : ℕ) (x : F) where
+  -- an error that is handed on has the cause that the failed call had
   pub cause_of_exit : (r : Result T E) → IsErrAnd r Q → b ≡ a → HasCause {T = A} {E = F} b c (Err x) → HasCause a c r
   cause_of_exit (Ok y) failed e h = absurd failed
   cause_of_exit (Err y) failed e h =

@@ -8,19 +8,18 @@ use Rattle.bk_ports.specs.Causes.{AppendsPrefix}
 use Rattle.bk_word.proofs.FollowLaws.{not_itself}
 use Rattle.bk_word.proofs.WordOrder.{follows_trans}
 use Rattle.bk_word.specs.Word.{Follows, Word}
-use Rattle.bk_word.specs.declared.Class.{Class}
-use Rattle.bk_catalogue.proofs.TreeCounts.{at_least_adds, at_least_fewer}
+use Rattle.bk_catalogue.proofs.TreeOfWords.TreeCounts.{at_least_adds, at_least_fewer}
 use Rattle.bk_catalogue.specs.Tree.{IsAtMostTree, IsNotAfter}
 use Rattle.bk_report.specs.Listings.{last_line}
 use Rattle.bk_report.specs.declared.listing.Last.{Last}
 use Rattle.bk_report.specs.declared.listing.Last.TheVariants.{End, Limit}
 use Rattle.bk_list.proofs.Continuing.{after_last}
-use Rattle.bk_list.proofs.ListingSteps.{Ended, IsListed, ended, first_then, listed_all, listed_limit, within_then}
+use Rattle.bk_list.proofs.ListingSteps.{IsListed, first_then, last_line_is, listed_all, listed_limit, within_then}
 use Rattle.bk_list.proofs.Taking.{last_word}
-use Rattle.bk_list.specs.Listing.{line_of}
+use Rattle.bk_list.specs.Listing.{Listing, line_of}
 use Rattle.bk_list.specs.ListingLaws.{cursor_after}
-use Rattle.bk_list.specs.Stepping.{AreNextSteps, AreStepsTo, HasEntriesBySteps, IsAtMostTreeAnd, StoppedAtEntry, StoppedAtLast, TakesSteps}
-use Rattle.bk_list.specs.Writing.{IsNext, IsNextBegun}
+use Rattle.bk_list.specs.Stepping.{AreNextSteps, HasEntriesBySteps, IsAtMostTreeAnd, StoppedAtEntry, StoppedAtLast, TakesSteps}
+use Rattle.bk_list.specs.Writing.{IsNext, IsNextBegun, StandsBehind}
 use Rattle.bk_list.specs.declared.entries.Next.{Next}
 use Rattle.bk_list.specs.declared.entries.Next.TheVariants.{Member, Nothing}
 
@@ -42,94 +41,101 @@ pub next_steps_as : (k n : ℕ) (x next : Next) (cursor then : Word) (steps : �
 next_steps_as k n x next cursor then steps e f h = subst (λ (k : ℕ). AreNextSteps next k cursor then steps) e
     (subst (λ (x : Next). AreNextSteps x k cursor then steps) f h)
 
+-- a bound on steps in the tree of an order is one in that of an equal order
 pub tree_as : (k n : ℕ) (cursor then : Word) (steps : ℕ) → k ≡ n → IsAtMostTree k cursor (Some then) steps → IsAtMostTree n cursor (Some then) steps
 tree_as k n cursor then steps e h = subst (λ (k : ℕ). IsAtMostTree k cursor (Some then) steps) e h
 
--- where a listing stands: so many entries, in so many calls, with so many steps
-module _ (n : ℕ) (class : Class) (start cursor : Word) (limit : Option ℕ) (listed : ℕ) (a b : Option (List ℕ))
-    (s : IsListed n class start cursor limit listed a b)
-    (first mid last : ℕ) (k : IsAtMostTreeAnd n start (Some cursor) listed (mid - first)) where
+-- where a listing stands: that many entries, in that many calls, with that many steps
+module _ (l : Listing) (cursor : Word) (listed : ℕ) (a b : Option (List ℕ)) (s : IsListed l cursor listed a b) (first mid last : ℕ)
+    (k : IsAtMostTreeAnd l.catalogue.order l.cursor (Some cursor) listed (mid - first)) where
   -- the cursor was never before the start
-  from_start : Follows start cursor → ⊥
-  from_start h = not_itself start (after_last start s.entries (s.first).after (s.first).ascending start (subst (Follows start) s.at h))
+  from_start : Follows l.cursor cursor → ⊥
+  from_start h = not_itself l.cursor (after_last l.cursor s.entries (s.first).after (s.first).ascending l.cursor (subst (Follows l.cursor) s.at h))
 
   -- a call up to a later word
-  to_later : (then : Word) → Follows then cursor → IsAtMostTree n cursor (Some then) (last - mid)
-      → IsAtMostTreeAnd n start (Some then) (listed + 1) (last - first)
-  to_later then later more = one_call_more n start cursor (Some then) listed first mid last from_start back k more
+  to_later : (then : Word) → Follows then cursor → IsAtMostTree l.catalogue.order cursor (Some then) (last - mid)
+      → IsAtMostTreeAnd l.catalogue.order l.cursor (Some then) (listed + 1) (last - first)
+  to_later then later more = one_call_more l.catalogue.order l.cursor cursor (Some then) listed first mid last from_start back k more
     where
       back : Follows cursor then → ⊥
       back h = not_itself cursor (follows_trans cursor then cursor later h)
 
   -- a call that found one more
-  pub steps_more : (then : Word) (c : Option (List ℕ)) → IsNext n class cursor then b c Member → AreNextSteps Member n cursor then (last - mid)
-      → IsAtMostTreeAnd n start (Some then) (listed + 1) (last - first)
+  pub steps_more : (then : Word) (c : Option (List ℕ)) → IsNext l.catalogue cursor then b c Member
+      → AreNextSteps Member l.catalogue.order cursor then (last - mid)
+      → IsAtMostTreeAnd l.catalogue.order l.cursor (Some then) (listed + 1) (last - first)
   steps_more then c next more = to_later then (subst (λ (w : Word). Follows w cursor) (sym next.2) (next.1).after) more
 
   -- a call up to the end of the tree
-  to_end : IsAtMostTree n cursor None (last - mid) → IsAtMostTreeAnd n start None (listed + 1) (last - first)
-  to_end more = one_call_more n start cursor None listed first mid last from_start tt k more
+  to_end : IsAtMostTree l.catalogue.order cursor None (last - mid) → IsAtMostTreeAnd l.catalogue.order l.cursor None (listed + 1) (last - first)
+  to_end more = one_call_more l.catalogue.order l.cursor cursor None listed first mid last from_start tt k more
 
   -- a call that found none
-  pub steps_all : (not : limit ≡ Some listed → ⊥) → (then : Word) (c : Option (List ℕ)) → IsNext n class cursor then b c Nothing
-      → AreNextSteps Nothing n cursor then (last - mid) → HasEntriesBySteps n class start limit End listed a c (last - first)
+  pub steps_all : (not : l.limit ≡ Some listed → ⊥) → (then : Word) (c : Option (List ℕ)) → IsNext l.catalogue cursor then b c Nothing
+      → AreNextSteps Nothing l.catalogue.order cursor then (last - mid) → HasEntriesBySteps l End listed a c then (last - first)
   unfolding listed_all
   steps_all not then c next more = record {
-    lines = listed_all n class start cursor limit listed a b s not then c next;
-    few = subst (λ (calls : ℕ). IsAtMostTreeAnd n start None (calls + 1) (last - first)) s.count (to_end more);
+    lines = listed_all l cursor listed a b s not then c next;
+    at = next.1 ∙ s.at;
+    few = subst (λ (calls : ℕ). IsAtMostTreeAnd l.catalogue.order l.cursor None (calls + 1) (last - first)) s.count (to_end more);
   }
 
   -- no call more at the limit
-  pub steps_limit : limit ≡ Some listed → HasEntriesBySteps n class start limit Limit listed a b (mid - first)
+  pub steps_limit : l.limit ≡ Some listed → HasEntriesBySteps l Limit listed a b cursor (mid - first)
   unfolding listed_limit
   steps_limit is = record {
-    lines = listed_limit n class start cursor limit listed a b s is;
-    few = subst (λ (w : Word). IsAtMostTreeAnd n start (Some w) (length s.entries) (mid - first)) s.at
-        (subst (λ (calls : ℕ). IsAtMostTreeAnd n start (Some cursor) calls (mid - first)) s.count k);
+    lines = listed_limit l cursor listed a b s is;
+    at = s.at;
+    few = subst (λ (w : Word). IsAtMostTreeAnd l.catalogue.order l.cursor (Some w) (length s.entries) (mid - first)) s.at
+        (subst (λ (calls : ℕ). IsAtMostTreeAnd l.catalogue.order l.cursor (Some cursor) calls (mid - first)) s.count k);
   }
 
   -- a call whose member was not written
-  pub steps_begun : (limit ≡ Some listed → ⊥) → (then : Word) (c : Option (List ℕ)) → IsNextBegun n class cursor then b c
-      → IsAtMostTree n cursor (Some then) (last - mid) → StoppedAtEntry n class start limit a c (last - first)
+  pub steps_begun : (l.limit ≡ Some listed → ⊥) → (then : Word) (c : Option (List ℕ)) → IsNextBegun l.catalogue cursor then b c
+      → IsAtMostTree l.catalogue.order cursor (Some then) (last - mid) → StoppedAtEntry l a c then (last - first)
   steps_begun not then c next more =
       let e = next.0 in record {
         entries = s.entries;
         failed = e;
-        first = first_then n class start cursor limit listed a b s not e next.1;
-        within = within_then n class start cursor limit listed a b s not e;
+        first = first_then l cursor listed a b s not e next.1;
+        within = within_then l cursor listed a b s not e;
         some = (next.3).0;
         begins = Appends-trans a b c (flat_map line_of s.entries) (take (next.3).0 (line_of e)) s.appends (next.3).1;
-        few = subst (λ (w : Word). IsAtMostTreeAnd n start (Some w) (length (s.entries ++ e ∷ [])) (last - first)) at
-            (subst (λ (calls : ℕ). IsAtMostTreeAnd n start (Some then) calls (last - first)) calls
+        at = next.2;
+        few = subst (λ (w : Word). IsAtMostTreeAnd l.catalogue.order l.cursor (Some w) (length (s.entries ++ e ∷ [])) (last - first)) at
+            (subst (λ (calls : ℕ). IsAtMostTreeAnd l.catalogue.order l.cursor (Some then) calls (last - first)) calls
             (to_later then (subst (λ (w : Word). Follows w cursor) (sym next.2) (next.1).after) more));
       }
     where
-      at : then ≡ cursor_after start (s.entries ++ next.0 ∷ [])
-      at = next.2 ∙ sym (last_word start s.entries next.0)
+      at : then ≡ cursor_after l.cursor (s.entries ++ next.0 ∷ [])
+      at = next.2 ∙ sym (last_word l.cursor s.entries next.0)
 
       calls : listed + 1 ≡ length (s.entries ++ next.0 ∷ [])
       calls = omega (arith, s.count, length-append s.entries (next.0 ∷ []))
 
--- the steps of a listing whose entries are all written
-pub takes_all : (n : ℕ) (class : Class) (start : Word) (limit : Option ℕ) (last : Last) (listed : ℕ) (a b : Option (List ℕ)) (steps : ℕ)
-    → HasEntriesBySteps n class start limit last listed a b steps → TakesSteps n class start limit last steps
-takes_all n class start limit last listed a b steps h =
-    record { entries = (h.lines).entries; first = (h.lines).first; ends = (h.lines).ends; few = h.few }
+-- a listing whose entries are all written: its steps, and where its members stand
+module _ (l : Listing) (last : Last) (listed : ℕ) (a b : Option (List ℕ)) (reached : Word) (steps : ℕ)
+    (h : HasEntriesBySteps l last listed a b reached steps) where
+  -- a listing that ended has taken at most the steps of its entries
+  pub takes_all : TakesSteps l last steps
+  takes_all = record { entries = (h.lines).entries; first = (h.lines).first; ends = (h.lines).ends; few = h.few }
 
--- and of one whose last line was not written
-pub took_all : (n : ℕ) (class : Class) (start : Word) (limit : Option ℕ) (last : Last) (listed : ℕ) (word : Word) (a b c : Option (List ℕ)) (steps : ℕ)
-    → HasEntriesBySteps n class start limit last listed a b steps → (piece : List ℕ) → piece ≡ last_line last n class listed word
-    → AppendsPrefix b c piece → StoppedAtLast n class start limit a c steps
-took_all n class start limit last listed word a b c steps h piece is p = record {
-  entries = (h.lines).entries;
-  ending = end.ending;
-  first = (h.lines).first;
-  ends = end.ends;
-  some = p.0;
-  begins = subst (λ (line : List ℕ). Appends a c (flat_map line_of (h.lines).entries ++ take p.0 line)) end.line
-      (Appends-trans a b c (flat_map line_of (h.lines).entries) (take p.0 piece) (h.lines).appends p.1);
-  few = subst (λ (last : Last). AreStepsTo last n start (h.lines).entries steps) end.named h.few;
-}
-  where
-    end : Ended n class start limit last (h.lines).entries piece
-    end = ended n class start limit last listed word a b c h.lines piece is
+  -- after a listing that ended the members stand behind its last entry
+  pub stands_behind : StandsBehind l last reached
+  stands_behind = record { entries = (h.lines).entries; first = (h.lines).first; ends = (h.lines).ends; at = h.at }
+
+  -- the write of its last line failed
+  pub took_all : (word : Word) (c : Option (List ℕ)) (piece : List ℕ)
+      → piece ≡ last_line last l.catalogue.order l.catalogue.class listed word → AppendsPrefix b c piece → StoppedAtLast l a c reached steps
+  took_all word c piece is p = record {
+    entries = (h.lines).entries;
+    last = last;
+    first = (h.lines).first;
+    ends = (h.lines).ends;
+    some = p.0;
+    begins = subst (λ (line : List ℕ). Appends a c (flat_map line_of (h.lines).entries ++ take p.0 line))
+        (last_line_is l last listed word a b c h.lines piece is)
+        (Appends-trans a b c (flat_map line_of (h.lines).entries) (take p.0 piece) (h.lines).appends p.1);
+    at = h.at;
+    few = h.few;
+  }

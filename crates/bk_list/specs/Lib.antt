@@ -3,4 +3,6 @@ pub mod Listing
 pub mod ListingLaws
 pub mod Resuming
 pub mod Stepping
+pub mod StoppedListing
+pub mod Walked
 pub mod Writing

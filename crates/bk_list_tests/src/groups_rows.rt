@@ -95,8 +95,8 @@ fn rows_of_perfect_rectangles() -> &'static [Row] {
     ]
 }
 
-// Two perfect rectangles of one size that have no side in common, two that have one, and two of which one has a side as long as
-// both are high.
+// Two perfect rectangles of one size that have no side in common, two that have one, and two of which one has a side as
+// long as both are high.
 #[test]
 fn perfect_rectangles(rt: HostRuntime) {
     for row in rows_of_perfect_rectangles() {

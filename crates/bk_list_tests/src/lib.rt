@@ -8,6 +8,8 @@ mod ask_rows;
 #[cfg(test)]
 mod groups_rows;
 #[cfg(test)]
+mod library_rows;
+#[cfg(test)]
 mod pair_rows;
 #[cfg(test)]
 mod verify_rows;

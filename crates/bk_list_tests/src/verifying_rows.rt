@@ -10,7 +10,8 @@ use std::alloc::Global;
 // A list, the read and the write that fail, how it ends and what is written.
 type Row = (&'static str, u64, (u64, usize), Ended, &'static str);
 
-// Whether a list that is held against the catalogue of an order, with a read and a write that fail, ends so and writes this.
+// Whether a list that is held against the catalogue of an order, with a read and a write that fail, ends so and writes
+// this.
 fn is_verified(alloc: Global, order: u8, row: &Row) -> bool
     requires least { 2 ≤ order }
     requires most { order ≤ 16 }

@@ -1,8 +1,8 @@
 -- The cells of a tiling, each under one square, and the squares of its groups.
-use Rattle.std.specs.List.{AllByRecursion}
 use Rattle.std.proofs.Common.{List, Some, [], ap, arith, inl, inr, refl, slice_get, slice_index_or, subst, suc, sym, true, zero, ℕ, ◌+◌, ◌-◌, ◌<◌}
 use Rattle.std.proofs.Common.{◌∷◌, ◌≡◌, ◌≤◌, ◌⊎◌}
 use Rattle.std.proofs.lemmas.Bool.{cases_lt}
+use Rattle.bk_laws.proofs.AllOfLists.{all-slice_get}
 use Rattle.bk_tiling.proofs.Cells.{counted_one, covers_from, in_all, over_from}
 use Rattle.bk_tiling.proofs.TilingLaws.{cell_once, side_of}
 use Rattle.bk_tiling.specs.Tiling.{IsOneOf, IsTiling, Tiling, covers}
@@ -11,12 +11,6 @@ use Rattle.bk_tiling.proofs.Groups.{AllIn, IsGroup, IsRow, groups_row, row_of}
 use Rattle.bk_tiling.proofs.TilingGroups.{known, one_there}
 use Rattle.bk_tiling.specs.SquareGroups.{square_groups}
 use Rattle.bk_net.specs.Diagram.{group_level}
-
--- what holds of all items of a list holds of the one that is got at a place
-pub get_all : {A : Type 0} (P : A → Type 0) (xs : List A) (k : ℕ) (x : A) → AllByRecursion P xs → slice_get xs k ≡ Some x → P x
-get_all P [] k x all e = absurd (cc)
-get_all P (y ∷ xs) zero x all e = let same : y ≡ x = cc in subst P same all.0
-get_all P (y ∷ xs) (suc k) x all e = get_all P xs k x all.1 e
 
 -- a list that is got at a place is the one read there
 pub get_index : (xs : List (List Square)) (k : ℕ) (x : List Square) → slice_get xs k ≡ Some x → slice_index_or xs k [] ≡ x
@@ -49,7 +43,7 @@ module _ (t : Tiling) (tiling : IsTiling t) where
 
   -- a group of the tiling's squares is a group among them
   pub group_of : (v : ℕ) (g : List Square) → slice_get (square_groups t.squares) v ≡ Some g → IsGroup t.squares g × AllIn t.squares g
-  group_of v g e = get_all (λ g. IsGroup t.squares g × AllIn t.squares g) (square_groups t.squares) v g (known t tiling).all e
+  group_of v g e = all-slice_get (λ g. IsGroup t.squares g × AllIn t.squares g) (square_groups t.squares) v g (known t tiling).all e
 
   -- so its squares are squares of the tiling
   pub in_group : (v : ℕ) (g : List Square) → slice_get (square_groups t.squares) v ≡ Some g → (q : Square) → IsOneOf q g → IsOneOf q t.squares

@@ -1,9 +1,10 @@
 -- Nodes that are joined by wires, and their labels.
 use Rattle.std.specs.Prelude.{List, slice_index, slice_index_or}
-use Rattle.std.proofs.Common.{Bool, [], ap, arith, cond, false, inl, inr, length, nat_eq, refl, subst, suc, sym, true, zero, ℕ, ◌+◌, ◌-◌, ◌<◌, ◌∙◌}
-use Rattle.std.proofs.Common.{◌∷◌, ◌≡◌, ◌≢◌, ◌≤◌, ◌⊎◌}
+use Rattle.std.proofs.Common.{Bool, ap, arith, cond, false, inl, inr, length, nat_eq, refl, subst, sym, true, ℕ, ◌+◌, ◌-◌, ◌<◌, ◌∙◌}
+use Rattle.std.proofs.Common.{◌≡◌, ◌≢◌, ◌≤◌, ◌⊎◌}
 use Rattle.std.proofs.lemmas.Bool.{cases_lt}
 use Rattle.std.proofs.lemmas.Bool.Decides.{nat_tests}
+use Rattle.bk_laws.proofs.ListItems.{slice_index_or-any_default}
 use Rattle.bk_net.specs.Labels.{AreLabels, EndsBelow, IsRelabelled, relabelled}
 use Rattle.bk_net.specs.Net.{HasNoLoose, IsJoined, IsLeastLoose, IsLoose, Net, against, along, here}
 
@@ -64,19 +65,14 @@ module _ (nodes : ℕ) (wires : List (ℕ × ℕ)) (before after : List ℕ) (do
   pub labels_more : AreLabels nodes wires after (done + 1)
   labels_more = record { many = many ∙ are.many; joined = new_joined; closed = new_closed }
 
--- the same, from what the code reads
-index_any : (wires : List (ℕ × ℕ)) (k : ℕ) (d e : ℕ × ℕ) → k < length wires → slice_index_or wires k d ≡ slice_index_or wires k e
-index_any [] k d e h = absurd (omega arith)
-index_any (w ∷ wires) zero d e h = refl
-index_any (w ∷ wires) (suc k) d e h = index_any wires k d e (omega arith)
-
--- the same, from what is read while they are changed
+-- one wire more is joined, from what is read while labels are changed
 pub labels_step : (nodes : ℕ) (wires : List (ℕ × ℕ)) (before first second third after : List ℕ) (done from to : ℕ) → EndsBelow nodes wires
     → done < length wires → AreLabels nodes wires before done
     → first ≡ before → second ≡ before → third ≡ before → from ≡ (slice_index_or wires done (0, 0)).0 → to ≡ (slice_index_or wires done (0, 0)).1
     → length after ≡ length third → IsRelabelled (slice_index first from) (slice_index second to) third after → AreLabels nodes wires after (done + 1)
 labels_step nodes wires before first second third after done from to ends below are f s t fromis tois many each =
-    labels_more nodes wires before after done (slice_index_or wires done (0, 0)) ends below (λ d. index_any wires done d (0, 0) below) are (many ∙ ap length t)
+    labels_more nodes wires before after done (slice_index_or wires done (0, 0)) ends below (λ d. slice_index_or-any_default wires done d (0, 0) below) are
+    (many ∙ ap length t)
     (λ v h. each v (omega (arith, ap length t)) ∙ (λ k. relabelled (slice_index (f k) (fromis k)) (slice_index (s k) (tois k)) (slice_index (t k) v)))
 
 -- before the first wire each node has its own number as its label

@@ -6,9 +6,9 @@ use Rattle.std.proofs.lemmas.Bool.{and_parts}
 use Rattle.std.proofs.lemmas.List.{append-nil}
 use Rattle.bk_grammar.proofs.FirstByte.{blank_first}
 use Rattle.bk_grammar.specs.Grammar.{Blanks, IsBlank, LineEnd, ◌then◌}
-use Rattle.bk_net.specs.Gathered.{and_wire}
+use Rattle.bk_net.specs.GatheredWires.{and_wire}
 use Rattle.bk_net.specs.NetLine.{IsNetLine, Item, NetLine, NodeNumber, Skip, Wire, Wires}
-use Rattle.bk_net.specs.Reader.{ended_wire, ending_at, kind_of, last_wire, longer, next_place}
+use Rattle.bk_net.specs.NetReading.{ended_wire, last_wire, net_ending_at, net_kind_of, next_net_place, with_digit}
 use Rattle.bk_net.specs.declared.reader.Ending.TheVariants.{Empty, Nodes}
 use Rattle.bk_net.specs.declared.reader.Kind.{Kind}
 use Rattle.bk_net.specs.declared.reader.Kind.TheVariants.{Blank, Dash, Digit, Other, Semicolon}
@@ -93,7 +93,7 @@ number_here : (v : ℕ) (Rest : ℕ → List ℕ → Type 0) (bs : List ℕ) →
 number_here v Rest bs h = (v, [], bs, refl, refl, h)
 
 -- where a number goes on, it is not 0 and has fewer than three digits
-longer_from : (v d : ℕ) (at : ℕ → Place) (ws : List (ℕ × ℕ)) (l : NetLine) (bs : List ℕ) → NextRest (option_map at (longer v d)) ws l bs
+longer_from : (v d : ℕ) (at : ℕ → Place) (ws : List (ℕ × ℕ)) (l : NetLine) (bs : List ℕ) → NextRest (option_map at (with_digit v d)) ws l bs
     → (0 < v) × (v < 100) × RestOf (at (v * 10 + d)) ws l bs
 longer_from v d at ws l bs h = cases (nat_lt 0 v && nat_lt v 100) refl h
   where
@@ -144,7 +144,7 @@ start_comment ws l b bs e is none = subst (λ (k : NetLine). IsNetLine k (b ∷ 
 
 -- what completes a line from the next place completes it from this one, with the byte between them
 step : (p : Place) (k : Kind) (ws : List (ℕ × ℕ)) (l : NetLine) (b : ℕ) (bs : List ℕ) → Means k b
-    → NextRest (next_place p k) (and_wire (ended_wire p k) ws) l bs → RestOf p ws l (b ∷ bs)
+    → NextRest (next_net_place p k) (and_wire (ended_wire p k) ws) l bs → RestOf p ws l (b ∷ bs)
 step Start Blank ws l b bs m h = start_blank ws l b bs m h
 step Start (Digit d) ws l b bs m h = start_digit d ws l b bs m.0 m.1 h
 step Start Semicolon ws l b bs m h = start_comment ws l b bs m h
@@ -185,7 +185,7 @@ step (InComment (Nodes n)) k ws l b bs m h = h
 
 -- ---- the end of the bytes
 
-ends : (p : Place) (ws : List (ℕ × ℕ)) (l : NetLine) → line_at (ending_at p) (and_wire (last_wire p) ws) ≡ Some l → RestOf p ws l []
+ends : (p : Place) (ws : List (ℕ × ℕ)) (l : NetLine) → line_at (net_ending_at p) (and_wire (last_wire p) ws) ≡ Some l → RestOf p ws l []
 ends Start ws l e = let same : Skip ≡ l = cc in λ none. subst (λ (k : NetLine). IsNetLine k []) same ([], [], refl, tt, inl refl)
 ends (Count v) ws l e = let same : Item v ws ≡ l = cc in number_here v (λ n rest. WiresRest n ws l rest) [] (line_ends v ws l (sym same))
 ends (Between n) ws l e = let same : Item n ws ≡ l = cc in ([], ([], [], refl, tt, inl refl), sym same ∙ ap (Item n) (sym (append-nil ws)))
@@ -200,11 +200,11 @@ ends (InComment (Nodes n)) ws l e = let same : Item n ws ≡ l = cc in sym same
 pub read_is_rest : (bs : List ℕ) (p : Place) (ws : List (ℕ × ℕ)) (l : NetLine) → read bs p ws ≡ Some l → RestOf p ws l bs
 read_is_rest [] p ws l e = ends p ws l e
 read_is_rest (b ∷ bs) p ws l e =
-    step p (kind_of b) ws l b bs (means b) (next (next_place p (kind_of b)) e (λ q. read_is_rest bs q (and_wire (ended_wire p (kind_of b)) ws) l))
+    step p (net_kind_of b) ws l b bs (means b) (next (next_net_place p (net_kind_of b)) e (λ q. read_is_rest bs q (and_wire (ended_wire p (net_kind_of b)) ws) l))
   where
-    next : (o : Option Place) → option_and_then (λ q. read bs q (and_wire (ended_wire p (kind_of b)) ws)) o ≡ Some l
-        → ((q : Place) → read bs q (and_wire (ended_wire p (kind_of b)) ws) ≡ Some l → RestOf q (and_wire (ended_wire p (kind_of b)) ws) l bs)
-        → NextRest o (and_wire (ended_wire p (kind_of b)) ws) l bs
+    next : (o : Option Place) → option_and_then (λ q. read bs q (and_wire (ended_wire p (net_kind_of b)) ws)) o ≡ Some l
+        → ((q : Place) → read bs q (and_wire (ended_wire p (net_kind_of b)) ws) ≡ Some l → RestOf q (and_wire (ended_wire p (net_kind_of b)) ws) l bs)
+        → NextRest o (and_wire (ended_wire p (net_kind_of b)) ws) l bs
     next None f rest = absurd (cc)
     next (Some q) f rest = rest q f
 

@@ -6,9 +6,9 @@ use Rattle.std.proofs.lemmas.Bool.{and_from, cond-true, lt-ltb}
 use Rattle.std.proofs.lemmas.List.{append-nil}
 use Rattle.bk_grammar.proofs.Reading.{Reads, split}
 use Rattle.bk_grammar.specs.Grammar.{Blanks, Comment, Is, LineEnd, Nothing, SomeBlanks, ◌or◌, ◌then◌}
-use Rattle.bk_net.specs.Gathered.{and_wire}
+use Rattle.bk_net.specs.GatheredWires.{and_wire}
 use Rattle.bk_net.specs.NetLine.{IsNetLine, Item, NetLine, NodeNumber, Skip, Wire, Wires}
-use Rattle.bk_net.specs.Reader.{ended_wire, ending_at, last_wire, longer, next_place}
+use Rattle.bk_net.specs.NetReading.{ended_wire, last_wire, net_ending_at, next_net_place, with_digit}
 use Rattle.bk_net.specs.declared.reader.Ending.{Ending}
 use Rattle.bk_net.specs.declared.reader.Ending.TheVariants.{Empty, Nodes}
 use Rattle.bk_net.specs.declared.reader.Kind.TheVariants.{Blank, Dash, Digit, Semicolon}
@@ -19,12 +19,12 @@ use Rattle.bk_net.proofs.ReadingAll.{kind_blank, kind_digit, line_at, line_of, r
 
 -- ---- numbers
 
-longer_goes : (v d : ℕ) → 0 < v → v < 100 → longer v d ≡ Some (v * 10 + d)
+longer_goes : (v d : ℕ) → 0 < v → v < 100 → with_digit v d ≡ Some (v * 10 + d)
 longer_goes v d some few = cond-true _ _ _ (and_from (nat_lt 0 v) (nat_lt v 100) (lt-ltb 0 v some) (lt-ltb v 100 few))
 
 -- places within a number, by its value
 pub record HasNumber (at : ℕ → Place) : Type 0 where
-  pub goes : (v d : ℕ) → next_place (at v) (Digit d) ≡ option_map at (longer v d)
+  pub goes : (v d : ℕ) → next_net_place (at v) (Digit d) ≡ option_map at (with_digit v d)
   pub keeps : (v d : ℕ) → ended_wire (at v) (Digit d) ≡ None
 
 in_count : HasNumber Count
@@ -45,7 +45,7 @@ digits_read at has ws v n (c ∷ ds) x h =
 
 -- a place at which a number begins
 pub record BeginsNumber (p : Place) (at : ℕ → Place) : Type 0 where
-  pub begins : (d : ℕ) → next_place p (Digit d) ≡ Some (at d)
+  pub begins : (d : ℕ) → next_net_place p (Digit d) ≡ Some (at d)
   pub none : (d : ℕ) → ended_wire p (Digit d) ≡ None
   pub within : HasNumber at
 
@@ -60,12 +60,12 @@ number_read p at b ws n text x (a, h, e) =
 
 -- ---- blanks
 
-skipped : (p : Place) (ws : List (ℕ × ℕ)) (a x : List ℕ) → next_place p Blank ≡ Some p → ended_wire p Blank ≡ None → Blanks a → read (a ++ x) p ws ≡ read x p ws
+skipped : (p : Place) (ws : List (ℕ × ℕ)) (a x : List ℕ) → next_net_place p Blank ≡ Some p → ended_wire p Blank ≡ None → Blanks a → read (a ++ x) p ws ≡ read x p ws
 skipped p ws [] x next none blanks = refl
 skipped p ws (b ∷ a) x next none blanks =
     read_next p p Blank ws ws b (a ++ x) (kind_blank b blanks.0) next (ap (λ o. and_wire o ws) none) ∙ skipped p ws a x next none blanks.1
 
-blanks_read : (p : Place) (ws : List (ℕ × ℕ)) (text x : List ℕ) → next_place p Blank ≡ Some p → ended_wire p Blank ≡ None → Reads Blanks text x
+blanks_read : (p : Place) (ws : List (ℕ × ℕ)) (text x : List ℕ) → next_net_place p Blank ≡ Some p → ended_wire p Blank ≡ None → Reads Blanks text x
     → read text p ws ≡ read x p ws
 blanks_read p ws text x next none (a, h, e) = ap (λ (z : List ℕ). read z p ws) e ∙ skipped p ws a x next none h
 
@@ -77,11 +77,11 @@ comment_read (b ∷ bs) ending ws = comment_read bs ending ws
 
 -- a place behind a number of nodes or behind a wire, which ends with any further byte
 pub record Closes (p : Place) (n : ℕ) (ws vs : List (ℕ × ℕ)) : Type 0 where
-  pub blank : next_place p Blank ≡ Some (Between n)
+  pub blank : next_net_place p Blank ≡ Some (Between n)
   pub blank_wires : and_wire (ended_wire p Blank) ws ≡ vs
-  pub semicolon : next_place p Semicolon ≡ Some (InComment (Nodes n))
+  pub semicolon : next_net_place p Semicolon ≡ Some (InComment (Nodes n))
   pub semicolon_wires : and_wire (ended_wire p Semicolon) ws ≡ vs
-  pub end : line_at (ending_at p) (and_wire (last_wire p) ws) ≡ Some (Item n vs)
+  pub end : line_at (net_ending_at p) (and_wire (last_wire p) ws) ≡ Some (Item n vs)
 
 count_closes : (n : ℕ) (ws : List (ℕ × ℕ)) → Closes (Count n) n ws ws
 count_closes n ws = record { blank = refl; blank_wires = refl; semicolon = refl; semicolon_wires = refl; end = refl }

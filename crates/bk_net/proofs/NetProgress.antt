@@ -3,10 +3,10 @@ use Rattle.std.specs.Prelude.{Bool, Err, IfErr, IfOk, List, None, Ok, Result, So
 use Rattle.std.proofs.Common.{ap, append_assoc, arith, get_or, refl, subst, sym, ◌∙◌}
 use Rattle.std.proofs.lemmas.Bool.{false≢true}
 use Rattle.std.proofs.lemmas.List.{take_all, take_more}
-use Rattle.bk_net.specs.Gathered.{IsNoNet, Keeps, and_wire}
+use Rattle.bk_net.specs.GatheredWires.{IsNoNet, KeepsWires, and_wire}
 use Rattle.bk_net.specs.NetLine.{IsNetLine, IsNoNetLine, Item, NetLine, Skip}
-use Rattle.bk_net.specs.ReadNet.{IsFaultOf, stands_for}
-use Rattle.bk_net.specs.Reader.{ended_wire, ending_at, kind_of, last_wire, next_place}
+use Rattle.bk_net.specs.ReadNet.{IsNetFaultOf, net_line_of}
+use Rattle.bk_net.specs.NetReading.{ended_wire, last_wire, net_ending_at, net_kind_of, next_net_place}
 use Rattle.bk_net.specs.declared.NetFault.{NetFault}
 use Rattle.bk_net.specs.declared.NetFault.TheVariants.{Many, Nodes as NodesFault, Text, Wire}
 use Rattle.bk_net.specs.declared.NetLine.{NetLine as NetLineRead}
@@ -22,7 +22,7 @@ use Rattle.bk_net.proofs.ReadingAll.{line_at, line_of, read, read_next}
 pub record Progress (front : List ℕ) (p : Place) (kept : List (ℕ × ℕ)) (many : Bool) : Type 0 where
   pub all : List (ℕ × ℕ)
   pub leads : Leads front p all
-  pub keeps : Keeps all kept many
+  pub keeps : KeepsWires all kept many
 
 -- before the first byte
 pub at_first : (kept : List (ℕ × ℕ)) → kept ≡ [] → Progress [] Start kept false
@@ -30,28 +30,28 @@ at_first kept none = record { all = []; leads = λ x. refl; keeps = record { sam
 
 -- behind a further byte
 pub further : (bs : List ℕ) (i : ℕ) (p q : Place) (kept next_kept : List (ℕ × ℕ)) (many next_many : Bool) → i < length bs
-    → Progress (take i bs) p kept many → next_place p (kind_of (get_or bs i 0)) ≡ Some q
-    → ((all : List (ℕ × ℕ)) → Keeps all kept many → Keeps (and_wire (ended_wire p (kind_of (get_or bs i 0))) all) next_kept next_many)
+    → Progress (take i bs) p kept many → next_net_place p (net_kind_of (get_or bs i 0)) ≡ Some q
+    → ((all : List (ℕ × ℕ)) → KeepsWires all kept many → KeepsWires (and_wire (ended_wire p (net_kind_of (get_or bs i 0))) all) next_kept next_many)
     → Progress (take (i + 1) bs) q next_kept next_many
 further bs i p q kept next_kept many next_many within progress next keeps =
     let b = get_or bs i 0 in
-    let wires = and_wire (ended_wire p (kind_of b)) progress.all in record {
+    let wires = and_wire (ended_wire p (net_kind_of b)) progress.all in record {
       all = wires;
       leads = λ x.
           ap (λ front. read (front ++ x) Start []) (take_more bs i 0 within)
           ∙ ap (λ z. read z Start []) (append_assoc (take i bs) (b ∷ []) x)
           ∙ progress.leads (b ∷ x)
-          ∙ read_next p q (kind_of b) progress.all wires b x refl next refl;
+          ∙ read_next p q (net_kind_of b) progress.all wires b x refl next refl;
       keeps = keeps progress.all progress.keeps;
     }
 
 -- where the reader stops, the bytes leave the grammar
 pub no_next : (bs : List ℕ) (i : ℕ) (p : Place) (kept : List (ℕ × ℕ)) (many : Bool) → i < length bs → Progress (take i bs) p kept many
-    → next_place p (kind_of (get_or bs i 0)) ≡ None → IsNoNetLine bs i
+    → next_net_place p (net_kind_of (get_or bs i 0)) ≡ None → IsNoNetLine bs i
 no_next bs i p kept many within progress none = stops_at bs i p progress.all within progress.leads none
 
 -- where a line can't end, its bytes leave the grammar at their end
-pub no_ending : (bs : List ℕ) (p : Place) (kept : List (ℕ × ℕ)) (many : Bool) → Progress bs p kept many → ending_at p ≡ None → IsNoNetLine bs (length bs)
+pub no_ending : (bs : List ℕ) (p : Place) (kept : List (ℕ × ℕ)) (many : Bool) → Progress bs p kept many → net_ending_at p ≡ None → IsNoNetLine bs (length bs)
 no_ending bs p kept many progress none = stops_at_end bs p progress.all progress.leads none
 
 -- the whole line was read
@@ -59,25 +59,25 @@ pub whole : (bs : List ℕ) (i : ℕ) (p : Place) (kept : List (ℕ × ℕ)) (ma
 whole bs i p kept many all progress = subst (λ (z : List ℕ). Progress z p kept many) (take_all i bs all) progress
 
 -- at an end the bytes are a line
-whole_line : (bs : List ℕ) (p : Place) (ws : List (ℕ × ℕ)) (ending : Ending) → Leads bs p ws → ending_at p ≡ Some ending
+whole_line : (bs : List ℕ) (p : Place) (ws : List (ℕ × ℕ)) (ending : Ending) → Leads bs p ws → net_ending_at p ≡ Some ending
     → IsNetLine (line_of ending (and_wire (last_wire p) ws)) bs
 whole_line bs p ws ending leads e =
     read_is_line bs (line_of ending (and_wire (last_wire p) ws)) (read_whole bs p ws leads ∙ ap (λ o. line_at o (and_wire (last_wire p) ws)) e)
 
 -- a line that ends without a number of nodes stands for nothing
-pub skip_found : (bs : List ℕ) (p : Place) (kept : List (ℕ × ℕ)) (many : Bool) → Progress bs p kept many → ending_at p ≡ Some Empty → IsNetLine Skip bs
+pub skip_found : (bs : List ℕ) (p : Place) (kept : List (ℕ × ℕ)) (many : Bool) → Progress bs p kept many → net_ending_at p ≡ Some Empty → IsNetLine Skip bs
 skip_found bs p kept many progress e = whole_line bs p progress.all Empty progress.leads e
 
 -- all wires of a line of so many nodes, and what is kept of them
 pub record HasWires (bs : List ℕ) (nodes : ℕ) (kept : List (ℕ × ℕ)) (many : Bool) : Type 0 where
   pub wires : List (ℕ × ℕ)
   pub line : IsNetLine (Item nodes wires) bs
-  pub keeps : Keeps wires kept many
+  pub keeps : KeepsWires wires kept many
 
 -- a line that ends behind its numbers has all its wires, of which the reader kept some
 pub wires_found : (bs : List ℕ) (p : Place) (kept last_kept : List (ℕ × ℕ)) (many last_many : Bool) (nodes : ℕ) → Progress bs p kept many
-    → ending_at p ≡ Some (Nodes nodes)
-    → ((all : List (ℕ × ℕ)) → Keeps all kept many → Keeps (and_wire (last_wire p) all) last_kept last_many) → HasWires bs nodes last_kept last_many
+    → net_ending_at p ≡ Some (Nodes nodes)
+    → ((all : List (ℕ × ℕ)) → KeepsWires all kept many → KeepsWires (and_wire (last_wire p) all) last_kept last_many) → HasWires bs nodes last_kept last_many
 wires_found bs p kept last_kept many last_many nodes progress e keeps =
     record {
       wires = and_wire (last_wire p) progress.all;
@@ -91,13 +91,13 @@ all_kept bs nodes kept many h few = subst (λ (ws : List (ℕ × ℕ)). IsNetLin
 
 -- where the wires that are kept are all, what is told of the line is what it stands for
 pub item_is : (r : Result NetLineRead NetFault) (bs : List ℕ) (nodes : ℕ) (kept : List (ℕ × ℕ)) (many : Bool) → HasWires bs nodes kept many
-    → IfOk r (λ l. many ≡ false) → IfOk r (λ l. stands_for l ≡ Item nodes kept)
-    → IfOk r (λ l. IsNetLine (stands_for l) bs)
+    → IfOk r (λ l. many ≡ false) → IfOk r (λ l. net_line_of l ≡ Item nodes kept)
+    → IfOk r (λ l. IsNetLine (net_line_of l) bs)
 item_is (Ok l) bs nodes kept many h few is = subst (λ (z : NetLine). IsNetLine z bs) (sym is) (all_kept bs nodes kept many h few)
 item_is (Err fault) bs nodes kept many h few is = tt
 
 one_fault : (fault : NetFault) (bs : List ℕ) (nodes : ℕ) (kept : List (ℕ × ℕ)) (many : Bool) → HasWires bs nodes kept many → length kept ≤ 200
-    → IsNoNet nodes many kept fault → IsFaultOf fault bs
+    → IsNoNet nodes many kept fault → IsNetFaultOf fault bs
 one_fault (Text at) bs nodes kept many h few none = absurd none
 one_fault Many bs nodes kept many h few none = (nodes, h.wires, h.line, h.keeps.more none)
 one_fault (NodesFault count) bs nodes kept many h few none = (
@@ -110,6 +110,6 @@ one_fault (Wire place) bs nodes kept many h few none = (nodes, kept, all_kept bs
 
 -- and a line that is refused has the fault that is told
 pub fault_is : (r : Result NetLineRead NetFault) (bs : List ℕ) (nodes : ℕ) (kept : List (ℕ × ℕ)) (many : Bool) → HasWires bs nodes kept many
-    → length kept ≤ 200 → IfErr r (IsNoNet nodes many kept) → IfErr r (λ fault. IsFaultOf fault bs)
+    → length kept ≤ 200 → IfErr r (IsNoNet nodes many kept) → IfErr r (λ fault. IsNetFaultOf fault bs)
 fault_is (Ok l) bs nodes kept many h few none = tt
 fault_is (Err fault) bs nodes kept many h few none = one_fault fault bs nodes kept many h few none

@@ -4,9 +4,9 @@ use Rattle.std.proofs.Common.{ap, get_or, sym, ◌∙◌}
 use Rattle.std.proofs.lemmas.List.{append-nil}
 use Rattle.bk_grammar.proofs.Leaving.{leaves_at_end, leaves_before}
 use Rattle.bk_grammar.specs.Longest.{Begins}
-use Rattle.bk_net.specs.Gathered.{and_wire}
+use Rattle.bk_net.specs.GatheredWires.{and_wire}
 use Rattle.bk_net.specs.NetLine.{IsNetLine, IsNoNetLine, NetLine, SomeNetLine}
-use Rattle.bk_net.specs.Reader.{ended_wire, ending_at, kind_of, last_wire, next_place}
+use Rattle.bk_net.specs.NetReading.{ended_wire, last_wire, net_ending_at, net_kind_of, next_net_place}
 use Rattle.bk_net.specs.declared.reader.Place.{Place}
 use Rattle.bk_net.specs.declared.reader.Place.TheVariants.{BehindDash, Between, Comment as InComment, Count, First, Second, Start}
 use Rattle.bk_net.proofs.NetLinesMeant.{read_is_line}
@@ -43,25 +43,25 @@ begins front p ws leads =
     (c.0, (l.0, read_is_line (front ++ c.0) l.0 (leads c.0 ∙ l.1)))
 
 -- a byte behind which there is no place begins no rest of a line
-no_more : (front : List ℕ) (p : Place) (ws : List (ℕ × ℕ)) (b : ℕ) (x : List ℕ) → Leads front p ws → next_place p (kind_of b) ≡ None
+no_more : (front : List ℕ) (p : Place) (ws : List (ℕ × ℕ)) (b : ℕ) (x : List ℕ) → Leads front p ws → next_net_place p (net_kind_of b) ≡ None
     → ¬ (SomeNetLine (front ++ b ∷ x))
 no_more front p ws b x leads none (l, line) =
     let read' : read (b ∷ x) p ws ≡ Some l = sym (leads (b ∷ x)) ∙ line_is_read l (front ++ b ∷ x) line in
-    let stopped : read (b ∷ x) p ws ≡ None = ap (λ next. option_and_then (λ q. read x q (and_wire (ended_wire p (kind_of b)) ws)) next) none in
+    let stopped : read (b ∷ x) p ws ≡ None = ap (λ next. option_and_then (λ q. read x q (and_wire (ended_wire p (net_kind_of b)) ws)) next) none in
     absurd (cc)
 
 -- the bytes leave the grammar where the reader has no place for the next one
 pub stops_at : (bs : List ℕ) (at : ℕ) (p : Place) (ws : List (ℕ × ℕ)) → at < length bs → Leads (take at bs) p ws
-    → next_place p (kind_of (get_or bs at 0)) ≡ None → IsNoNetLine bs at
+    → next_net_place p (net_kind_of (get_or bs at 0)) ≡ None → IsNoNetLine bs at
 stops_at bs at p ws within leads none =
     leaves_before SomeNetLine bs at within (begins (take at bs) p ws leads) (λ x. no_more (take at bs) p ws (get_or bs at 0) x leads none)
 
 -- at the end of the bytes the reader has read what the place and the wires tell
-pub read_whole : (bs : List ℕ) (p : Place) (ws : List (ℕ × ℕ)) → Leads bs p ws → read bs Start [] ≡ line_at (ending_at p) (and_wire (last_wire p) ws)
+pub read_whole : (bs : List ℕ) (p : Place) (ws : List (ℕ × ℕ)) → Leads bs p ws → read bs Start [] ≡ line_at (net_ending_at p) (and_wire (last_wire p) ws)
 read_whole bs p ws leads = ap (λ z. read z Start []) (sym (append-nil bs)) ∙ leads []
 
 -- bytes that end where no line may end leave the grammar at their end
-pub stops_at_end : (bs : List ℕ) (p : Place) (ws : List (ℕ × ℕ)) → Leads bs p ws → ending_at p ≡ None → IsNoNetLine bs (length bs)
+pub stops_at_end : (bs : List ℕ) (p : Place) (ws : List (ℕ × ℕ)) → Leads bs p ws → net_ending_at p ≡ None → IsNoNetLine bs (length bs)
 stops_at_end bs p ws leads none = leaves_at_end SomeNetLine bs (begins bs p ws leads) no_line
   where
     no_line : ¬ (SomeNetLine bs)

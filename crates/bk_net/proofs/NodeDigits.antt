@@ -2,17 +2,13 @@
 use Rattle.std.specs.Char.{digit_value}
 use Rattle.std.specs.Prelude.{List, [], ℕ, ◌*◌, ◌+◌, ◌<◌, ◌∷◌, ◌≡◌, ◌≢◌, ◌⊎◌}
 use Rattle.std.proofs.Common.{ap, arith, inl, inr, refl, ◌∙◌}
-use Rattle.std.proofs.lemmas.Str.{digit_value_digit}
-use Rattle.std.proofs.lemmas.Str.Parse.{digit_from_value}
+use Rattle.bk_laws.proofs.Digits.{digit_value-add_48}
 use Rattle.bk_net.specs.NetLine.{NodeNumber}
 
 -- digits that make the value v of a number that was begun to n
 abbrev pub Goes_on : ℕ → ℕ → List ℕ → Type 0
 Goes_on v n [] = n ≡ v
 Goes_on v n (c ∷ ds) = (digit_value c < 10) × (0 < v) × (v < 100) × Goes_on (v * 10 + digit_value c) n ds
-
-own_value : (b : ℕ) → digit_value b < 10 → digit_value b + 48 ≡ b
-own_value b small = digit_value_digit b (digit_from_value b small)
 
 -- a first digit and these digits are a node number
 pub number_of : (b n : ℕ) (ds : List ℕ) → digit_value b < 10 → Goes_on (digit_value b) n ds → NodeNumber n (b ∷ ds)
@@ -22,13 +18,13 @@ number_of b n [] small h = cases (two (digit_value b))
     two d = grind arith
 
     cases : (digit_value b ≡ 0) ⊎ (0 < digit_value b) → NodeNumber n (b ∷ [])
-    cases (inl e) = let zero' : b ≡ 48 = omega (arith, own_value b small) in inl (ap (λ (c : ℕ). c ∷ []) zero', h ∙ e)
-    cases (inr some) = inr ((omega arith, (small, tt)), omega arith, (λ e. omega (arith, own_value b small)), omega (arith, h))
-number_of b n (c ∷ []) small h = inr ((omega arith, (small, (h.0, tt))), omega arith, (λ e. omega (arith, own_value b small, h.1)), omega (arith, h.3))
+    cases (inl e) = let zero' : b ≡ 48 = omega (arith, digit_value-add_48 b small) in inl (ap (λ (c : ℕ). c ∷ []) zero', h ∙ e)
+    cases (inr some) = inr ((omega arith, (small, tt)), omega arith, (λ e. omega (arith, digit_value-add_48 b small)), omega (arith, h))
+number_of b n (c ∷ []) small h = inr ((omega arith, (small, (h.0, tt))), omega arith, (λ e. omega (arith, digit_value-add_48 b small, h.1)), omega (arith, h.3))
 number_of b n (c ∷ e ∷ []) small h = inr (
   (omega arith, (small, (h.0, (h.3.0, tt)))),
   omega arith,
-  (λ f. omega (arith, own_value b small, h.1)),
+  (λ f. omega (arith, digit_value-add_48 b small, h.1)),
   omega (arith, h.3.3),
 )
 number_of b n (c ∷ e ∷ f ∷ ds) small h = absurd (omega (arith, h.1, h.3.3.2))
@@ -51,7 +47,7 @@ number_from n (b ∷ c ∷ []) (inr h) =
     record { first = b; others = c ∷ []; is = refl; digit = h.0.1.0; goes_on = (h.0.1.1.0, some, omega (arith, h.0.1.0), omega (arith, h.3)) }
   where
     positive : (b : ℕ) → digit_value b < 10 → b ≢ 48 → 0 < digit_value b
-    positive b small other = omega (arith, own_value b small)
+    positive b small other = omega (arith, digit_value-add_48 b small)
 number_from n (b ∷ c ∷ e ∷ []) (inr h) =
     let some : 0 < digit_value b = positive b h.0.1.0 h.2 in
     record {
@@ -63,5 +59,5 @@ number_from n (b ∷ c ∷ e ∷ []) (inr h) =
     }
   where
     positive : (b : ℕ) → digit_value b < 10 → b ≢ 48 → 0 < digit_value b
-    positive b small other = omega (arith, own_value b small)
+    positive b small other = omega (arith, digit_value-add_48 b small)
 number_from n (b ∷ c ∷ e ∷ f ∷ ds) (inr h) = absurd (omega (arith, h.1))

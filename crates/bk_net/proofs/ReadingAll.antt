@@ -1,16 +1,17 @@
 -- The reader of a network line with all its wires, however many there are; the reader in the code keeps 200 of them. And
 -- what is known of a byte of each kind.
 use Rattle.std.specs.Char.{digit_value}
-use Rattle.std.specs.Prelude.{List, None, Option, Some, [], if◌then◌else◌, nat_le, option_and_then, ℕ, ◌&&◌, ◌-◌, ◌<◌, ◌==◌, ◌||◌, ◌∷◌, ◌≡◌, ◌≤◌}
-use Rattle.std.proofs.Common.{Bool, ap, arith, false, inl, inr, leb-true, refl, true, ℕ, ◌+◌, ◌∙◌}
-use Rattle.std.proofs.lemmas.Bool.{and_from, and_parts, cond-true, eqb-true, le-leb}
+use Rattle.std.specs.Prelude.{List, None, Option, Some, [], if◌then◌else◌, nat_le, option_and_then, ℕ, ◌&&◌, ◌-◌, ◌<◌, ◌==◌, ◌||◌, ◌∷◌, ◌≡◌}
+use Rattle.std.proofs.Common.{Bool, ap, arith, false, inl, inr, refl, true, ℕ, ◌∙◌}
+use Rattle.std.proofs.lemmas.Bool.{and_from, cond-true, eqb-true, le-leb}
 use Rattle.std.proofs.lemmas.Str.{digit_value_digit}
 use Rattle.std.proofs.lemmas.Str.Parse.{digit_from_value}
+use Rattle.bk_laws.proofs.Digits.{digit_value-of_test}
 use Rattle.bk_grammar.proofs.BlankBytes.{blank_means}
 use Rattle.bk_grammar.specs.Grammar.{IsBlank}
-use Rattle.bk_net.specs.Gathered.{and_wire}
+use Rattle.bk_net.specs.GatheredWires.{and_wire}
 use Rattle.bk_net.specs.NetLine.{Item, NetLine, Skip}
-use Rattle.bk_net.specs.Reader.{ended_wire, ending_at, kind_of, last_wire, next_place}
+use Rattle.bk_net.specs.NetReading.{ended_wire, last_wire, net_ending_at, net_kind_of, next_net_place}
 use Rattle.bk_net.specs.declared.reader.Ending.{Ending}
 use Rattle.bk_net.specs.declared.reader.Ending.TheVariants.{Empty, Nodes}
 use Rattle.bk_net.specs.declared.reader.Kind.{Kind}
@@ -29,14 +30,14 @@ line_at (Some e) wires = Some (line_of e wires)
 
 -- what is read from a place on
 abbrev pub read : List ℕ → Place → List (ℕ × ℕ) → Option NetLine
-read [] p wires = line_at (ending_at p) (and_wire (last_wire p) wires)
-read (b ∷ bs) p wires = option_and_then (λ q. read bs q (and_wire (ended_wire p (kind_of b)) wires)) (next_place p (kind_of b))
+read [] p wires = line_at (net_ending_at p) (and_wire (last_wire p) wires)
+read (b ∷ bs) p wires = option_and_then (λ q. read bs q (and_wire (ended_wire p (net_kind_of b)) wires)) (next_net_place p (net_kind_of b))
 
 -- a further byte of a known kind
-pub read_next : (p q : Place) (k : Kind) (ws vs : List (ℕ × ℕ)) (b : ℕ) (bs : List ℕ) → kind_of b ≡ k → next_place p k ≡ Some q
+pub read_next : (p q : Place) (k : Kind) (ws vs : List (ℕ × ℕ)) (b : ℕ) (bs : List ℕ) → net_kind_of b ≡ k → next_net_place p k ≡ Some q
     → and_wire (ended_wire p k) ws ≡ vs → read (b ∷ bs) p ws ≡ read bs q vs
 read_next p q k ws vs b bs kind next wires =
-    ap (λ k. option_and_then (λ q. read bs q (and_wire (ended_wire p k) ws)) (next_place p k)) kind
+    ap (λ k. option_and_then (λ q. read bs q (and_wire (ended_wire p k) ws)) (next_net_place p k)) kind
     ∙ ap (option_and_then (λ q. read bs q (and_wire (ended_wire p k) ws))) next
     ∙ ap (read bs q) wires
 
@@ -52,31 +53,22 @@ either : (test : Bool) (one two : Kind) (b : ℕ) → (test ≡ true → Means o
 either true one two b yes' no' = yes' refl
 either false one two b yes' no' = no'
 
-value_below : (b : ℕ) → 48 ≤ b → b ≤ 57 → digit_value b + 48 ≡ b
-value_below b low high = digit_value_digit b (omega arith, omega arith)
-
-digit_means : (b : ℕ) → nat_le 48 b && nat_le b 57 ≡ true → (digit_value b ≡ b - 48) × (digit_value b < 10)
-digit_means b h =
-    let parts = and_parts (nat_le 48 b) (nat_le b 57) h in
-    let value = value_below b (leb-true 48 b parts.0) (leb-true b 57 parts.1) in
-    (omega (arith, value), omega (arith, value, leb-true b 57 parts.1))
-
 -- a byte is what its kind says
-pub means : (b : ℕ) → Means (kind_of b) b
+pub means : (b : ℕ) → Means (net_kind_of b) b
 means b =
-    either (nat_le 48 b && nat_le b 57) (Digit (b - 48)) _ b (λ h. digit_means b h) (
+    either (nat_le 48 b && nat_le b 57) (Digit (b - 48)) _ b (λ h. digit_value-of_test b h) (
     either ((b == 32) || ((b == 9) || (b == 13))) Blank _ b (λ h. blank_means b h) (
     either (b == 45) Dash _ b (λ h. eqb-true b 45 h) (
     either (b == 59) Semicolon Other b (λ h. eqb-true b 59 h) tt)))
 
 -- a blank byte has the kind of blanks
-pub kind_blank : (b : ℕ) → IsBlank b → kind_of b ≡ Blank
-kind_blank b (inl e) = ap kind_of e
-kind_blank b (inr (inl e)) = ap kind_of e
-kind_blank b (inr (inr e)) = ap kind_of e
+pub kind_blank : (b : ℕ) → IsBlank b → net_kind_of b ≡ Blank
+kind_blank b (inl e) = ap net_kind_of e
+kind_blank b (inr (inl e)) = ap net_kind_of e
+kind_blank b (inr (inr e)) = ap net_kind_of e
 
 -- and a digit has the kind of digits, with its value
-pub kind_digit : (b : ℕ) → digit_value b < 10 → kind_of b ≡ Digit (digit_value b)
+pub kind_digit : (b : ℕ) → digit_value b < 10 → net_kind_of b ≡ Digit (digit_value b)
 kind_digit b small =
     let range = digit_from_value b small in
     let value = digit_value_digit b range in

@@ -11,7 +11,8 @@ use Rattle.std.proofs.lemmas.List.Sums.{sum_by-append}
 use Rattle.std.proofs.lemmas.List.{length-map, map-append}
 use Rattle.bk_laws.proofs.Totals.{total}
 use Rattle.bk_laws.proofs.AllOfLists.{all_append}
-use Rattle.bk_laws.proofs.Tests.{far, near, shift}
+use Rattle.bk_laws.proofs.Magnitudes.{signed_terms-none, signed_terms-wire_at_source}
+use Rattle.bk_laws.proofs.Tests.{no_successor_counts_for_zero, successors_count_alike, zero_counts_for_no_successor}
 use Rattle.bk_tiling.proofs.Cells.{count-cons}
 use Rattle.bk_tiling.proofs.Rows.{laid_sides}
 use Rattle.bk_tiling.specs.Tiling.{IsOneOf}
@@ -39,22 +40,11 @@ outflow-append [] vs (c ∷ cs) ds v e = absurd (omega arith)
 outflow-append (w ∷ ws) vs [] ds v e = absurd (omega arith)
 outflow-append (w ∷ ws) vs (c ∷ cs) ds v e = omega (arith, ints, outflow-append ws vs cs ds v (omega arith))
 
-one_wire : (a b : Bool) (s m n : ℕ) (r : ℤ) → r ≡ pos (cond a m 0) -ℤ pos n
-    → (cond a (pos s) (pos 0) -ℤ cond b (pos s) (pos 0)) +ℤ r ≡ pos (cond a (s + m) 0) -ℤ pos (cond b s 0 + n)
-one_wire true true s m n r e = omega (arith, ints)
-one_wire true false s m n r e = omega (arith, ints)
-one_wire false true s m n r e = omega (arith, ints)
-one_wire false false s m n r e = omega (arith, ints)
-
-no_wire : (a : Bool) → pos 0 ≡ pos (cond {A = ℕ} a 0 0) -ℤ pos 0
-no_wire true = omega (arith, ints)
-no_wire false = omega (arith, ints)
-
 group_outflow : (below : Square → ℕ) (n v : ℕ) (g : List Square) → outflow (map (λ q. (n, below q)) g) (map (λ q. pos q.s) g) v
     ≡ pos (cond (nat_eq n v) (total (laid_sides g)) 0) -ℤ pos (in_total below v g)
-group_outflow below n v [] = no_wire (nat_eq n v)
+group_outflow below n v [] = signed_terms-none (nat_eq n v)
 group_outflow below n v (q ∷ g) =
-    one_wire (nat_eq n v) (nat_eq (below q) v) q.s (total (laid_sides g)) (in_total below v g)
+    signed_terms-wire_at_source (nat_eq n v) (nat_eq (below q) v) q.s (total (laid_sides g)) (in_total below v g)
     (outflow (map (λ q. (n, below q)) g) (map (λ q. pos q.s) g) v) (group_outflow below n v g)
 
 in_total-append : (below : Square → ℕ) (v : ℕ) (front back : List Square) → in_total below v (front ++ back) ≡ in_total below v front + in_total below v back
@@ -196,7 +186,7 @@ has_group f (g ∷ groups) once = cases (any_count f g) (has_group f groups)
       where
         counts : (v : ℕ) → v < length (g ∷ groups) → count_by f (slice_index_or (g ∷ groups) v []) ≡ cond (nat_eq 0 v) 1 0
         counts zero l = omega (arith, h.1, count_row f g groups)
-        counts (suc v) l = omega (arith, h.1, count_row f g groups, count_at f groups v, far v)
+        counts (suc v) l = omega (arith, h.1, count_row f g groups, count_at f groups v, zero_counts_for_no_successor v)
     cases (inr h) rest = subst (HasGroup f (g ∷ groups)) (place_of false h.0) (record { most = omega (arith, r.most); found = found r.found; counts = counts })
       where
         r : HasGroup f groups (position_or_len (list_any f) groups)
@@ -213,5 +203,5 @@ has_group f (g ∷ groups) once = cases (any_count f g) (has_group f groups)
 
         counts : (v : ℕ) → v < length (g ∷ groups)
             → count_by f (slice_index_or (g ∷ groups) v []) ≡ cond (nat_eq (1 + position_or_len (list_any f) groups) v) 1 0
-        counts zero l = omega (arith, h.1, near (position_or_len (list_any f) groups))
-        counts (suc v) l = omega (arith, r.counts v (omega arith), shift (position_or_len (list_any f) groups) v)
+        counts zero l = omega (arith, h.1, no_successor_counts_for_zero (position_or_len (list_any f) groups))
+        counts (suc v) l = omega (arith, r.counts v (omega arith), successors_count_alike (position_or_len (list_any f) groups) v)

@@ -23,12 +23,14 @@ module _ (t : Tiling) (tiling : IsTiling t) where
       heads : {a b : Square} {xs ys : List Square} → (known t tiling).group ≡ a ∷ xs → (known t tiling).group ≡ b ∷ ys → a ≡ b
       heads f g = cc
 
+  -- the first group begins at the top left corner of the rectangle
   pub top_corner : ((group_of t tiling 0 (known t tiling).group top_group).0.row.first.x ≡ 0)
       × ((group_of t tiling 0 (known t tiling).group top_group).0.row.first.y ≡ 0)
   top_corner = let same : (group_of t tiling 0 (known t tiling).group top_group).0.row.first ≡ (known t tiling).first =
       first_same (group_of t tiling 0 (known t tiling).group top_group).0.row (known t tiling).own.row ∙ (known t tiling).at_first in
       (ap (λ (s : Square). s.x) same ∙ (known t tiling).x, ap (λ (s : Square). s.y) same ∙ (known t tiling).y)
 
+  -- the first group ends at the right side of the rectangle
   pub top_end : (group_of t tiling 0 (known t tiling).group top_group).0.row.end ≡ t.width
   top_end = cases (cases_lt row0.end t.width)
     where

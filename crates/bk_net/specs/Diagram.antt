@@ -1,6 +1,7 @@
 -- The Smith diagram of a tiling (Brooks, Smith, Stone and Tutte): a node for each group of the code and one for the
 -- bottom, and a wire for each square, from the segment that it hangs from to the one that it stands on.
--- Example (DiagramExamples): the rectangle 33x32 has six nodes at the levels 0, 15, 18, 22, 23, 32; the 2 by 2 squares of side 1 three.
+-- Example (DiagramExamples): the rectangle 33x32 has six nodes at the levels 0, 15, 18, 22, 23, 32; the 2 by 2 squares
+-- of side 1 three.
 use Rattle.std.specs.List.{enumerate_from, list_any, position_or_len}
 use Rattle.std.specs.Prelude.{List, [], flat_map, length, map, nat_eq, ℕ, ◌&&◌, ◌++◌, ◌+◌, ◌∷◌}
 use Rattle.bk_tiling.specs.Column.{covers_column}

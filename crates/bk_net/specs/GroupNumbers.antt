@@ -1,4 +1,5 @@
 -- The number of each square's group, and the order of squares and cells.
+-- Example (DiagramExamples): of [2,1][1] the squares have the group numbers 0, 0, 1.
 use Rattle.std.specs.List.{enumerate_from, flat_map}
 use Rattle.std.specs.Prelude.{Bool, List, map, nat_eq, nat_le, nat_lt, ℕ, ◌&&◌, ◌||◌}
 use Rattle.bk_tiling.specs.SquareGroups.{square_groups}

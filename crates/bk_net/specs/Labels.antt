@@ -1,4 +1,5 @@
 -- Nodes labelled so that those that are joined by wires have one label.
+-- Example (NetLineExamples): where 0 takes the place of the label 2, 2 becomes 0, and 1 stays.
 use Rattle.std.specs.Prelude.{All, List, if◌then◌else◌, length, slice_index, slice_index_or, ℕ, ◌<◌, ◌==◌, ◌≡◌}
 use Rattle.bk_net.specs.Net.{IsJoined}
 

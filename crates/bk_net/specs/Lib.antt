@@ -1,14 +1,14 @@
 -- What the crate says.
-pub mod Net
-pub mod Flow
 pub mod Diagram
-pub mod SmithFlow
+pub mod Flow
 pub mod KeptNet
+pub mod Net
 pub mod NetLine
-pub mod ReadNet
 pub mod NetLineLaws
+pub mod ReadNet
+pub mod SmithFlow
 -- How its code keeps it.
+pub mod GatheredWires
 pub mod GroupNumbers
 pub mod Labels
-pub mod Reader
-pub mod Gathered
+pub mod NetReading

@@ -7,11 +7,12 @@ use Rattle.bk_net.specs.declared.NetFault.{NetFault}
 use Rattle.bk_net.specs.declared.NetFault.TheVariants.{Many, Nodes, Text, Wire}
 use Rattle.bk_net.specs.declared.NetLine.{NetLine as NetLineRead}
 use Rattle.bk_net.specs.declared.NetLine.TheVariants as read
+use Rattle.bk_net.specs.declared.TheConstants.{MOST_NODES, MOST_WIRES}
 
 -- what a line that was read stands for
-abbrev pub stands_for : NetLineRead → NetLine
-stands_for read.Skip = Skip
-stands_for (read.Item net) = Item net.nodes net.wires
+abbrev pub net_line_of : NetLineRead → NetLine
+net_line_of read.Skip = Skip
+net_line_of (read.Item net) = Item net.nodes net.wires
 
 -- a net that was read has 2 to 201 nodes and at most 200 wires, each between two different ones of them
 abbrev pub IsKeptLine : NetLineRead → Type 0
@@ -32,15 +33,16 @@ pub record IsFirstFault (nodes : ℕ) (wires : List (ℕ × ℕ)) (place : ℕ) 
 
 -- 2 to 201
 abbrev pub IsNodeCount : ℕ → Type 0
-IsNodeCount nodes = (2 ≤ nodes) × (nodes ≤ 201)
+IsNodeCount nodes = (2 ≤ nodes) × (nodes ≤ MOST_NODES)
 
--- why bytes are refused: they leave the grammar of network lines behind `at` bytes; or they are such a line, of more than
--- 200 wires; or of so many nodes, which are fewer than 2 or more than 201; or with a first wire at fault
-abbrev pub IsFaultOf : NetFault → List ℕ → Type 0
-IsFaultOf (Text at) bytes = IsNoNetLine bytes at
-IsFaultOf Many bytes = (nodes : ℕ) × (wires : List (ℕ × ℕ)) × IsNetLine (Item nodes wires) bytes × (200 < length wires)
-IsFaultOf (Nodes count) bytes =
-    (wires : List (ℕ × ℕ)) × IsNetLine (Item count wires) bytes × (length wires ≤ 200) × ¬ (IsNodeCount count)
-IsFaultOf (Wire place) bytes =
-    (nodes : ℕ) × (wires : List (ℕ × ℕ)) × IsNetLine (Item nodes wires) bytes × (length wires ≤ 200)
+-- why bytes are refused: they leave the grammar of network lines behind `at` bytes; or they are such a line, of more
+-- than 200 wires; or of so many nodes, which are fewer than 2 or more than 201; or with a first wire at fault
+abbrev pub IsNetFaultOf : NetFault → List ℕ → Type 0
+IsNetFaultOf (Text at) bytes = IsNoNetLine bytes at
+IsNetFaultOf Many bytes =
+    (nodes : ℕ) × (wires : List (ℕ × ℕ)) × IsNetLine (Item nodes wires) bytes × (MOST_WIRES < length wires)
+IsNetFaultOf (Nodes count) bytes =
+    (wires : List (ℕ × ℕ)) × IsNetLine (Item count wires) bytes × (length wires ≤ MOST_WIRES) × ¬ (IsNodeCount count)
+IsNetFaultOf (Wire place) bytes =
+    (nodes : ℕ) × (wires : List (ℕ × ℕ)) × IsNetLine (Item nodes wires) bytes × (length wires ≤ MOST_WIRES)
     × IsNodeCount nodes × IsFirstFault nodes wires place

@@ -7,9 +7,10 @@ ghost use Rattle.bk_net.specs.Labels.{AreLabels, EndsBelow, IsRelabelled, relabe
 use crate::MOST_NODES;
 use arrayvec::ArrayVec;
 
-// For each node the number of a node that it is joined to: the same number for all nodes that are joined to one another.
+// For each node the number of a node that it is joined to: the same number for all nodes that are joined to one
+// another.
 pub(crate) fn labels_of(nodes: u16, wires: &[(u16, u16)]) -> ArrayVec<u16, MOST_NODES>
-    requires few { nodes ≤ 201 }
+    requires few { nodes ≤ MOST_NODES }
     requires ends { EndsBelow nodes wires.now }
     ensures { AreLabels nodes wires.now result.items (length wires.now) }
 {
@@ -24,7 +25,7 @@ pub(crate) fn labels_of(nodes: u16, wires: &[(u16, u16)]) -> ArrayVec<u16, MOST_
 
 // For each node its own number.
 fn own_labels(nodes: u16) -> ArrayVec<u16, MOST_NODES>
-    requires { nodes ≤ 201 }
+    requires { nodes ≤ MOST_NODES }
     ensures many { length result.items ≡ nodes }
     ensures own { (v : ℕ) → v < nodes → slice_index result.items v ≡ v }
 {

@@ -49,7 +49,7 @@ impl Net {
     /// A net of so many nodes, with no wires.
     pub fn new(nodes: u16) -> Net
         requires some { 2 ≤ nodes }
-        requires few { nodes ≤ 201 }
+        requires few { nodes ≤ MOST_NODES }
         ensures { result ≡ record { nodes = nodes; wires = [] } }
     {
         Net {
@@ -60,7 +60,7 @@ impl Net {
 
     /// Appends a wire from one node to another. Its current counts as positive in this direction.
     pub fn add(&mut self, from: u16, to: u16)
-        requires room { length self.old.wires < 200 }
+        requires room { length self.old.wires < MOST_WIRES }
         requires from_node { from < self.old.nodes }
         requires to_node { to < self.old.nodes }
         requires differ { from ≢ to }
@@ -130,7 +130,8 @@ pub enum NetFault {
 /// Where every node of a net is joined to the last, a flow of a total of at least 1 is the one flow of
 /// its total (Kirchhoff).
 pub fn a_joined_net_has_one_flow()
-    ensures { (net : SeenNet) (f : Flow) → IsNet net → HasNoLoose net → IsFlow net f → pos 1 ≤ℤ f.total → IsOneFlow net f }
+    ensures { (net : SeenNet) (f : Flow) → IsNet net → HasNoLoose net → IsFlow net f → pos 1 ≤ℤ f.total
+        → IsOneFlow net f }
 {}
 
 /// The Smith diagram of a tiling is a net without a loose node, and the sides are its one flow.

@@ -2,23 +2,23 @@
 #![tactic(auto)]
 
 ghost use Rattle.std.specs.Prelude.{All, IfErr, IfNone, IfOk, IfSome, List, false, length, ◌≡◌, ◌≤◌, ℕ};
-ghost use Rattle.bk_net.specs.Gathered.{IsNoNet, Keeps, and_wire};
+ghost use Rattle.bk_net.specs.GatheredWires.{IsNoNet, KeepsWires, and_wire};
 ghost use Rattle.bk_net.specs.NetLine.{IsNetLine, Item};
-ghost use Rattle.bk_net.specs.ReadNet.{IsFaultOf, IsFirstFault, IsKeptLine, IsNodeCount, JoinsNodes, stands_for};
+ghost use Rattle.bk_net.specs.ReadNet.{IsFirstFault, IsKeptLine, IsNetFaultOf, IsNodeCount, JoinsNodes, net_line_of};
 
 use crate::reader::{Ending, Place, kind_of};
 use crate::{MOST_NODES, MOST_WIRES, Net, NetFault, NetLine};
 use arrayvec::ArrayVec;
 
-/// Reads a network line, given without its line feed: a number of nodes, and wires from a node to a node. What each line
-/// stands for is told by the grammar of network lines. It is refused, in this order: `Text` exactly where the bytes are
-/// no such line, with the length of their longest start that begins one; `Many` exactly where there are more than 200
-/// wires; `Nodes` exactly where the number of nodes isn't 2 to 201; `Wire` exactly where a wire names a node that isn't
-/// there or one node twice, with the first such place, from 1. The form of the line is our own.
+/// Reads a network line, given without its line feed: a number of nodes, and wires from a node to a node. What each
+/// line stands for is told by the grammar of network lines. It is refused, in this order: `Text` exactly where the
+/// bytes are no such line, with the length of their longest start that begins one; `Many` exactly where there are more
+/// than 200 wires; `Nodes` exactly where the number of nodes isn't 2 to 201; `Wire` exactly where a wire names a node
+/// that isn't there or one node twice, with the first such place, from 1. The form of the line is our own.
 pub fn read_net(line: &[u8]) -> Result<NetLine, NetFault>
-    ensures read { IfOk result (λ l. IsNetLine (stands_for l) line.now) }
+    ensures read { IfOk result (λ l. IsNetLine (net_line_of l) line.now) }
     ensures kept { IfOk result IsKeptLine }
-    ensures fault { IfErr result (λ fault. IsFaultOf fault line.now) }
+    ensures fault { IfErr result (λ fault. IsNetFaultOf fault line.now) }
 {
     let mut place = Place::Start;
     let mut wires = ArrayVec::new();
@@ -41,13 +41,14 @@ pub fn read_net(line: &[u8]) -> Result<NetLine, NetFault>
     }
 }
 
-// Keeps a wire, if there is one, where there is room. Whether there were more than are kept.
+// KeepsWires a wire, if there is one, where there is room. Whether there were more than are kept.
 fn with_wire(
     wires: &mut ArrayVec<(u16, u16), MOST_WIRES>,
     many: bool,
     wire: Option<(u16, u16)>,
 ) -> bool
-    ensures { (all : List (ℕ × ℕ)) → Keeps all wires.old.items many → Keeps (and_wire wire all) wires.new.items result }
+    ensures { (all : List (ℕ × ℕ)) → KeepsWires all wires.old.items many
+        → KeepsWires (and_wire wire all) wires.new.items result }
 {
     match wire {
         Some(wire) => many || wires.try_push(wire).is_err(),
@@ -57,9 +58,9 @@ fn with_wire(
 
 // The net of so many nodes with the kept wires, unless there were more.
 fn net_item(nodes: u16, many: bool, wires: &[(u16, u16)]) -> Result<NetLine, NetFault>
-    requires few { length wires.now ≤ 200 }
+    requires few { length wires.now ≤ MOST_WIRES }
     ensures all { IfOk result (λ l. many ≡ false) }
-    ensures item { IfOk result (λ l. stands_for l ≡ Item nodes wires.now) }
+    ensures item { IfOk result (λ l. net_line_of l ≡ Item nodes wires.now) }
     ensures kept { IfOk result IsKeptLine }
     ensures fault { IfErr result (IsNoNet nodes many wires.now) }
 {
@@ -95,7 +96,7 @@ fn first_fault(nodes: u16, wires: &[(u16, u16)]) -> Option<usize>
 // The net of so many nodes with these wires.
 fn net_with(nodes: u16, wires: &[(u16, u16)]) -> Net
     requires count { IsNodeCount nodes }
-    requires few { length wires.now ≤ 200 }
+    requires few { length wires.now ≤ MOST_WIRES }
     requires ends { All (JoinsNodes nodes) wires.now }
     ensures { result ≡ record { nodes = nodes; wires = wires.now } }
 {

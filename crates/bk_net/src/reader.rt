@@ -2,7 +2,8 @@
 #![tactic(auto)]
 
 ghost use Rattle.std.specs.Prelude.{◌≡◌};
-ghost use Rattle.bk_net.specs.Reader.{ended_wire as ended_before, ending_at, kind_of as kind_of_byte, last_wire as last, longer as longer_number, next_place};
+ghost use Rattle.bk_net.specs.NetReading.{ended_wire as ended_before, net_ending_at, net_kind_of as kind_of_byte};
+ghost use Rattle.bk_net.specs.NetReading.{last_wire as last, next_net_place, with_digit as longer_number};
 
 /// What a byte is to the grammar of network lines; a digit with its value.
 #[derive(Clone, Copy)]
@@ -60,7 +61,7 @@ fn longer(value: u16, digit: u8) -> Option<u16>
 impl Place {
     // The place behind a further byte, or `None` where no line goes on with it.
     pub(crate) fn next(self, kind: Kind) -> Option<Place>
-        ensures { result ≡ next_place self kind }
+        ensures { result ≡ next_net_place self kind }
     {
         match self {
             Place::Start => at_start(kind),
@@ -98,7 +99,7 @@ impl Place {
 
     // What a line is that ends here, or `None` where none does.
     pub(crate) fn ending(self) -> Option<Ending>
-        ensures { result ≡ ending_at self }
+        ensures { result ≡ net_ending_at self }
     {
         match self {
             Place::Start => Some(Ending::Empty),
@@ -112,7 +113,7 @@ impl Place {
 }
 
 fn at_start(kind: Kind) -> Option<Place>
-    ensures { result ≡ next_place Place.Start kind }
+    ensures { result ≡ next_net_place Place.Start kind }
 {
     match kind {
         Kind::Blank => Some(Place::Start),
@@ -123,7 +124,7 @@ fn at_start(kind: Kind) -> Option<Place>
 }
 
 fn in_count(nodes: u16, kind: Kind) -> Option<Place>
-    ensures { result ≡ next_place (Place.Count nodes) kind }
+    ensures { result ≡ next_net_place (Place.Count nodes) kind }
 {
     match kind {
         Kind::Blank => Some(Place::Between(nodes)),
@@ -134,7 +135,7 @@ fn in_count(nodes: u16, kind: Kind) -> Option<Place>
 }
 
 fn between(nodes: u16, kind: Kind) -> Option<Place>
-    ensures { result ≡ next_place (Place.Between nodes) kind }
+    ensures { result ≡ next_net_place (Place.Between nodes) kind }
 {
     match kind {
         Kind::Blank => Some(Place::Between(nodes)),
@@ -145,7 +146,7 @@ fn between(nodes: u16, kind: Kind) -> Option<Place>
 }
 
 fn in_first(nodes: u16, from: u16, kind: Kind) -> Option<Place>
-    ensures { result ≡ next_place (Place.First nodes from) kind }
+    ensures { result ≡ next_net_place (Place.First nodes from) kind }
 {
     match kind {
         Kind::Digit(digit) => longer(from, digit).map(|from| Place::First(nodes, from)),
@@ -155,7 +156,7 @@ fn in_first(nodes: u16, from: u16, kind: Kind) -> Option<Place>
 }
 
 fn in_second(nodes: u16, from: u16, to: u16, kind: Kind) -> Option<Place>
-    ensures { result ≡ next_place (Place.Second nodes from to) kind }
+    ensures { result ≡ next_net_place (Place.Second nodes from to) kind }
 {
     match kind {
         Kind::Blank => Some(Place::Between(nodes)),

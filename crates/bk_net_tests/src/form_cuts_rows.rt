@@ -1,4 +1,5 @@
-//! Words of three moves whose last one is ruled out by the sides of the first squares, and words whose isn't, as a table.
+//! Words of three moves whose last one is ruled out by the sides of the first squares, and words whose isn't, as a
+//! table.
 
 ghost use Rattle.std.specs.Prelude.{◌≡◌};
 ghost use Rattle.bk_word.specs.Outline.{IsLegalMove};
@@ -69,8 +70,8 @@ fn rows() -> &'static [(&'static str, Class, bool)] {
     ]
 }
 
-// In 2u.2ea.1e the third side would be 0, so that the first two are equal. Of the other rows one begins a member's word, and the
-// others differ in a sign, in the class, or by a square more than is followed.
+// In 2u.2ea.1e the third side would be 0, so that the first two are equal. Of the other rows one begins a member's
+// word, and the others differ in a sign, in the class, or by a square more than is followed.
 #[test]
 fn moves_are_ruled_out(rt: HostRuntime) {
     for (text, class, want) in rows() {
@@ -116,8 +117,8 @@ fn has_even(skel: &Skel, m: &Move) -> bool {
     false
 }
 
-// Whether a move hangs one square under one square, or has the sign even between two of its own: then the search passes over it
-// before it asks about the sides, since two are equal.
+// Whether a move hangs one square under one square, or has the sign even between two of its own: then the search passes
+// over it before it asks about the sides, since two are equal.
 fn is_passed_over(skel: &Skel, m: &Move) -> bool {
     (m.count == 1 && skel.valley_len() == 1) || has_even(skel, m)
 }

@@ -60,8 +60,8 @@ fn rows_of_equations() -> &'static [(First, First, Kept, usize)] {
     ]
 }
 
-// Equations one after another in one ledger, with what is answered and how many are kept then. Two equal sides that make up a
-// third one are each less than it; the doubled form 0, 2, -2 is kept in lowest terms.
+// Equations one after another in one ledger, with what is answered and how many are kept then. Two equal sides that
+// make up a third one are each less than it; the doubled form 0, 2, -2 is kept in lowest terms.
 #[test]
 fn equations(rt: HostRuntime) {
     let mut ledger = Ledger::new();

@@ -1,23 +1,18 @@
 -- Two kept tilings: whether they can be laid together, and whether they join.
 use Rattle.std.specs.Prelude.{Bool, count_by, false, max, nat_le, not, true}
-use Rattle.std.proofs.Common.{List, ap, arith, inl, inr, length, refl, sym, ℕ, ◌&&◌, ◌+◌, ◌<◌, ◌==◌, ◌∙◌, ◌≡◌, ◌≢◌, ◌≤◌, ◌⊎◌, ◌↔◌}
+use Rattle.std.proofs.Common.{List, ap, arith, inl, inr, length, sym, ℕ, ◌&&◌, ◌+◌, ◌<◌, ◌==◌, ◌∙◌, ◌≡◌, ◌≢◌, ◌≤◌, ◌⊎◌, ◌↔◌}
 use Rattle.std.proofs.lemmas.Bool.{and_parts, cases_Bool, true≢false}
 use Rattle.std.proofs.lemmas.Bool.Decides.{nat_tests}
+use Rattle.bk_laws.proofs.Truth.{false-of_refuted, same_test-of_implications}
 use Rattle.bk_tiling.proofs.OrderLaws.{in_code_order-count, in_code_order-length}
 use Rattle.bk_tiling.specs.Tiling.{Tiling, order}
 use Rattle.bk_tiling.specs.declared.Square.{Square}
 use Rattle.bk_pair.proofs.OwnSides.{first_apart, joined_apart, none_common, second_apart}
-use Rattle.bk_pair.proofs.PairTests.{laid_from, laid_to, test_of}
-use Rattle.bk_pair.specs.Kept.{tiling_of}
+use Rattle.bk_pair.proofs.PairTests.{laid_from, laid_to}
+use Rattle.bk_pair.specs.SquaresBySide.{tiling_of}
 use Rattle.bk_pair.specs.OwnSides.{HaveCommonSide, stands_apart}
 use Rattle.bk_pair.specs.Pair.{AreOneSize, CanBeLaid, pair_sides}
 use Rattle.bk_pair.specs.PairTest.{are_pair, can_be_laid, no_twice}
-
--- two tests that pass together are one
-same_test : (p q : Bool) → (p ≡ true → q ≡ true) → (q ≡ true → p ≡ true) → p ≡ q
-same_test true q to from = sym (to refl)
-same_test false true to from = from refl
-same_test false false to from = refl
 
 -- the numbers that are stored are those of the tilings
 pub record AreStored (a : Tiling) (width height : ℕ) (squares : List Square) : Type 0 where
@@ -26,6 +21,7 @@ pub record AreStored (a : Tiling) (width height : ℕ) (squares : List Square) :
   pub many : length squares ≡ order a
   pub counts : (side : ℕ) → count_by (λ q. q.s == side) squares ≡ count_by (λ q. q.s == side) a.squares
 
+-- a width, a height and squares that make a tiling are stored as those of that tiling
 pub stored : (a : Tiling) (width height : ℕ) (squares : List Square) → tiling_of width height squares ≡ a → AreStored a width height squares
 stored a width height squares is = record {
   width_is = ap (λ (t : Tiling). t.width) is;
@@ -36,23 +32,14 @@ stored a width height squares is = record {
 
 module _ (a b : Tiling) (width height : ℕ) (squares : List Square) (width' height' : ℕ) (squares' : List Square)
     (one : AreStored a width height squares) (other : AreStored b width' height' squares') where
-  -- tilings of two sizes, or of a square's, are not laid together
-  pub sizes_differ : (width ≢ width') ⊎ ((height ≢ height') ⊎ (width ≡ height)) → false ≡ can_be_laid a b
-  sizes_differ why = sym (test_of (can_be_laid a b) (CanBeLaid a b) (laid_to a b) (never why))
-    where
-      never : (width ≢ width') ⊎ ((height ≢ height') ⊎ (width ≡ height)) → CanBeLaid a b → ⊥
-      never (inl wide) can = wide (one.width_is ∙ can.size.width ∙ sym other.width_is)
-      never (inr (inl high)) can = high (one.height_is ∙ can.size.height ∙ sym other.height_is)
-      never (inr (inr same)) can = can.oblong (sym one.width_is ∙ same ∙ one.height_is)
-
   -- nor are too many squares
   pub too_many : 200 < length squares + length squares' + 2 → false ≡ can_be_laid a b
-  too_many many = sym (test_of (can_be_laid a b) (CanBeLaid a b) (laid_to a b) (λ can. omega (arith, many, can.few, one.many, other.many)))
+  too_many many = sym (false-of_refuted (can_be_laid a b) (CanBeLaid a b) (laid_to a b) (λ can. omega (arith, many, can.few, one.many, other.many)))
 
-  -- and else the longer of width and height decides
+  -- if the squares are few enough, the longer of width and height decides whether two tilings can be laid together
   pub length_decides : width ≡ width' → height ≡ height' → width ≢ height → length squares + length squares' + 2 ≤ 200 → (m : ℕ) → m ≡ max width height
       → nat_le m 999_999_999_999_999 ≡ can_be_laid a b
-  length_decides wide high oblong few m is = same_test (nat_le m 999_999_999_999_999) (can_be_laid a b)
+  length_decides wide high oblong few m is = same_test-of_implications (nat_le m 999_999_999_999_999) (can_be_laid a b)
       (λ e. laid_from a b (record {
         size = record { width = sym one.width_is ∙ wide ∙ other.width_is; height = sym one.height_is ∙ high ∙ other.height_is };
         oblong = λ same. oblong (one.width_is ∙ same ∙ sym one.height_is);
@@ -77,7 +64,7 @@ module _ (a b : Tiling) (width height : ℕ) (squares : List Square) (width' hei
   -- where each stands apart and they can be laid together, they join unless they have a side in common
   pub join_decided : stands_apart a ≡ true → stands_apart b ≡ true → can_be_laid a b ≡ true → (r : Bool) → (r ≡ true) ↔ HaveCommonSide squares squares'
       → not r ≡ are_pair a b
-  join_decided first second can r common = same_test (not r) (are_pair a b) to from
+  join_decided first second can r common = same_test-of_implications (not r) (are_pair a b) to from
     where
       size : AreOneSize a b
       size = (laid_to a b can).size
@@ -94,7 +81,7 @@ module _ (a b : Tiling) (width height : ℕ) (squares : List Square) (width' hei
 
   -- with a side in common they don't join
   pub common_refused : HaveCommonSide squares squares' → false ≡ are_pair a b
-  common_refused common = sym (test_of (are_pair a b) (are_pair a b ≡ true) (λ e. e) never)
+  common_refused common = sym (false-of_refuted (are_pair a b) (are_pair a b ≡ true) (λ e. e) never)
     where
       never : are_pair a b ≡ true → ⊥
       never e =
@@ -103,7 +90,7 @@ module _ (a b : Tiling) (width height : ℕ) (squares : List Square) (width' hei
 
 -- where one of two doesn't stand apart, or they can't be laid together, they don't join
 pub not_joined : (a b : Tiling) → (stands_apart a ≡ false) ⊎ ((stands_apart b ≡ false) ⊎ (can_be_laid a b ≡ false)) → false ≡ are_pair a b
-not_joined a b why = sym (test_of (are_pair a b) (are_pair a b ≡ true) (λ e. e) (never why))
+not_joined a b why = sym (false-of_refuted (are_pair a b) (are_pair a b ≡ true) (λ e. e) (never why))
   where
     never : (stands_apart a ≡ false) ⊎ ((stands_apart b ≡ false) ⊎ (can_be_laid a b ≡ false)) → are_pair a b ≡ true → ⊥
     never why e =

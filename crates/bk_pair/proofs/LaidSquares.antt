@@ -13,7 +13,7 @@ use Rattle.bk_tiling.proofs.OneRefusal.{kept_from, tiles_apart, tiles_cells}
 use Rattle.bk_tiling.proofs.OrderLaws.{in_code_order-length}
 use Rattle.bk_tiling.proofs.Sizes.{most_height, most_width}
 use Rattle.bk_tiling.specs.CodeOrder.{in_code_order}
-use Rattle.bk_tiling.specs.Kept.{IsKept, IsSide}
+use Rattle.bk_tiling.specs.KeptTiling.{IsKept, IsSide}
 use Rattle.bk_tiling.specs.Refusal.{HaveSides, ShareNoCell, sized}
 use Rattle.bk_tiling.specs.Scale.{moved_square}
 use Rattle.bk_tiling.specs.Tiling.{IsWithin, Rectangle, Tiles, Tiling, order, whole}

@@ -1,6 +1,7 @@
 pub mod PairExamples
 pub mod LaidSquares
 pub mod SharedSides
+pub mod PairSquares
 pub mod PairTests
 pub mod OwnSides
 pub mod KeptSquares

@@ -1,9 +1,10 @@
 -- Two tilings of one size join to a perfect square exactly where each stands apart and they have no side in common; and by the conditions of a pair.
 use Rattle.std.specs.Prelude.{count_by, get_or, true}
 use Rattle.std.proofs.Common.{List, [], ap, arith, cond, inl, inr, refl, subst, sym, ℕ, ◌++◌, ◌+◌, ◌<◌, ◌==◌, ◌∙◌, ◌∷◌, ◌≡◌, ◌≤◌, ◌⊎◌}
-use Rattle.std.proofs.lemmas.Bool.{cases_Bool, eq-eqb, eqb-true}
+use Rattle.std.proofs.lemmas.Bool.{cases_Bool, cases_lt, eq-eqb, eqb-true}
 use Rattle.std.proofs.lemmas.List.Sums.{sum_by-append, sum_by-cons}
 use Rattle.bk_laws.proofs.Counts.{count_two}
+use Rattle.bk_laws.proofs.NumberOrder.{one_of_four-at_most_one}
 use Rattle.bk_tiling.specs.Tiling.{Tiling, sides_of}
 use Rattle.bk_tiling.specs.declared.Square.{Square}
 use Rattle.bk_simple.proofs.Repeats.{imperfect}
@@ -28,6 +29,7 @@ here_cases side n = elim (cases_Bool (n == side)) [
 here_same : (n : ℕ) → is_here n n ≡ 1
 here_same n = ap (λ b. cond {A = ℕ} b 1 0) (eq-eqb n n refl)
 
+-- how many squares have a side of that length
 abbrev pub side_count : ℕ → List Square → ℕ
 side_count side squares = count_by (λ q. q.s == side) squares
 
@@ -42,7 +44,7 @@ count_own t side = omega (
   count_sides side t.squares,
 )
 
--- and all sides of what two make
+-- all sides of what two tilings make, counted
 pub count_pair : (a b : Tiling) (side : ℕ) → count_by (λ s. s == side) (pair_sides a b)
     ≡ (side_count side a.squares + side_count side b.squares) + (is_here side a.width + is_here side a.height)
 count_pair a b side = omega (
@@ -55,9 +57,6 @@ count_pair a b side = omega (
   count_sides side b.squares,
 )
 
-two : (a b : ℕ) → (a < b) ⊎ (b ≤ a)
-two a b = grind arith
-
 module _ (a b : Tiling) (size : AreOneSize a b) where
   here_width : (side : ℕ) → is_here side a.width ≡ is_here side b.width
   here_width side = ap (is_here side) size.width
@@ -69,6 +68,7 @@ module _ (a b : Tiling) (size : AreOneSize a b) where
   pub first_apart : no_twice (pair_sides a b) ≡ true → stands_apart a ≡ true
   first_apart e = apart_from_counts (own_sides a) (λ side h. omega (arith, h, count_own a side, count_pair a b side, once_each (pair_sides a b) e side))
 
+  -- where no side of a pair occurs twice, none of the second tiling's own does
   pub second_apart : no_twice (pair_sides a b) ≡ true → stands_apart b ≡ true
   second_apart e = apart_from_counts (own_sides b) (λ side h. omega (
     arith,
@@ -80,16 +80,17 @@ module _ (a b : Tiling) (size : AreOneSize a b) where
     once_each (pair_sides a b) e side,
   ))
 
+  -- where no side of a pair occurs twice, the two tilings have no side in common
   pub none_common : no_twice (pair_sides a b) ≡ true → HaveCommonSide a.squares b.squares → ⊥
   none_common e common = omega (arith, common.in_first, common.in_second, count_pair a b common.side, once_each (pair_sides a b) e common.side)
 
-  -- and back
+  -- two tilings that stand apart and have no side in common have no side twice
   pub joined_apart : stands_apart a ≡ true → stands_apart b ≡ true → (HaveCommonSide a.squares b.squares → ⊥) → no_twice (pair_sides a b) ≡ true
   joined_apart one other none = apart_from_counts (pair_sides a b) never
     where
       never : (side : ℕ) → ¬ (2 ≤ count_by (λ s. s == side) (pair_sides a b))
-      never side h = elim (two 0 (side_count side a.squares)) [
-        | inl some ↦ elim (two 0 (side_count side b.squares)) [
+      never side h = elim (cases_lt 0 (side_count side a.squares)) [
+        | inl some ↦ elim (cases_lt 0 (side_count side b.squares)) [
           | inl also ↦ none (record { side = side; in_first = omega (arith, some); in_second = omega (arith, also) })
           | inr none_in ↦ omega (arith, h, none_in, count_pair a b side, count_own a side, once_each (own_sides a) one side)
         ]
@@ -116,7 +117,7 @@ perfect_from_counts t once i j d before below e =
     )
 
 counts_from_perfect : (t : Tiling) → IsPerfect t → (side : ℕ) → side_count side t.squares ≤ 1
-counts_from_perfect t perfect side = elim (two 1 (side_count side t.squares)) [
+counts_from_perfect t perfect side = elim (cases_lt 1 (side_count side t.squares)) [
   | inl h ↦ absurd (imperfect t side (omega (arith, h)) perfect)
   | inr h ↦ h
 ]
@@ -140,25 +141,12 @@ met a b pair =
     }
   where
     once_of : (side : ℕ) → count_by (λ s. s == side) (pair_sides a b) ≤ 1
-    once_of side = elim (two 1 (count_by (λ s. s == side) (pair_sides a b))) [
+    once_of side = elim (cases_lt 1 (count_by (λ s. s == side) (pair_sides a b))) [
       | inl h ↦ absurd (pair.differ side (omega (arith, h)))
       | inr h ↦ h
     ]
 
--- a side that occurs in neither more than once, and in one only where it is no width or height, occurs once at most
-alone : (ca cb w h : ℕ) → ca ≤ 1 → cb ≤ 1 → w + h ≤ 1 → (0 < ca → 0 < cb → ⊥) → (0 < ca → 0 < w + h → ⊥) → (0 < cb → 0 < w + h → ⊥) → (ca + cb) + (w + h) ≤ 1
-alone ca cb w h a b s apart first second = elim (two 0 ca) [
-  | inl p ↦ elim (two 0 cb) [
-    | inl q ↦ absurd (apart p q)
-    | inr q ↦ elim (two 0 (w + h)) [ inl r ↦ absurd (first p r) | inr r ↦ omega (arith, a, q, r) ]
-  ]
-  | inr p ↦ elim (two 0 cb) [
-    | inl q ↦ elim (two 0 (w + h)) [ inl r ↦ absurd (second q r) | inr r ↦ omega (arith, b, p, r) ]
-    | inr q ↦ omega (arith, s, p, q)
-  ]
-]
-
--- and what meets the conditions is a pair
+-- two tilings that meet the conditions are a pair
 joined : (a b : Tiling) → MeetConditions a b → ArePair a b
 joined a b m = record {
   laid = record {
@@ -194,10 +182,11 @@ joined a b m = record {
     ]
 
     once : (side : ℕ) → (side_count side a.squares + side_count side b.squares) + (is_here side a.width + is_here side a.height) ≤ 1
-    once side = alone (side_count side a.squares) (side_count side b.squares) (is_here side a.width) (is_here side a.height)
+    once side = one_of_four-at_most_one (side_count side a.squares) (side_count side b.squares) (is_here side a.width) (is_here side a.height)
         (counts_from_perfect a m.first_perfect side) (counts_from_perfect b m.second_perfect side) (sizes side)
         (λ p q. m.no_common (record { side = side; in_first = omega (arith, p); in_second = omega (arith, q) }))
         (inside a.squares m.first_not_width m.first_not_height side) (inside b.squares m.second_not_width m.second_not_height side)
 
+-- two tilings join to a perfect square exactly where they meet the conditions of a pair
 pub pairs_by_conditions : PairsByConditions
 pairs_by_conditions a b = (met a b, joined a b)

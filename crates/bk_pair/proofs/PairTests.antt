@@ -1,33 +1,18 @@
 -- The tests decide whether two tilings are laid together, and whether they join.
 use Rattle.std.specs.List.{list_any}
-use Rattle.std.specs.Prelude.{Bool, Err, IfErr, Ok, Result, cond, count_by, false, nat_eq, nat_le, not, true}
-use Rattle.std.proofs.Common.{List, [], ap, arith, inl, inr, refl, sym, ℕ, ◌&&◌, ◌+◌, ◌==◌, ◌||◌, ◌∙◌, ◌∷◌, ◌≡◌, ◌≤◌}
+use Rattle.std.specs.Prelude.{Bool, cond, count_by, false, nat_eq, nat_le, not, true}
+use Rattle.std.proofs.Common.{List, [], ap, arith, inl, inr, refl, sym, ℕ, ◌&&◌, ◌+◌, ◌==◌, ◌∙◌, ◌∷◌, ◌≡◌, ◌≤◌}
 use Rattle.std.proofs.lemmas.Bool.{and_from, and_parts, cases_Bool, eq-eqb, eqb-true, true≢false}
 use Rattle.std.proofs.lemmas.Bool.Decides.{nat_tests}
 use Rattle.std.proofs.lemmas.List.Sums.{sum_by-cons}
+use Rattle.bk_laws.proofs.Counts.{count_by-list_any, count_by-no_list_any}
 use Rattle.bk_tiling.specs.Tiling.{Tiling, order}
-use Rattle.bk_pair.specs.Pair.{ArePair, CanBeLaid, IsLayingFault, IsPairFault, pair_sides}
+use Rattle.bk_pair.specs.Pair.{ArePair, CanBeLaid, IsLayingFault, pair_sides}
 use Rattle.bk_pair.specs.PairTest.{TheTestsDecide, are_pair, can_be_laid, no_twice}
 use Rattle.bk_pair.specs.declared.PairFault.{PairFault}
 use Rattle.bk_pair.specs.declared.PairFault.TheVariants as faults
 
 -- ---- no number stands twice
-
-any_counted : (p : ℕ → Bool) (xs : List ℕ) → list_any p xs ≡ true → 1 ≤ count_by p xs
-any_counted p [] e = absurd (true≢false (sym e))
-any_counted p (x ∷ xs) e = elim (cases_Bool (p x)) [
-  | inl t ↦ let one : ◌≡◌ {A = ℕ} (cond (p x) 1 0) 1 = ap (λ b. cond b 1 0) t in omega (arith, one, sum_by-cons (λ y. cond {A = ℕ} (p y) 1 0) x xs)
-  | inr f ↦ omega (arith, any_counted p xs (sym (ap (λ (v : Bool). v || list_any p xs) f) ∙ e), sum_by-cons (λ y. cond {A = ℕ} (p y) 1 0) x xs)
-]
-
-none_counted : (p : ℕ → Bool) (xs : List ℕ) → list_any p xs ≡ false → count_by p xs ≡ 0
-none_counted p [] e = refl
-none_counted p (x ∷ xs) e = elim (cases_Bool (p x)) [
-  | inl t ↦ absurd (true≢false (sym (ap (λ (v : Bool). v || list_any p xs) t) ∙ e))
-  | inr f ↦
-      let none : ◌≡◌ {A = ℕ} (cond (p x) 1 0) 0 = ap (λ b. cond b 1 0) f in
-      omega (arith, none, none_counted p xs (sym (ap (λ (v : Bool). v || list_any p xs) f) ∙ e), sum_by-cons (λ y. cond {A = ℕ} (p y) 1 0) x xs)
-]
 
 -- where none stands twice, each number is counted once at most
 pub once_each : (xs : List ℕ) → no_twice xs ≡ true → (side : ℕ) → count_by (λ s. s == side) xs ≤ 1
@@ -38,7 +23,7 @@ once_each (x ∷ xs) e side =
     elim (cases_Bool (x == side)) [
       | inl t ↦
           let same : x ≡ side = eqb-true x side t in
-          let none : count_by (λ y. y == x) xs ≡ 0 = none_counted (λ y. y == x) xs (not_false (list_any (λ y. y == x) xs) parts.0) in
+          let none : count_by (λ y. y == x) xs ≡ 0 = count_by-no_list_any (λ y. y == x) xs (not_false (list_any (λ y. y == x) xs) parts.0) in
           let none' : count_by (λ y. y == side) xs ≡ 0 = ap (λ (n : ℕ). count_by (λ y. y == n) xs) (sym same) ∙ none in
           let one : ◌≡◌ {A = ℕ} (cond (x == side) 1 0) 1 = ap (λ b. cond b 1 0) t in
           omega (arith, one, none', sum_by-cons (λ y. cond {A = ℕ} (y == side) 1 0) x xs)
@@ -51,13 +36,13 @@ once_each (x ∷ xs) e side =
     not_false true e = absurd (true≢false (sym e))
     not_false false e = refl
 
--- and back
+-- numbers that are counted once at most stand apart
 pub apart_from_counts : (xs : List ℕ) → ((side : ℕ) → ¬ (2 ≤ count_by (λ s. s == side) xs)) → no_twice xs ≡ true
 apart_from_counts [] none = refl
 apart_from_counts (x ∷ xs) none = elim (cases_Bool (list_any (λ y. y == x) xs)) [
   | inl t ↦
       let one : ◌≡◌ {A = ℕ} (cond (x == x) 1 0) 1 = ap (λ b. cond b 1 0) (eq-eqb x x refl) in
-      absurd (none x (omega (arith, one, any_counted (λ y. y == x) xs t, sum_by-cons (λ y. cond {A = ℕ} (y == x) 1 0) x xs)))
+      absurd (none x (omega (arith, one, count_by-list_any (λ y. y == x) xs t, sum_by-cons (λ y. cond {A = ℕ} (y == x) 1 0) x xs)))
   | inr f ↦
       and_from (not (list_any (λ y. y == x) xs)) (no_twice xs) (ap not f)
       (apart_from_counts xs (λ side two. none side (omega (arith, two, sum_by-cons (λ y. cond {A = ℕ} (y == side) 1 0) x xs))))
@@ -106,38 +91,20 @@ pair_to a b e =
     let p = and_parts (can_be_laid a b) (no_twice (pair_sides a b)) e in
     record { laid = laid_to a b p.0; differ = λ side two. omega (arith, two, once_each (pair_sides a b) p.1 side) }
 
--- and a pair passes its test
+-- a pair passes its test
 pub pair_from : (a b : Tiling) → ArePair a b → are_pair a b ≡ true
 pair_from a b pair = and_from (can_be_laid a b) (no_twice (pair_sides a b)) (laid_from a b pair.laid) (apart_from_counts (pair_sides a b) pair.differ)
 
+-- the tests decide whether two tilings can be laid together and whether they are a pair
 pub the_tests_decide : TheTestsDecide
 the_tests_decide a b = ((laid_to a b, laid_from a b), (pair_to a b, pair_from a b))
 
 -- ---- a fault leaves no pair
 
+-- two tilings with a fault of laying can't be laid together
 pub not_laid : (a b : Tiling) (fault : PairFault) → IsLayingFault a b fault → CanBeLaid a b → ⊥
 not_laid a b faults.Size fault can = fault can.size
 not_laid a b faults.Square fault can = can.oblong fault.1
 not_laid a b (faults.Many n) fault can = omega (arith, fault.2, fault.3, can.few)
 not_laid a b (faults.Long side) fault can = omega (arith, fault.3, fault.4, can.wide, can.high)
 not_laid a b (faults.Twice side) fault can = fault
-
-pub not_pair : (a b : Tiling) (fault : PairFault) → IsPairFault a b fault → ArePair a b → ⊥
-not_pair a b faults.Size fault pair = fault pair.laid.size
-not_pair a b faults.Square fault pair = pair.laid.oblong fault.1
-not_pair a b (faults.Many n) fault pair = omega (arith, fault.2, fault.3, pair.laid.few)
-not_pair a b (faults.Long side) fault pair = omega (arith, fault.3, fault.4, pair.laid.wide, pair.laid.high)
-not_pair a b (faults.Twice side) fault pair = pair.differ side fault.1.shared
-
--- the tests, by what the calls gave
-pub test_of : (b : Bool) (P : Type 0) → (b ≡ true → P) → (P → ⊥) → b ≡ false
-test_of true P to never = absurd (never (to refl))
-test_of false P to never = refl
-
-pub laid_test : {T : Type 0} (a b : Tiling) (r : Result T PairFault) → IfErr r (IsLayingFault a b) → IfErr r (λ _. can_be_laid a b ≡ false)
-laid_test a b (Ok t) fault = tt
-laid_test a b (Err f) fault = test_of (can_be_laid a b) (CanBeLaid a b) (laid_to a b) (not_laid a b f fault)
-
-pub pair_test : {T : Type 0} (a b : Tiling) (r : Result T PairFault) → IfErr r (IsPairFault a b) → IfErr r (λ _. are_pair a b ≡ false)
-pair_test a b (Ok t) fault = tt
-pair_test a b (Err f) fault = test_of (are_pair a b) (ArePair a b) (pair_to a b) (not_pair a b f fault)

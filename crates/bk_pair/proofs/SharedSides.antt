@@ -44,10 +44,12 @@ module _ (a b : Tiling) (sorted : List ℕ) (same : IsPermutation (pair_sides a 
   shared_repeated : (side : ℕ) → IsSharedSide a b side → IsRepeated (of_sides (pair_sides a b)) side
   shared_repeated side shared = omega (arith, shared, count_of_sides side (pair_sides a b))
 
+  -- where no number of the sorted sides is followed by an equal one, no side is shared
   pub none_shared : NoneTwice sorted (length sorted) → (side : ℕ) → ¬ (IsSharedSide a b side)
   none_shared none side shared =
       imperfect (of_sides (pair_sides a b)) side (shared_repeated side shared) (perfect_from_none (of_sides (pair_sides a b)) sorted same_sides ascending none)
 
+  -- the first number of the sorted sides that is followed by an equal one is the least shared side
   pub least_shared : (side : ℕ) → IsFirstTwice sorted side → IsLeastShared a b side
   least_shared side first =
       let least : IsLeastRepeated (of_sides (pair_sides a b)) side = least_from_first (of_sides (pair_sides a b)) sorted same_sides ascending side first in
@@ -56,10 +58,12 @@ module _ (a b : Tiling) (sorted : List ℕ) (same : IsPermutation (pair_sides a 
         least = λ other shared. least.1 other (shared_repeated other shared);
       }
 
+  -- where no equal numbers are found among the sorted sides, no side is shared
   pub none_if : (r : Option ℕ) → IfNone r (NoneTwice sorted (length sorted)) → IfNone r ((side : ℕ) → ¬ (IsSharedSide a b side))
   none_if None none = none_shared none
   none_if (Some side) none = tt
 
+  -- where equal numbers are found among the sorted sides, they are the least shared side
   pub some_if : (r : Option ℕ) → IfSome r (IsFirstTwice sorted) → IfSome r (IsLeastShared a b)
   some_if None first = tt
   some_if (Some side) first = least_shared side first
@@ -92,6 +96,7 @@ module _ (a b : Tiling) (side : ℕ) where
   has : Square → ℕ
   has q = cond {A = ℕ} (q.s == side) 1 0
 
+  -- the joined square has each side as often as the sides of the pair
   pub count_joined : count_by (λ q. q.s == side) (joined_square a b).squares ≡ count_by (λ s. s == side) (pair_sides a b)
   unfolding has
   count_joined =

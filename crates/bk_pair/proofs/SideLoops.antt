@@ -1,19 +1,17 @@
 -- The loop that asks whether a tiling stands apart, and the one that looks for a common side.
 use Rattle.std.specs.Prelude.{Bool, count_by, false, get_or, nat_eq, not, true}
-use Rattle.std.specs.Ordering.{nat_cmp}
-use Rattle.std.proofs.Common.{Equal, Greater, Less}
-use Rattle.std.proofs.Common.{List, [], ap, arith, cond, inl, inr, length, refl, suc, sym, ℕ, ◌+◌, ◌-◌, ◌<◌, ◌==◌, ◌∙◌, ◌∷◌, ◌≡◌, ◌≢◌, ◌≤◌, ◌⊎◌, ◌↔◌}
-use Rattle.std.proofs.lemmas.Bool.{cases_Bool, eq-eqb, eqb-true, true≢false}
-use Rattle.std.proofs.lemmas.Bool.Decides.{nat_tests}
+use Rattle.std.proofs.Common.{List, [], ap, arith, cond, inl, inr, length, refl, suc, sym, ℕ, ◌+◌, ◌-◌, ◌<◌, ◌==◌, ◌∙◌, ◌∷◌, ◌≡◌, ◌≢◌, ◌≤◌, ◌⊎◌}
+use Rattle.std.proofs.lemmas.Bool.{cases_Bool, cases_lt, eq-eqb, eqb-true, true≢false}
 use Rattle.std.proofs.lemmas.List.Sums.{sum_by-cons}
 use Rattle.bk_laws.proofs.Counts.{count_one, count_two}
+use Rattle.bk_laws.proofs.NumberOrder.{lt_add_one-less_or_same}
 use Rattle.bk_simple.proofs.Repeats.{IsTwice, twice_from_count}
 use Rattle.bk_tiling.proofs.OrderLaws.{in_code_order-count}
 use Rattle.bk_tiling.specs.Tiling.{Tiling}
 use Rattle.bk_tiling.specs.declared.Square.{Square}
 use Rattle.bk_pair.proofs.OwnSides.{count_own, here_cases, is_here, side_count}
 use Rattle.bk_pair.proofs.PairTests.{apart_from_counts, once_each}
-use Rattle.bk_pair.specs.Kept.{AreAscending, tiling_of}
+use Rattle.bk_pair.specs.SquaresBySide.{AreSidesAscending, tiling_of}
 use Rattle.bk_pair.specs.OwnSides.{HaveCommonSide, own_sides, stands_apart}
 
 -- the side of the square at a place
@@ -46,19 +44,13 @@ pub record NoneSoFar (width height : ℕ) (squares : List Square) (n : ℕ) : Ty
   pub no_height : (k : ℕ) → k < n → side_at squares k ≢ height
   pub no_step : (k : ℕ) → k + 1 < n → side_at squares k ≢ side_at squares (k + 1)
 
-two : (a b : ℕ) → (a < b) ⊎ (b ≤ a)
-two a b = grind arith
-
-last_or : (k n : ℕ) → k < n + 1 → (k < n) ⊎ (k ≡ n)
-last_or k n h = grind arith
-
 -- one more square is none of these
 pub none_more : (width height : ℕ) (squares : List Square) (n : ℕ) → NoneSoFar width height squares n → side_at squares n ≢ width
     → side_at squares n ≢ height → (0 < n → side_at squares (n - 1) ≢ side_at squares n) → NoneSoFar width height squares (n + 1)
 none_more width height squares n so wide high step = record {
-  no_width = λ k h. elim (last_or k n h) [ inl l ↦ so.no_width k l | inr e ↦ λ is. wide (ap (side_at squares) (sym e) ∙ is) ];
-  no_height = λ k h. elim (last_or k n h) [ inl l ↦ so.no_height k l | inr e ↦ λ is. high (ap (side_at squares) (sym e) ∙ is) ];
-  no_step = λ k h. elim (last_or (k + 1) n h) [
+  no_width = λ k h. elim (lt_add_one-less_or_same k n h) [ inl l ↦ so.no_width k l | inr e ↦ λ is. wide (ap (side_at squares) (sym e) ∙ is) ];
+  no_height = λ k h. elim (lt_add_one-less_or_same k n h) [ inl l ↦ so.no_height k l | inr e ↦ λ is. high (ap (side_at squares) (sym e) ∙ is) ];
+  no_step = λ k h. elim (lt_add_one-less_or_same (k + 1) n h) [
     | inl l ↦ so.no_step k l
     | inr e ↦ λ is.
         let before : n - 1 ≡ k = omega (arith, e) in
@@ -107,7 +99,7 @@ module _ (width height : ℕ) (squares : List Square) where
   )) (stands_apart (tiling_of width height squares)) refl
 
   -- where none is found, the tiling stands apart unless it is a square's
-  pub none_found : AreAscending squares → NoneSoFar width height squares (length squares)
+  pub none_found : AreSidesAscending squares → NoneSoFar width height squares (length squares)
       → not (nat_eq width height) ≡ stands_apart (tiling_of width height squares)
   none_found ascending so = elim (cases_Bool (nat_eq width height)) [
     | inl same ↦
@@ -118,7 +110,7 @@ module _ (width height : ℕ) (squares : List Square) where
   ]
     where
       never : nat_eq width height ≡ false → (side : ℕ) → ¬ (2 ≤ count_by (λ s. s == side) (own_sides (tiling_of width height squares)))
-      never other side h = elim (two 1 (side_count side squares)) [
+      never other side h = elim (cases_lt 1 (side_count side squares)) [
         | inl twice ↦
             let w : IsTwice (λ q. q.s == side) squares none = twice_from_count (λ q. q.s == side) squares none (omega (arith, twice)) in
             let one : side_at squares w.first ≡ side = eqb-true (side_at squares w.first) side w.one in
@@ -146,36 +138,28 @@ module _ (width height : ℕ) (squares : List Square) where
 
 -- ---- a common side
 
--- what a comparison says
-pub less_from : (a b : ℕ) → Less ≡ nat_cmp a b → a < b
-less_from a b e = grind (arith, nat_tests)
-
-pub greater_from : (a b : ℕ) → Greater ≡ nat_cmp a b → b < a
-greater_from a b e = grind (arith, nat_tests)
-
-pub equal_from : (a b : ℕ) → Equal ≡ nat_cmp a b → a ≡ b
-equal_from a b e = grind (arith, nat_tests)
-
 -- no square before the place i among the first, or before j among the second, has a side in common with the others
 abbrev pub NoneCommon : List Square → List Square → ℕ → ℕ → Type 0
 NoneCommon ps qs i j = (a b : ℕ) → a < length ps → b < length qs → (a < i) ⊎ (b < j) → side_at ps a ≢ side_at qs b
 
 module _ (ps qs : List Square) (i j : ℕ) (so : NoneCommon ps qs i j) where
-  pub first_passed : AreAscending qs → side_at ps i < side_at qs j → NoneCommon ps qs (i + 1) j
+  -- a first side that is less than the second is common to none of the second's sides
+  pub first_passed : AreSidesAscending qs → side_at ps i < side_at qs j → NoneCommon ps qs (i + 1) j
   first_passed up less a b in_first in_second (inr late) = so a b in_first in_second (inr late)
-  first_passed up less a b in_first in_second (inl early) = elim (last_or a i early) [
+  first_passed up less a b in_first in_second (inl early) = elim (lt_add_one-less_or_same a i early) [
     | inl h ↦ so a b in_first in_second (inl h)
-    | inr e ↦ elim (two b j) [
+    | inr e ↦ elim (cases_lt b j) [
       | inl h ↦ so a b in_first in_second (inr h)
       | inr h ↦ λ same. omega (arith, less, up j b none h in_second, same, ap (side_at ps) e)
     ]
   ]
 
-  pub second_passed : AreAscending ps → side_at qs j < side_at ps i → NoneCommon ps qs i (j + 1)
+  -- a second side that is less than the first is common to none of the first's sides
+  pub second_passed : AreSidesAscending ps → side_at qs j < side_at ps i → NoneCommon ps qs i (j + 1)
   second_passed up less a b in_first in_second (inl early) = so a b in_first in_second (inl early)
-  second_passed up less a b in_first in_second (inr late) = elim (last_or b j late) [
+  second_passed up less a b in_first in_second (inr late) = elim (lt_add_one-less_or_same b j late) [
     | inl h ↦ so a b in_first in_second (inr h)
-    | inr e ↦ elim (two a i) [
+    | inr e ↦ elim (cases_lt a i) [
       | inl h ↦ so a b in_first in_second (inl h)
       | inr h ↦ λ same. omega (arith, less, up i a none h in_first, same, ap (side_at qs) e)
     ]
@@ -192,13 +176,10 @@ module _ (ps qs : List Square) (i j : ℕ) (so : NoneCommon ps qs i j) where
       within (inl e) a b x y = inl (omega (arith, e, x))
       within (inr e) a b x y = inr (omega (arith, e, y))
 
+-- two equal sides of two tilings are a side in common
 pub common_found : (ps qs : List Square) (i j : ℕ) → i < length ps → j < length qs → side_at ps i ≡ side_at qs j → HaveCommonSide ps qs
 common_found ps qs i j in_first in_second e = record {
   side = side_at ps i;
   in_first = count_one (λ q. q.s == side_at ps i) ps i none in_first (eq-eqb (side_at ps i) (side_at ps i) refl);
   in_second = count_one (λ q. q.s == side_at ps i) qs j none in_second (eq-eqb (side_at qs j) (side_at ps i) (sym e));
 }
-
--- nothing in common is what `false` says
-pub false_for : (P : Type 0) → (P → ⊥) → (false ≡ true) ↔ P
-false_for P never = ((λ e. absurd (true≢false (sym e))), (λ p. absurd (never p)))

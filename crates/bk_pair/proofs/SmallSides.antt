@@ -1,37 +1,18 @@
 -- Sides as the bits of a number.
 use Rattle.std.specs.Int.{bit_at, trailing_zeros}
 use Rattle.std.specs.Prelude.{min, refl}
-use Rattle.std.proofs.Common.{List, arith, bit_and, bit_or, inl, inr, length, subst, sym, w64, ℕ, ◌%◌, ◌*◌, ◌<◌, ◌==◌, ◌^◌, ◌∙◌, ◌≡◌, ◌≢◌, ◌⊎◌}
+use Rattle.std.proofs.Common.{List, arith, bit_and, inl, inr, length, subst, sym, w64, ℕ, ◌<◌, ◌==◌, ◌^◌, ◌∙◌, ◌≡◌, ◌≢◌, ◌⊎◌}
 use Rattle.std.proofs.lemmas.Bool.{eq-eqb}
 use Rattle.std.proofs.lemmas.Nat.{and_le_l}
-use Rattle.std.proofs.lemmas.Nat.Bits.{bit_at-lt, bit_at-trailing_zeros, bit_at-zero, bit_at_and, bit_at_set_other}
+use Rattle.std.proofs.lemmas.Nat.Bits.{bit_at-lt, bit_at-trailing_zeros, bit_at-zero, bit_at_and}
 use Rattle.bk_laws.proofs.Counts.{count_one}
 use Rattle.bk_tiling.specs.declared.Square.{Square}
 use Rattle.bk_pair.proofs.SideLoops.{side_at}
-use Rattle.bk_pair.specs.Kept.{AreSidesOf}
+use Rattle.bk_pair.specs.SquaresBySide.{AreSideBitsOf}
 use Rattle.bk_pair.specs.OwnSides.{HasSide, HaveCommonSide}
 
-same_or_not : (a b : ℕ) → (a ≡ b) ⊎ (a ≢ b)
-same_or_not a b = cases (three a b)
-  where
-    three : (a b : ℕ) → (a ≡ b) ⊎ ((a < b) ⊎ (b < a))
-    three a b = grind arith
-
-    cases : (a ≡ b) ⊎ ((a < b) ⊎ (b < a)) → (a ≡ b) ⊎ (a ≢ b)
-    cases (inl e) = inl e
-    cases (inr (inl h)) = inr (λ e. omega (arith, h, e))
-    cases (inr (inr h)) = inr (λ e. omega (arith, h, e))
-
--- a number with the bit of a side more has that bit, and those before
-pub added_only : (n side : ℕ) → side < 64 → (k : ℕ) → bit_at (bit_or n (1 * 2 ^ side % 2 ^ 64)) k ≡ 1 → (k ≡ side) ⊎ (bit_at n k ≡ 1)
-added_only n side low k has = cases (same_or_not k side)
-  where
-    cases : (k ≡ side) ⊎ (k ≢ side) → (k ≡ side) ⊎ (bit_at n k ≡ 1)
-    cases (inl e) = inl e
-    cases (inr other) = inr (sym (bit_at_set_other w64 n side low k other) ∙ has)
-
 -- no bit is 1 in 0
-pub no_sides : (squares : List Square) → AreSidesOf 0 squares
+pub no_sides : (squares : List Square) → AreSideBitsOf 0 squares
 no_sides squares side one = absurd (omega (arith, one, bit_at-zero side))
 
 -- the square at a place has its side
@@ -40,8 +21,8 @@ has_side squares k below =
     count_one (λ q. q.s == side_at squares k) squares k (record { x = 0; y = 0; s = 0 }) below (eq-eqb (side_at squares k) (side_at squares k) refl)
 
 -- with the bit of one more square
-pub side_added : (squares : List Square) (i n m : ℕ) → i < length squares → AreSidesOf n squares
-    → ((k : ℕ) → bit_at m k ≡ 1 → (k ≡ side_at squares i) ⊎ (bit_at n k ≡ 1)) → AreSidesOf m squares
+pub side_added : (squares : List Square) (i n m : ℕ) → i < length squares → AreSideBitsOf n squares
+    → ((k : ℕ) → bit_at m k ≡ 1 → (k ≡ side_at squares i) ⊎ (bit_at n k ≡ 1)) → AreSideBitsOf m squares
 side_added squares i n m below sides only k one = cases (only k one)
   where
     cases : (k ≡ side_at squares i) ⊎ (bit_at n k ≡ 1) → HasSide squares k
@@ -49,7 +30,7 @@ side_added squares i n m below sides only k one = cases (only k one)
     cases (inr h) = sides k h
 
 -- two numbers with a bit in common tell of a common side
-pub bits_common : (n m : ℕ) (ps qs : List Square) → n < 2 ^ 64 → AreSidesOf n ps → AreSidesOf m qs → bit_and n m ≢ 0 → HaveCommonSide ps qs
+pub bits_common : (n m : ℕ) (ps qs : List Square) → n < 2 ^ 64 → AreSideBitsOf n ps → AreSideBitsOf m qs → bit_and n m ≢ 0 → HaveCommonSide ps qs
 bits_common n m ps qs fits first second some =
     let found = bit_at-trailing_zeros w64 (bit_and n m) (omega (arith, some)) (omega (arith, fits, and_le_l n m)) in
     let least : min (bit_at n (trailing_zeros w64 (bit_and n m))) (bit_at m (trailing_zeros w64 (bit_and n m))) ≡ 1 =

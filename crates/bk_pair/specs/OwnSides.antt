@@ -25,9 +25,9 @@ pub record HaveCommonSide (ps qs : List Square) : Type 0 where
   pub in_first : HasSide ps side
   pub in_second : HasSide qs side
 
--- the conditions of a pair: the two are of one size that is no square's, both are perfect, they have no side in common and
--- neither has one that is the width or the height; they have at most 198 squares together; the longer of width and height is
--- one that a square may have as its side
+-- the conditions of a pair: the two are of one size that is no square's, both are perfect, they have no side in common
+-- and neither has one that is the width or the height; they have at most 198 squares together; the longer of width and
+-- height is one that a square may have as its side
 pub record MeetConditions (a b : Tiling) : Type 0 where
   pub size : AreOneSize a b
   pub oblong : a.width ≢ a.height

@@ -2,7 +2,7 @@
 
 ghost use Rattle.std.specs.Int.{bit_at};
 ghost use Rattle.std.specs.Prelude.{IfOk, true, ℕ, ◌↔◌, ◌≡◌, ◌⊎◌};
-ghost use Rattle.bk_pair.specs.Kept.{AreAscending, AreSidesOf, IsKeptBySides, tiling_of};
+ghost use Rattle.bk_pair.specs.SquaresBySide.{AreSideBitsOf, AreSidesAscending, IsKeptBySides, tiling_of};
 ghost use Rattle.bk_pair.specs.OwnSides.{HaveCommonSide, stands_apart};
 ghost use Rattle.bk_pair.specs.PairTest.{are_pair, can_be_laid};
 
@@ -12,8 +12,8 @@ use std::alloc::{AllocError, Global};
 use std::cmp::Ordering;
 use std::marker::Model;
 
-/// A tiling in a list of just its length, with its squares by their sides, and its sides below 64 once more as the bits of a
-/// number. So whether it joins with another one is soon told. It is seen as the tiling.
+/// A tiling in a list of just its length, with its squares by their sides, and its sides below 64 once more as the bits
+/// of a number. So whether it joins with another one is soon told. It is seen as the tiling.
 #[derive(Drop)]
 pub struct KeptTiling {
     width: u64,
@@ -24,7 +24,7 @@ pub struct KeptTiling {
 }
 
 impl Model for KeptTiling {
-    ghost use Rattle.bk_pair.specs.Kept.{IsKeptBySides, tiling_of};
+    ghost use Rattle.bk_pair.specs.SquaresBySide.{IsKeptBySides, tiling_of};
     ghost use Rattle.bk_tiling.specs.Tiling.{Tiling as Tiled};
 
     ghost Value = { Tiled };
@@ -95,7 +95,8 @@ impl KeptTiling {
         self.width.max(self.height) <= LONGEST_SIDE
     }
 
-    /// Whether this tiling and another one join to a perfect square, as `join` does. Their sides are gone through once at most.
+    /// Whether this tiling and another one join to a perfect square, as `join` does. Their sides are gone through once
+    /// at most.
     pub fn joins(&self, other: &KeptTiling) -> bool
         ensures { result ≡ are_pair self.now other.now }
     {
@@ -111,7 +112,7 @@ impl KeptTiling {
 
 // Whether no side occurs twice among those of the squares, which stand by their sides, the width and the height.
 fn stands_apart(width: u64, height: u64, squares: &[Square]) -> bool
-    requires { AreAscending squares.now }
+    requires { AreSidesAscending squares.now }
     ensures { result ≡ stands_apart (tiling_of width height squares.now) }
 {
     for i in 0..squares.len() {
@@ -128,8 +129,8 @@ fn stands_apart(width: u64, height: u64, squares: &[Square]) -> bool
 
 // Whether some side occurs among both squares, which stand by their sides.
 fn have_common_side(first: &[Square], second: &[Square]) -> bool
-    requires first { AreAscending first.now }
-    requires second { AreAscending second.now }
+    requires first { AreSidesAscending first.now }
+    requires second { AreSidesAscending second.now }
     ensures { result ≡ true ↔ HaveCommonSide first.now second.now }
 {
     let (mut i, mut j) = (0, 0);
@@ -145,7 +146,7 @@ fn have_common_side(first: &[Square], second: &[Square]) -> bool
 
 // The sides below 64 of the squares, as the bits of a number.
 fn small_sides(squares: &[Square]) -> u64
-    ensures { AreSidesOf result squares.now }
+    ensures { AreSideBitsOf result squares.now }
 {
     let mut small = 0;
     for q in squares {

@@ -8,8 +8,10 @@ ghost use Rattle.bk_tiling.specs.Scale.{moved_square};
 ghost use Rattle.bk_tiling.specs.Tiling.{order, sides_of};
 ghost use Rattle.bk_simple.specs.Simple.{IsPerfect};
 ghost use Rattle.bk_pair.specs.OwnSides.{PairsByConditions};
+ghost use Rattle.bk_pair.specs.PairSquare.{APairMakesASquare};
 ghost use Rattle.bk_pair.specs.PairTest.{TheTestsDecide};
-ghost use Rattle.bk_pair.specs.Pair.{ArePair, CanBeLaid, IsLayingFault, IsLeastShared, IsPairFault, IsSharedSide, joined_square, pair_sides};
+ghost use Rattle.bk_pair.specs.Pair.{ArePair, CanBeLaid, IsLayingFault, IsLeastShared, IsPairFault, IsSharedSide};
+ghost use Rattle.bk_pair.specs.Pair.{joined_square, pair_sides};
 
 mod kept;
 
@@ -18,6 +20,15 @@ use bk_simple::first_twice;
 use bk_sym::{Turn, image};
 use bk_tiling::{LONGEST_SIDE, MOST_SQUARES, Square, Tiling, put_in_order};
 pub use kept::KeptTiling;
+
+/// Which squares count that are made of two rectangles. The kinds are our own.
+#[derive(Clone, Copy, PartialEq, Eq)]
+pub enum Kind {
+    /// The perfect ones.
+    Perfect,
+    /// All of them.
+    Any,
+}
 
 /// Why two tilings make no square, or no perfect one. The names and their order are this project's own.
 #[derive(Clone, Copy, PartialEq, Eq)]
@@ -34,9 +45,10 @@ pub enum PairFault {
     Twice { side: u64 },
 }
 
-/// Two tilings of one size laid together to a square of side width + height: the first at the top left, a square of side
-/// height at its right, one of side width below it, and the second, with columns and levels exchanged, at the bottom right
-/// (Brooks, Smith, Stone and Tutte 1940). `PairFault` comes exactly where they can't be laid so; `Twice` never comes.
+/// Two tilings of one size laid together to a square of side width + height: the first at the top left, a square of
+/// side height at its right, one of side width below it, and the second, with columns and levels exchanged, at the
+/// bottom right (Brooks, Smith, Stone and Tutte 1940). `PairFault` comes exactly where they can't be laid so; `Twice`
+/// never comes.
 pub fn lay_pair(a: &Tiling, b: &Tiling) -> Result<Tiling, PairFault>
     ensures can { IfOk result (λ _. CanBeLaid a.now b.now) }
     ensures laid { IfOk result (λ t. t ≡ joined_square a.now b.now) }
@@ -48,8 +60,8 @@ pub fn lay_pair(a: &Tiling, b: &Tiling) -> Result<Tiling, PairFault>
     }
 }
 
-/// The same where the square is perfect. `Twice` comes exactly where they can be laid so and a side occurs twice among their
-/// sides, their width and their height, with the least such side.
+/// Two tilings laid together as `lay_pair` lays them, where the square is perfect. `Twice` comes exactly where they can
+/// be laid so and a side occurs twice among their sides, their width and their height, with the least such side.
 pub fn join(a: &Tiling, b: &Tiling) -> Result<Tiling, PairFault>
     ensures pair { IfOk result (λ _. ArePair a.now b.now) }
     ensures joined { IfOk result (λ t. t ≡ joined_square a.now b.now) }
@@ -65,15 +77,21 @@ pub fn join(a: &Tiling, b: &Tiling) -> Result<Tiling, PairFault>
     }
 }
 
-/// The tests that the definitions of pairs of a list compute with decide whether two tilings are laid together, and whether
-/// they join.
+/// The tests that the definitions of pairs of a list compute with decide whether two tilings are laid together, and
+/// whether they join.
 pub fn the_tests_decide()
     ensures { TheTestsDecide }
 {}
 
-/// Two tilings join to a perfect square exactly where they are of one size that is no square's, both are perfect, no side is
-/// in both, none is their width or their height, they have at most 198 squares together, and neither width nor height is
-/// above 999,999,999,999,999.
+/// Two tilings that can be laid together make a squared square, and two that join a perfect one: so each pair of a list
+/// stands with the perfect square that it makes, and of any kind with a squared square.
+pub fn a_pair_makes_a_square()
+    ensures { APairMakesASquare }
+{}
+
+/// Two tilings join to a perfect square exactly where they are of one size that is no square's, both are perfect, no
+/// side is in both, none is their width or their height, they have at most 198 squares together, and neither width nor
+/// height is above 999,999,999,999,999.
 pub fn a_pair_meets_its_conditions()
     ensures { PairsByConditions }
 {}

@@ -8,13 +8,13 @@ use Rattle.bk_word.specs.Outline.{IsLegalMove, Outline, sizes_of}
 use Rattle.bk_word.specs.Play.{after_move, new_squares, outline_of, parts}
 use Rattle.bk_word.specs.Word.{Move, Word, order_of}
 use Rattle.bk_word.specs.declared.Sign.{Sign}
-use Rattle.bk_word_net.proofs.OutlineParts.{many_segments}
+use Rattle.bk_word_net.proofs.Outlines.OutlineParts.{many_segments}
 use Rattle.bk_play.proofs.PlayedFlat.{closed_are, ends_are, ends_were, signs_are, sizes_after_many, sizes_are}
-use Rattle.bk_word_net.proofs.Shape.{Filled, filled_parts, valley_in}
+use Rattle.bk_word_net.proofs.Outlines.Shape.{Filled, filled_parts, valley_in}
 use Rattle.bk_play.proofs.SkelFacts.{Counted, counted}
 use Rattle.bk_play.proofs.TurnParts.{closed_is, first_is, sides_are, start_is}
-use Rattle.bk_word_net.proofs.ValleyCut.{AtValley}
-use Rattle.bk_play.specs.Skeleton.{Shows, first_touched, open_sides, sizes_after, turn_at}
+use Rattle.bk_word_net.proofs.Outlines.ValleyCut.{AtValley}
+use Rattle.bk_play.specs.Skeleton.{Shows, first_touched, open_sides_of_record, sizes_after, turn_at}
 use Rattle.bk_play.specs.Valley.{IsKeptSkeleton}
 use Rattle.bk_play.specs.declared.turns.MoveRecord.{MoveRecord}
 
@@ -56,7 +56,7 @@ module _ (front : Word) (m : Move) (kept : IsKeptSkeleton front) (legal : IsLega
     numbers-length (length (outline_of front).hung + 1) m.count,
   )
 
-  -- and those that it hung
+  -- the squares that the move hung are there
   pub ends_in : (ends : List ℕ) → ends ≡ concat (after_move (outline_of front) m).segments → turn.first + m.count ≤ length ends
   ends_in ends e = omega (arith, first_is (outline_of front) c.shaped m from v f, long_ends ends e)
 
@@ -76,7 +76,7 @@ module _ (front : Word) (m : Move) (kept : IsKeptSkeleton front) (legal : IsLega
   sizes_in sizes e = omega (arith, start_is (outline_of front) c.shaped m from v f, long_sizes sizes e)
 
   -- with those touched in their place the segments are few
-  pub sizes_few : (sizes : List ℕ) → sizes ≡ sizes_of (after_move (outline_of front) m) → length sizes - (turn.parted + 1) + (open_sides turn + 1) ≤ 200
+  pub sizes_few : (sizes : List ℕ) → sizes ≡ sizes_of (after_move (outline_of front) m) → length sizes - (turn.parted + 1) + (open_sides_of_record turn + 1) ≤ 200
   sizes_few sizes e = omega (
     arith,
     sides_are (outline_of front) c.shaped m from v f,
@@ -101,7 +101,7 @@ module _ (front : Word) (m : Move) (kept : IsKeptSkeleton front) (legal : IsLega
   signs_in signs e = omega (arith, start_is (outline_of front) c.shaped m from v f, long_signs signs e)
 
   -- with those before it in their place the signs are few
-  pub signs_few : (signs : List Sign) → signs ≡ (after_move (outline_of front) m).signs → length signs - turn.parted + open_sides turn ≤ 200
+  pub signs_few : (signs : List Sign) → signs ≡ (after_move (outline_of front) m).signs → length signs - turn.parted + open_sides_of_record turn ≤ 200
   signs_few signs e = omega (
     arith,
     sides_are (outline_of front) c.shaped m from v f,

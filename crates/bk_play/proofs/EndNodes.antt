@@ -1,11 +1,12 @@
 -- The nodes at which squares end, found from the last node to the first.
 use Rattle.std.specs.List.{concat, list_any}
-use Rattle.std.proofs.Common.{Bool, List, [], ap, arith, cond, drop, false, length, map, nat_eq, not, refl, slice_index, slice_range, suc, sum, sym}
-use Rattle.std.proofs.Common.{take, true, zero, ℕ, ◌++◌, ◌+◌, ◌-◌, ◌<◌, ◌∙◌, ◌∷◌, ◌≡◌}
+use Rattle.std.proofs.Common.{List, [], ap, arith, cond, drop, length, map, nat_eq, refl, slice_range, suc, sum, sym}
+use Rattle.std.proofs.Common.{take, zero, ℕ, ◌++◌, ◌+◌, ◌-◌, ◌<◌, ◌∙◌, ◌∷◌, ◌≡◌}
 use Rattle.std.proofs.lemmas.List.{append_assoc, drop_at, length-append, length-map, map-append, take_at}
 use Rattle.std.proofs.lemmas.List.Sums.{sum_by-append, sum_by-cons}
 use Rattle.std.proofs.lemmas.List.Folds.{concat-append}
-use Rattle.bk_play.proofs.TurnParts.{sum_lengths}
+use Rattle.bk_laws.proofs.Sums.{sum-map_length}
+use Rattle.bk_laws.proofs.TestsAsNumbers.{cond-first_or_rest}
 use Rattle.bk_word_net.specs.WordNet.{end_of}
 
 -- lists cut at a place
@@ -28,21 +29,10 @@ cut_at (s ∷ lists) (suc place) h = let r = cut_at lists place (omega arith) in
   long = ap suc r.long;
 }
 
--- a sum with one more number
-pub sum_next : (xs : List ℕ) (j : ℕ) → j < length xs → sum (take (suc j) xs) ≡ sum (take j xs) + slice_index xs j
-sum_next [] j h = absurd (omega arith)
-sum_next (x ∷ xs) zero h = omega (arith, sum_by-cons (λ (n : ℕ). n) x [])
-sum_next (x ∷ xs) (suc j) h = omega (
-  arith,
-  sum_by-cons (λ (n : ℕ). n) x (take (suc j) xs),
-  sum_by-cons (λ (n : ℕ). n) x (take j xs),
-  sum_next xs j (omega arith),
-)
-
 module _ (lists : List (List ℕ)) (j : ℕ) (c : CutAt lists j) where
   fronts : sum (take j (map length lists)) ≡ length (concat c.front)
   fronts = ap sum (ap (take j) (ap (map length) c.whole ∙ map-append length c.front (c.here ∷ c.back))
-      ∙ take_at (map length c.front) (length c.here ∷ map length c.back) j (length-map c.front length ∙ c.long)) ∙ sum_lengths c.front
+      ∙ take_at (map length c.front) (length c.here ∷ map length c.back) j (length-map c.front length ∙ c.long)) ∙ sum-map_length c.front
 
   next : sum (take (suc j) (map length lists)) ≡ length (concat c.front) + length c.here
   next = ap sum (ap (take (suc j)) (ap (map length) c.whole ∙ map-append length c.front (c.here ∷ c.back)
@@ -50,8 +40,9 @@ module _ (lists : List (List ℕ)) (j : ℕ) (c : CutAt lists j) where
       ∙ take_at (map length c.front ++ length c.here ∷ []) (map length c.back) (suc j)
       (omega (arith, length-append (map length c.front) (length c.here ∷ []), length-map c.front length, c.long)))
       ∙ sum_by-append (λ (n : ℕ). n) (map length c.front) (length c.here ∷ [])
-      ∙ omega (arith, sum_lengths c.front, sum_by-cons (λ (n : ℕ). n) (length c.here) [])
+      ∙ omega (arith, sum-map_length c.front, sum_by-cons (λ (n : ℕ). n) (length c.here) [])
 
+  -- the numbers of one list are a stretch of all lists put together, by the sums of the sizes
   pub here_is : slice_range (concat lists) (sum (take j (map length lists))) (sum (take (suc j) (map length lists))) ≡ c.here
   here_is = (λ i. slice_range (whole i) (fronts i) (next i))
       ∙ ap (take (length (concat c.front) + length c.here - length (concat c.front)))
@@ -68,12 +59,8 @@ module _ (lists : List (List ℕ)) (j : ℕ) (c : CutAt lists j) where
   drop_next = ap (drop (suc j)) (c.whole ∙ sym (append_assoc c.front (c.here ∷ []) c.back))
       ∙ drop_at (c.front ++ c.here ∷ []) c.back (suc j) (omega (arith, length-append c.front (c.here ∷ []), c.long))
 
-either : (b : Bool) (j n : ℕ) → ◌≡◌ {A = ℕ} (cond b j (suc j + n)) (j + cond (not b) (1 + n) 0)
-either true j n = omega arith
-either false j n = omega arith
-
 found_here : (s : List ℕ) (back : List (List ℕ)) (q j : ℕ) → ◌≡◌ {A = ℕ} (cond (list_any (nat_eq q) s) j (suc j + end_of back q)) (j + end_of (s ∷ back) q)
-found_here s back q j = either (list_any (nat_eq q) s) j (end_of back q)
+found_here s back q j = cond-first_or_rest (list_any (nat_eq q) s) j (end_of back q)
 
 -- one node more: its squares end there, and for the others it is as it was
 pub marked_node : (lists : List (List ℕ)) (closed sizes : List ℕ) (j start end q old new : ℕ) → closed ≡ concat lists

@@ -3,19 +3,17 @@ use Rattle.std.specs.List.{list_any}
 use Rattle.std.proofs.Common.{Bool, List, [], ap, arith, cond, false, inl, inr, length, map, nat_eq, not, refl, slice_index, suc, sym, take, true, zero, ℕ}
 use Rattle.std.proofs.Common.{◌++◌, ◌+◌, ◌<◌, ◌∙◌, ◌∷◌, ◌≡◌, ◌≤◌, ◌⊎◌}
 use Rattle.std.proofs.lemmas.List.{length-take-le}
-use Rattle.bk_laws.proofs.Occurrences.{times, times_in}
+use Rattle.bk_laws.proofs.Occurrences.{times, times-list_any_cases, times_in}
+use Rattle.bk_laws.proofs.ListItems.{slice_index-extensionality, slice_index-take}
+use Rattle.bk_laws.proofs.ListsOfLists.{only_list-of_length_one}
+use Rattle.bk_laws.proofs.TestsAsNumbers.{cond-open_end}
 use Rattle.bk_word.specs.Outline.{Outline}
 use Rattle.bk_word.specs.Play.{numbers_from}
-use Rattle.bk_word_net.proofs.Numbering.{Numbered, any_times, times_one}
+use Rattle.bk_word_net.proofs.Outlines.Numbering.{Numbered, times_one}
 use Rattle.bk_word_net.specs.WordNet.{end_of}
 
--- a square that no move closes ends at the last node
-open_end : (b : Bool) (m n : ℕ) → (b ≡ true → m ≡ n) → ◌≡◌ {A = ℕ} (cond b (1 + m) 0) (cond b (1 + n) 0)
-open_end true m n e = let f : m ≡ n = e refl in omega arith
-open_end false m n e = refl
-
 end_last : (closed : List (List ℕ)) (s : List ℕ) (q : ℕ) → 0 < times_in q (closed ++ s ∷ []) → end_of closed q ≡ end_of (closed ++ s ∷ []) q
-end_last [] s q h = cases (any_times q s)
+end_last [] s q h = cases (times-list_any_cases q s)
   where
     there : list_any (nat_eq q) s ≡ true → ◌≡◌ {A = ℕ} 0 (cond (not (list_any (nat_eq q) s)) (1 + 0) 0)
     there e = sym (ap (λ (b : Bool). cond (not b) (1 + 0) 0) e)
@@ -24,31 +22,14 @@ end_last [] s q h = cases (any_times q s)
         → ◌≡◌ {A = ℕ} 0 (cond (not (list_any (nat_eq q) s)) (1 + 0) 0)
     cases (inl a) = there a.0
     cases (inr a) = absurd (omega (arith, h, a.1))
-end_last (x ∷ closed) s q h = cases (any_times q x) (end_last closed s q)
+end_last (x ∷ closed) s q h = cases (times-list_any_cases q x) (end_last closed s q)
   where
     cases : ((list_any (nat_eq q) x ≡ true) × (0 < times q x)) ⊎ ((list_any (nat_eq q) x ≡ false) × (times q x ≡ 0))
         → (0 < times_in q (closed ++ s ∷ []) → end_of closed q ≡ end_of (closed ++ s ∷ []) q)
         → ◌≡◌ {A = ℕ} (cond (not (list_any (nat_eq q) x)) (1 + end_of closed q) 0) (cond (not (list_any (nat_eq q) x)) (1 + end_of (closed ++ s ∷ []) q) 0)
     cases (inl a) rest = ap (λ (b : Bool). cond (not b) (1 + end_of closed q) 0) a.0
         ∙ sym (ap (λ (b : Bool). cond (not b) (1 + end_of (closed ++ s ∷ []) q) 0) a.0)
-    cases (inr a) rest = open_end (not (list_any (nat_eq q) x)) (end_of closed q) (end_of (closed ++ s ∷ []) q) (λ e. rest (omega (arith, h, a.1)))
-
-one_list : (l : List (List ℕ)) → length l ≡ 1 → (s : List ℕ) × (l ≡ s ∷ [])
-one_list [] e = absurd (omega arith)
-one_list (s ∷ []) e = (s, refl)
-one_list (s ∷ t ∷ l) e = absurd (omega arith)
-
-by_index : (xs ys : List ℕ) → length xs ≡ length ys → ((k : ℕ) → k < length xs → slice_index xs k ≡ slice_index ys k) → xs ≡ ys
-by_index [] [] e f = refl
-by_index [] (y ∷ ys) e f = absurd (omega arith)
-by_index (x ∷ xs) [] e f = absurd (omega arith)
-by_index (x ∷ xs) (y ∷ ys) e f = (λ i. f 0 (omega arith) i ∷ by_index xs ys (omega arith) (λ k h. f (suc k) (omega arith)) i)
-
-index_take : (n : ℕ) (xs : List ℕ) (k : ℕ) → k < n → slice_index (take n xs) k ≡ slice_index xs k
-index_take zero xs k h = absurd (omega arith)
-index_take (suc n) [] k h = refl
-index_take (suc n) (x ∷ xs) zero h = refl
-index_take (suc n) (x ∷ xs) (suc k) h = index_take n xs k (omega arith)
+    cases (inr a) rest = cond-open_end (not (list_any (nat_eq q) x)) (end_of closed q) (end_of (closed ++ s ∷ []) q) (λ e. rest (omega (arith, h, a.1)))
 
 index_map : (f : ℕ → ℕ) (b n k : ℕ) → k < n → slice_index (map f (numbers_from b n)) k ≡ f (b + k)
 index_map f b zero k h = absurd (omega arith)
@@ -70,17 +51,17 @@ pub ends_read : (o : Outline) (n : ℕ) (ended : List ℕ) → Numbered o → le
     → length ended ≡ 200 → ((k : ℕ) → k < 200 → slice_index ended k ≡ end_of o.closed (k + 1))
     → take n ended ≡ map (end_of (o.closed ++ o.segments)) (numbers_from 1 n)
 ends_read o n ended numbered one all few long read =
-    by_index (take n ended) (map (end_of (o.closed ++ o.segments)) (numbers_from 1 n))
+    slice_index-extensionality (take n ended) (map (end_of (o.closed ++ o.segments)) (numbers_from 1 n))
     (taken ∙ sym (length-numbered (end_of (o.closed ++ o.segments)) 1 n)) each
   where
     taken : length (take n ended) ≡ n
     taken = length-take-le n ended (omega arith)
 
     last : (s : List ℕ) × (o.segments ≡ s ∷ [])
-    last = one_list o.segments one
+    last = only_list-of_length_one o.segments one
 
     each : (k : ℕ) → k < length (take n ended) → slice_index (take n ended) k ≡ slice_index (map (end_of (o.closed ++ o.segments)) (numbers_from 1 n)) k
-    each k h = index_take n ended k below ∙ read k (omega (arith, below)) ∙ end_last o.closed last.0 (k + 1) there
+    each k h = slice_index-take n ended k below ∙ read k (omega (arith, below)) ∙ end_last o.closed last.0 (k + 1) there
         ∙ ap (λ (l : List (List ℕ)). end_of (o.closed ++ l) (k + 1)) (sym last.1)
         ∙ ap (end_of (o.closed ++ o.segments)) same ∙ sym (index_map (end_of (o.closed ++ o.segments)) 1 n k below)
       where

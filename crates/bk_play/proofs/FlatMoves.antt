@@ -1,12 +1,11 @@
 -- The flat lists of an outline, where a move is played and where it is taken back.
-use Rattle.std.specs.List.{concat, splice}
-use Rattle.std.proofs.Common.{List, [], ap, arith, drop, length, map, max, refl, suc, sym, ℕ, ◌++◌, ◌+◌, ◌<◌, ◌∙◌, ◌∷◌, ◌≡◌, ◌≤◌}
-use Rattle.std.proofs.lemmas.List.{append_assoc, drop_at, length-append, take_at}
-use Rattle.bk_word.specs.Outline.{start}
+use Rattle.std.specs.List.{concat}
+use Rattle.std.proofs.Common.{List, [], ap, arith, length, map, max, refl, suc, sym, ℕ, ◌++◌, ◌+◌, ◌<◌, ◌∙◌, ◌∷◌, ◌≡◌, ◌≤◌}
+use Rattle.std.proofs.lemmas.List.{append_assoc, length-append}
 use Rattle.bk_word.specs.Play.{before_first_list, joined}
 use Rattle.bk_word.specs.declared.Sign.{Sign}
 use Rattle.bk_word.specs.declared.Sign.TheVariants.{Above, Even, Under}
-use Rattle.bk_word_net.proofs.Shape.{AllFilled}
+use Rattle.bk_word_net.proofs.Outlines.Shape.{AllFilled}
 use Rattle.bk_play.specs.Skeleton.{joined_sizes, next_size}
 
 -- all segments have one square but the last, which has so many
@@ -80,11 +79,3 @@ sizes_between (l ∷ []) right (n ∷ numbers) signs one other filled full some 
     sizes_joined signs l ((n ∷ []) ∷ (map (λ q. q ∷ []) numbers ++ right)) (max (length (concat (l ∷ []))) 1)
     (max (length (concat right)) 1) (omega (arith, length-append l [], filled.0)) (omega arith) (singles_after (n ∷ numbers) right other full)
 sizes_between (l ∷ u ∷ left) right (n ∷ numbers) signs one other filled full some many = absurd (omega arith)
-
--- a part of a list gives way, and comes back
-pub splice_at : {X : Type 0} (front middle back new : List X) (start end : ℕ) → length front ≡ start → start + length middle ≡ end
-    → splice (front ++ (middle ++ back)) start end new ≡ front ++ (new ++ back)
-splice_at {X = X} front middle back new start end at till = (λ i. take_at front (middle ++ back) start at i ++ (new ++ rest i))
-  where
-    rest : drop end (front ++ (middle ++ back)) ≡ back
-    rest = ap (drop end) (sym (append_assoc front middle back)) ∙ drop_at (front ++ middle) back end (omega (arith, length-append front middle))

@@ -1,17 +1,12 @@
 -- The wires of squares that hang from the nodes in order, so many from each.
-use Rattle.std.proofs.Common.{List, [], ap, arith, drop, length, map, refl, replicate, suc, sum, sym, take, zero, zip, ℕ, ◌++◌, ◌+◌, ◌∙◌, ◌∷◌, ◌≡◌, ◌≤◌}
+use Rattle.std.proofs.Common.{List, [], ap, arith, drop, length, map, refl, replicate, sum, sym, take, zip, ℕ, ◌++◌, ◌+◌, ◌∙◌, ◌∷◌, ◌≡◌, ◌≤◌}
 use Rattle.std.proofs.lemmas.List.{append-nil, append_assoc, length-append, length-replicate, length-take-le, take-append-drop}
 use Rattle.std.proofs.lemmas.List.Sums.{sum_by-cons}
+use Rattle.bk_laws.proofs.ZippedLists.{zip-append, zip-replicate_take}
 use Rattle.bk_word.specs.Outline.{Outline, valley_of}
 use Rattle.bk_word.specs.Play.{after_move, after_moves}
 use Rattle.bk_word.specs.Word.{Word}
-use Rattle.bk_play.specs.Wiring.{wires_from}
-
--- the wires of squares that hang from the nodes in order
-zip_replicate : (node count : ℕ) (ends : List ℕ) → count ≤ length ends → zip (replicate count node) (take count ends) ≡ map (λ e. (node, e)) (take count ends)
-zip_replicate node zero ends h = refl
-zip_replicate node (suc count) [] h = absurd (omega arith)
-zip_replicate node (suc count) (e ∷ ends) h = ap (λ (l : List (ℕ × ℕ)). (node, e) ∷ l) (zip_replicate node count ends (omega arith))
+use Rattle.bk_play.specs.Wiring.{move_wires_from}
 
 -- the nodes from which squares hang, so many from each
 abbrev pub nodes_from : ℕ → List ℕ → List ℕ
@@ -25,20 +20,14 @@ hung_nodes o (m ∷ w) = hung_nodes (after_move o m) w
     ∙ append_assoc o.hung (replicate m.count (length o.closed)) (nodes_from (length (o.closed ++ valley_of o ∷ [])) (map (λ m. m.count) w))
     ∙ ap (λ n. o.hung ++ (replicate m.count (length o.closed) ++ nodes_from n (map (λ m. m.count) w))) (length-append o.closed (valley_of o ∷ []))
 
-zip-append : {A B : Type 0} (xs : List A) (us : List B) (ys : List A) (vs : List B) → length xs ≡ length us → zip (xs ++ ys) (us ++ vs) ≡ zip xs us ++ zip ys vs
-zip-append [] [] ys vs e = refl
-zip-append [] (u ∷ us) ys vs e = absurd (omega arith)
-zip-append (x ∷ xs) [] ys vs e = absurd (omega arith)
-zip-append {A = A} {B = B} (x ∷ xs) (u ∷ us) ys vs e = ap (λ (l : List (A × B)). (x, u) ∷ l) (zip-append xs us ys vs (omega arith))
-
 -- squares that hang from nodes in order, and the nodes where they end, are the wires
-pub zip_nodes : (node : ℕ) (counts ends : List ℕ) → length ends ≡ sum counts → zip (nodes_from node counts) ends ≡ wires_from node counts ends
+pub zip_nodes : (node : ℕ) (counts ends : List ℕ) → length ends ≡ sum counts → zip (nodes_from node counts) ends ≡ move_wires_from node counts ends
 zip_nodes node [] ends e = refl
 zip_nodes node (count ∷ counts) ends e =
     ap (zip (replicate count node ++ nodes_from (node + 1) counts)) (sym (take-append-drop count ends))
     ∙ zip-append (replicate count node) (take count ends) (nodes_from (node + 1) counts) (drop count ends)
     (length-replicate count node ∙ sym (length-take-le count ends within))
-    ∙ (λ i. zip_replicate node count ends within i ++ zip_nodes (node + 1) counts (drop count ends) left i)
+    ∙ (λ i. zip-replicate_take node count ends within i ++ zip_nodes (node + 1) counts (drop count ends) left i)
   where
     all : length ends ≡ count + sum counts
     all = e ∙ sum_by-cons (λ (n : ℕ). n) count counts

@@ -8,13 +8,13 @@ use Rattle.bk_word.specs.Outline.{start}
 use Rattle.bk_word.specs.Play.{IsComplete, numbers_from, outline_of}
 use Rattle.bk_word.specs.Word.{Word, order_of}
 use Rattle.bk_word.specs.declared.Sign.{Sign}
-use Rattle.bk_word_net.proofs.Numbering.{numbered_moves, numbered_start}
-use Rattle.bk_word_net.proofs.NoLoose.{a_word_net_has_no_loose, closed_count}
+use Rattle.bk_word_net.proofs.Outlines.Numbering.{numbered_moves, numbered_start}
+use Rattle.bk_word_net.proofs.WordFlows.NoLoose.{a_word_net_has_no_loose, closed_count}
 use Rattle.bk_play.proofs.RecordCounts.{closed_sizes}
 use Rattle.bk_play.proofs.SkelReads.{counted_in}
 use Rattle.bk_play.proofs.StoredMoves.{turns_many}
 use Rattle.bk_play.specs.Skeleton.{IsStoredSkeleton}
-use Rattle.bk_play.specs.Wiring.{AreWires, closed_of, counts_of, wires_from}
+use Rattle.bk_play.specs.Wiring.{AreWires, closed_of, hung_and_closed, move_wires_from}
 use Rattle.bk_word_net.specs.WordNet.{end_of, net_of_word}
 use Rattle.bk_play.specs.declared.turns.MoveRecord.{MoveRecord}
 use Rattle.bk_play.proofs.RecordCounts.{counts_turns, counts_sum}
@@ -23,9 +23,9 @@ use Rattle.bk_play.proofs.EndsRead.{ends_read}
 
 -- the net of a complete word, as it is read
 pub record ReadsNet (w : Word) (turns : List MoveRecord) (ends : List ℕ) : Type 0 where
-  pub all : length ends ≡ sum (counts_of turns)
-  pub wires : AreWires (length turns + 1) (wires_from 0 (counts_of turns) ends)
-  pub net : (record { nodes = length turns + 1; wires = wires_from 0 (counts_of turns) ends }) ≡ net_of_word w
+  pub all : length ends ≡ sum (hung_and_closed turns)
+  pub wires : AreWires (length turns + 1) (move_wires_from 0 (hung_and_closed turns) ends)
+  pub net : (record { nodes = length turns + 1; wires = move_wires_from 0 (hung_and_closed turns) ends }) ≡ net_of_word w
 
 -- of a complete word, the records and the nodes where the squares end are the net of the word
 pub reads_net : {w : Word} {ends sizes : List ℕ} {signs : List Sign} {closed : List ℕ} {turns : List MoveRecord} {played : List Sign}
@@ -37,10 +37,10 @@ reads_net {w = w} {turns = turns} s complete ended n order long read =
     hung : length (outline_of w).hung ≡ order_of w
     hung = (counted_in s).hung
 
-    counts : counts_of turns ≡ map (λ m. m.count) w
-    counts = ap counts_of s.turns_are ∙ counts_turns start 0 w
+    counts : hung_and_closed turns ≡ map (λ m. m.count) w
+    counts = ap hung_and_closed s.turns_are ∙ counts_turns start 0 w
 
-    all : length (take n ended) ≡ sum (counts_of turns)
+    all : length (take n ended) ≡ sum (hung_and_closed turns)
     all = length-take-le n ended (omega (arith, order, (s.kept).few)) ∙ order ∙ sym (ap sum counts ∙ counts_sum w)
 
     ends_are : take n ended ≡ map (end_of ((outline_of w).closed ++ (outline_of w).segments)) (numbers_from 1 (length (outline_of w).hung))
@@ -51,20 +51,20 @@ reads_net {w = w} {turns = turns} s complete ended n order long read =
     nodes : length turns ≡ length (outline_of w).closed
     nodes = omega (arith, ap length s.turns_are, turns_many start 0 w, closed_count start w)
 
-    wires_are : wires_from 0 (counts_of turns) (take n ended)
+    wires_are : move_wires_from 0 (hung_and_closed turns) (take n ended)
         ≡ zip (outline_of w).hung (map (end_of ((outline_of w).closed ++ (outline_of w).segments)) (numbers_from 1 (length (outline_of w).hung)))
-    wires_are = sym (zip_nodes 0 (counts_of turns) (take n ended) all) ∙ (λ i. zip (nodes_from 0 (counts i)) (ends_are i))
+    wires_are = sym (zip_nodes 0 (hung_and_closed turns) (take n ended) all) ∙ (λ i. zip (nodes_from 0 (counts i)) (ends_are i))
         ∙ ap (λ (l : List ℕ). zip l (map (end_of ((outline_of w).closed ++ (outline_of w).segments))
         (numbers_from 1 (length (outline_of w).hung)))) (sym (hung_nodes start w))
 
-    net : (record { nodes = length turns + 1; wires = wires_from 0 (counts_of turns) (take n ended) }) ≡ net_of_word w
+    net : (record { nodes = length turns + 1; wires = move_wires_from 0 (hung_and_closed turns) (take n ended) }) ≡ net_of_word w
     net = λ i. record { nodes = nodes i + 1; wires = wires_are i }
 
     good : AreWires (net_of_word w).nodes (net_of_word w).wires
     good = recursion_from_All (λ (v : ℕ × ℕ). (v.0 < (net_of_word w).nodes) × (v.1 < (net_of_word w).nodes) × (v.0 ≡ v.1 → ⊥))
         (net_of_word w).wires ((a_word_net_has_no_loose w complete).0).ends
 
--- the same where the records and the closed squares are read of a skeleton that shows this word
+-- the records and nodes that a skeleton shows of a complete word are the net of the word, where these are read of it
 pub reads_shown : {w now : Word} {ends sizes : List ℕ} {signs : List Sign} {closed : List ℕ} {turns : List MoveRecord} {played : List Sign}
     {first again : List MoveRecord} {read : List ℕ}
     → IsStoredSkeleton w ends sizes signs closed turns played → w ≡ now → IsComplete now → first ≡ turns → read ≡ closed → again ≡ turns

@@ -5,20 +5,22 @@ use Rattle.std.proofs.Common.{◌∙◌, ◌∷◌, ◌≡◌}
 use Rattle.std.proofs.lemmas.List.{append-nil, append_assoc, drop_at, length-append, length-map, map-append, take_at}
 use Rattle.std.proofs.lemmas.List.Sums.{length-filter, sum_by-cons}
 use Rattle.std.proofs.lemmas.List.Folds.{concat-append}
+use Rattle.bk_laws.proofs.ListParts.{append-regroup_five, splice-middle}
+use Rattle.bk_laws.proofs.ListsOfLists.{concat-singletons}
 use Rattle.bk_word.proofs.PlayLists.{numbers-length}
 use Rattle.bk_word.specs.Outline.{IsLegalMove, Outline, sizes_of, valley_of}
 use Rattle.bk_word.specs.Play.{after_move, joined, new_squares, parts}
 use Rattle.bk_word.specs.Word.{Move}
 use Rattle.bk_word.specs.declared.Sign.{Sign}
 use Rattle.bk_word.specs.declared.Sign.TheVariants.{Above, Even, Under}
-use Rattle.bk_word_net.proofs.BottomChain.{concat-joined, concat-singles}
-use Rattle.bk_play.proofs.FlatMoves.{sizes_between, splice_at}
-use Rattle.bk_word_net.proofs.OutlineParts.{left_one, right_one, valley_is}
-use Rattle.bk_word_net.proofs.MovedParts.{many_between, segments_after, signs_after}
-use Rattle.bk_word_net.proofs.Shape.{Filled, Shaped, filled_parts, valley_in}
+use Rattle.bk_word_net.proofs.Outlines.BottomChain.{concat-joined}
+use Rattle.bk_play.proofs.FlatMoves.{sizes_between}
+use Rattle.bk_word_net.proofs.Outlines.OutlineParts.{left_one, right_one, valley_is}
+use Rattle.bk_word_net.proofs.Outlines.MovedParts.{many_between, segments_after, signs_after}
+use Rattle.bk_word_net.proofs.Outlines.Shape.{Filled, Shaped, filled_parts, valley_in}
 use Rattle.bk_play.proofs.TurnParts.{closed_is, first_is, left_is, right_is, sides_are, signs_before_are, sizes_before_are, start_is}
-use Rattle.bk_word_net.proofs.ValleyCut.{AtValley}
-use Rattle.bk_play.specs.Skeleton.{Shows, first_touched, joined_sizes, next_size, open_sides, signs_before, sizes_after, sizes_before, turn_at}
+use Rattle.bk_word_net.proofs.Outlines.ValleyCut.{AtValley}
+use Rattle.bk_play.specs.Skeleton.{Shows, first_touched, joined_sizes, next_size, open_sides_of_record, signs_before, sizes_after, sizes_before, turn_at}
 use Rattle.bk_play.specs.declared.turns.MoveRecord.{MoveRecord}
 
 -- how many segments the signs leave
@@ -30,10 +32,6 @@ sizes_after_many size last (Even ∷ signs) =
     omega (arith, sum_by-cons (λ g. cond (parts g) 1 0) Even signs, sizes_after_many (size + next_size last signs) last signs)
 sizes_after_many size last (Under ∷ signs) =
     omega (arith, sum_by-cons (λ g. cond (parts g) 1 0) Under signs, sizes_after_many (next_size last signs) last signs)
-
--- five lists joined, grouped otherwise
-regroup : (a b c d e : List ℕ) → a ++ ((b ++ (c ++ d)) ++ e) ≡ (a ++ b) ++ (c ++ (d ++ e))
-regroup a b c d e = simp append_assoc
 
 module _ (o : Outline) (shaped : Shaped o) (m : Move) (legal : IsLegalMove o m) (from : ℕ) where
   abbrev v : AtValley o
@@ -65,14 +63,14 @@ module _ (o : Outline) (shaped : Shaped o) (m : Move) (legal : IsLegalMove o m) 
   signs_were : o.signs ≡ v.before_signs ++ ((v.left_signs ++ v.right_signs) ++ v.after_signs)
   signs_were = v.signs ∙ ap (λ (l : List Sign). v.before_signs ++ l) (sym (append_assoc v.left_signs v.right_signs v.after_signs))
 
-  -- and after
+  -- the flat lists by parts, after a move
   pub ends_are : concat (after_move o m).segments ≡ (concat v.before ++ concat v.left) ++ (new_squares o m ++ (concat v.right ++ concat v.after))
   ends_are = ap concat (segments_after o v m legal) ∙ concat-append v.before (joined m.signs between ++ v.after)
       ∙ ap (λ (l : List ℕ). concat v.before ++ l) (concat-append (joined m.signs between) v.after
       ∙ ap (λ (l : List ℕ). l ++ concat v.after) (concat-joined m.signs between ∙ concat-append v.left (map (λ q. q ∷ []) (new_squares o m) ++ v.right)
       ∙ ap (λ (l : List ℕ). concat v.left ++ l) (concat-append (map (λ q. q ∷ []) (new_squares o m)) v.right
-      ∙ ap (λ (l : List ℕ). l ++ concat v.right) (concat-singles (new_squares o m)))))
-      ∙ regroup (concat v.before) (concat v.left) (new_squares o m) (concat v.right) (concat v.after)
+      ∙ ap (λ (l : List ℕ). l ++ concat v.right) (concat-singletons (new_squares o m)))))
+      ∙ append-regroup_five (concat v.before) (concat v.left) (new_squares o m) (concat v.right) (concat v.after)
 
   -- how many squares each segment has after it
   pub sizes_are : sizes_of (after_move o m) ≡ map length v.before ++ (sizes_after turn m.signs ++ map length v.after)
@@ -102,7 +100,7 @@ module _ (o : Outline) (shaped : Shaped o) (m : Move) (legal : IsLegalMove o m) 
   start_signs : length v.before_signs ≡ first_touched turn
   start_signs = sym v.before_many ∙ sym (start_is o shaped m from v f)
 
-  sizes_long : first_touched turn + length (map length v.left ++ (length v.valley ∷ map length v.right)) ≡ first_touched turn + (open_sides turn + 1)
+  sizes_long : first_touched turn + length (map length v.left ++ (length v.valley ∷ map length v.right)) ≡ first_touched turn + (open_sides_of_record turn + 1)
   sizes_long = omega (
     arith,
     sides_are o shaped m from v f,
@@ -111,29 +109,29 @@ module _ (o : Outline) (shaped : Shaped o) (m : Move) (legal : IsLegalMove o m) 
     length-map v.right length,
   )
 
-  signs_long : first_touched turn + length (v.left_signs ++ v.right_signs) ≡ first_touched turn + open_sides turn
+  signs_long : first_touched turn + length (v.left_signs ++ v.right_signs) ≡ first_touched turn + open_sides_of_record turn
   signs_long = omega (arith, sides_are o shaped m from v f, length-append v.left_signs v.right_signs, (left_one o v).0, (right_one o v).0)
 
   -- the lists that are stored after a move
   pub shows_move : (ends sizes : List ℕ) (signs : List Sign) (closed : List ℕ) → Shows o ends sizes signs closed
       → Shows (after_move o m)
       (splice ends turn.first (turn.first + turn.closed) (new_squares o m))
-      (splice sizes (first_touched turn) (first_touched turn + (open_sides turn + 1)) (sizes_after turn m.signs))
-      (splice signs (first_touched turn) (first_touched turn + open_sides turn) (filter parts m.signs))
+      (splice sizes (first_touched turn) (first_touched turn + (open_sides_of_record turn + 1)) (sizes_after turn m.signs))
+      (splice signs (first_touched turn) (first_touched turn + open_sides_of_record turn) (filter parts m.signs))
       (closed ++ slice_range ends turn.first (turn.first + turn.closed))
   shows_move ends sizes signs closed s = record {
     ends_are = ap (λ (l : List ℕ). splice l turn.first (turn.first + turn.closed) (new_squares o m)) (s.ends_are ∙ ends_were)
-        ∙ splice_at (concat v.before ++ concat v.left) v.valley (concat v.right ++ concat v.after) (new_squares o m) turn.first
+        ∙ splice-middle (concat v.before ++ concat v.left) v.valley (concat v.right ++ concat v.after) (new_squares o m) turn.first
         (turn.first + turn.closed) first_long (omega (arith, closed_is o shaped m from v f))
         ∙ sym ends_are;
-    sizes_are = ap (λ (l : List ℕ). splice l (first_touched turn) (first_touched turn + (open_sides turn + 1)) (sizes_after turn m.signs))
+    sizes_are = ap (λ (l : List ℕ). splice l (first_touched turn) (first_touched turn + (open_sides_of_record turn + 1)) (sizes_after turn m.signs))
         (s.sizes_are ∙ sizes_were)
-        ∙ splice_at (map length v.before) (map length v.left ++ (length v.valley ∷ map length v.right)) (map length v.after)
-        (sizes_after turn m.signs) (first_touched turn) (first_touched turn + (open_sides turn + 1)) start_long sizes_long
+        ∙ splice-middle (map length v.before) (map length v.left ++ (length v.valley ∷ map length v.right)) (map length v.after)
+        (sizes_after turn m.signs) (first_touched turn) (first_touched turn + (open_sides_of_record turn + 1)) start_long sizes_long
         ∙ sym sizes_are;
-    signs_are = ap (λ (l : List Sign). splice l (first_touched turn) (first_touched turn + open_sides turn) (filter parts m.signs)) (s.signs_are ∙ signs_were)
-        ∙ splice_at v.before_signs (v.left_signs ++ v.right_signs) v.after_signs (filter parts m.signs) (first_touched turn)
-        (first_touched turn + open_sides turn) start_signs signs_long
+    signs_are = ap (λ (l : List Sign). splice l (first_touched turn) (first_touched turn + open_sides_of_record turn) (filter parts m.signs)) (s.signs_are ∙ signs_were)
+        ∙ splice-middle v.before_signs (v.left_signs ++ v.right_signs) v.after_signs (filter parts m.signs) (first_touched turn)
+        (first_touched turn + open_sides_of_record turn) start_signs signs_long
         ∙ sym signs_are;
     closed_are = (λ i. s.closed_are i ++ slice_range ((s.ends_are ∙ ends_were) i) turn.first (turn.first + turn.closed))
         ∙ ap (λ (l : List ℕ). concat o.closed ++ l) middle ∙ sym closed_are;
@@ -145,7 +143,7 @@ module _ (o : Outline) (shaped : Shaped o) (m : Move) (legal : IsLegalMove o m) 
           (drop_at (concat v.before ++ concat v.left) (v.valley ++ (concat v.right ++ concat v.after)) turn.first first_long)
           ∙ take_at v.valley (concat v.right ++ concat v.after) (turn.first + turn.closed - turn.first) (omega (arith, closed_is o shaped m from v f))
 
-  -- and where it is taken back
+  -- the lists that are stored where a move is taken back
   pub shows_back : (ends sizes : List ℕ) (signs : List Sign) (closed : List ℕ) → Shows (after_move o m) ends sizes signs closed
       → Shows o
       (splice ends turn.first (turn.first + turn.count) (drop (length closed - turn.closed) closed))
@@ -154,17 +152,17 @@ module _ (o : Outline) (shaped : Shaped o) (m : Move) (legal : IsLegalMove o m) 
       (take (length closed - turn.closed) closed)
   shows_back ends sizes signs closed s = record {
     ends_are = (λ i. splice ((s.ends_are ∙ ends_are) i) turn.first (turn.first + turn.count) (last i))
-        ∙ splice_at (concat v.before ++ concat v.left) (new_squares o m) (concat v.right ++ concat v.after) v.valley turn.first
+        ∙ splice-middle (concat v.before ++ concat v.left) (new_squares o m) (concat v.right ++ concat v.after) v.valley turn.first
         (turn.first + turn.count) first_long (ap (λ n. turn.first + n) (numbers-length (length o.hung + 1) m.count))
         ∙ sym ends_were;
     sizes_are = (λ i. splice ((s.sizes_are ∙ sizes_are) i) (first_touched turn) (first_touched turn + (turn.parted + 1))
         (sizes_before_are o shaped m from v f i))
-        ∙ splice_at (map length v.before) (sizes_after turn m.signs) (map length v.after)
+        ∙ splice-middle (map length v.before) (sizes_after turn m.signs) (map length v.after)
         (map length v.left ++ (length v.valley ∷ map length v.right)) (first_touched turn) (first_touched turn + (turn.parted + 1))
         start_long (ap (λ n. first_touched turn + n) sizes_many)
         ∙ sym sizes_were;
     signs_are = (λ i. splice ((s.signs_are ∙ signs_are) i) (first_touched turn) (first_touched turn + turn.parted) (signs_before_are o shaped m from v f i))
-        ∙ splice_at v.before_signs (filter parts m.signs) v.after_signs (v.left_signs ++ v.right_signs) (first_touched turn)
+        ∙ splice-middle v.before_signs (filter parts m.signs) v.after_signs (v.left_signs ++ v.right_signs) (first_touched turn)
         (first_touched turn + turn.parted) start_signs (ap (λ n. first_touched turn + n) (length-filter parts m.signs))
         ∙ sym signs_were;
     closed_are = (λ i. take (length (whole i) - turn.closed) (whole i))

@@ -8,7 +8,7 @@ use Rattle.bk_word.specs.declared.Sign.{Sign}
 use Rattle.bk_play.proofs.SkelFacts.{Counted, Touches, counted, stored_move, touches}
 use Rattle.bk_word.proofs.PlayLaws.{moves_many}
 use Rattle.bk_play.proofs.StoredMoves.{signs_many, stored_word, turns_many}
-use Rattle.bk_play.specs.Skeleton.{IsStoredSkeleton, first_touched, moves_stored, open_sides, sizes_after, turn_at}
+use Rattle.bk_play.specs.Skeleton.{IsStoredSkeleton, first_touched, moves_stored, open_sides_of_record, sizes_after, turn_at}
 use Rattle.bk_play.specs.declared.turns.MoveRecord.{MoveRecord}
 
 -- the move is legal, at most so many squares hang after it, and what it needs of the lists is there
@@ -24,10 +24,10 @@ pub record Playing (most : ℕ) (w : Word) (m : Move) (ends sizes : List ℕ) (s
   pub ends_fit : length ends - turn.closed + m.count ≤ most
   pub sizes_few : length sizes ≤ most
   pub signs_few : length signs ≤ most
-  pub sizes_within : first_touched turn + (open_sides turn + 1) ≤ length sizes
-  pub signs_within : first_touched turn + open_sides turn ≤ length signs
-  pub sizes_fit : length sizes - (open_sides turn + 1) + (turn.parted + 1) ≤ most
-  pub signs_fit : length signs - open_sides turn + turn.parted ≤ most
+  pub sizes_within : first_touched turn + (open_sides_of_record turn + 1) ≤ length sizes
+  pub signs_within : first_touched turn + open_sides_of_record turn ≤ length signs
+  pub sizes_fit : length sizes - (open_sides_of_record turn + 1) + (turn.parted + 1) ≤ most
+  pub signs_fit : length signs - open_sides_of_record turn + turn.parted ≤ most
   pub small : turn.left + length m.signs + turn.right ≤ most + 1
   pub played_fit : length played + length m.signs ≤ 2 * most
   pub turns_fit : length turns < most
@@ -65,7 +65,7 @@ playing_at most h w m ends sizes signs closed turns played turn s legal few e = 
         (sym (e ∙ (λ i. turn_at ((s.shows).sizes_are i) ((s.shows).signs_are i) m (length played))))
         (touches most w m ends sizes signs closed (length played) s.kept s.shows legal few)
 
--- the same where the values are read
+-- a legal move of few squares has room in all lists, where their values are read
 pub playing_within : (most : ℕ) → most ≤ 200 → {w : Word} {ends sizes : List ℕ} {signs : List Sign} {closed : List ℕ} {turns : List MoveRecord}
     {played : List Sign} {now : Word} {count : ℕ} {moved : List Sign} {m : Move} {turn : MoveRecord} {read_sizes : List ℕ}
     {read_signs read_moved : List Sign} {from : ℕ}
@@ -81,7 +81,7 @@ playing_within most within {w} {ends} {sizes} {signs} {closed} {turns} {played} 
     (omega (arith, few, ap order_of e, ap (λ (m : Move). m.count) f))
     (g ∙ (λ i. turn_at (a i) (b i) (record { count = count; signs = d i }) (h i)))
 
--- and where at most 200 squares hang after the move
+-- a legal move has room in all lists where at most 200 squares hang after it
 pub playing : {w : Word} {ends sizes : List ℕ} {signs : List Sign} {closed : List ℕ} {turns : List MoveRecord} {played : List Sign}
     → {now : Word} {count : ℕ} {moved : List Sign} {m : Move} {turn : MoveRecord} {read_sizes : List ℕ} {read_signs read_moved : List Sign} {from : ℕ}
     → IsStoredSkeleton w ends sizes signs closed turns played → w ≡ now → record { count = count; signs = moved } ≡ m
@@ -105,8 +105,8 @@ stored_shown w ends sizes signs closed turns played s = subst (λ (v : Word). Is
 pub record Played (m : Move) (ends sizes : List ℕ) (signs : List Sign) (closed : List ℕ) (turns : List MoveRecord) (played : List Sign) (turn : MoveRecord)
     (new_ends new_sizes : List ℕ) (new_signs : List Sign) (new_closed : List ℕ) (new_turns : List MoveRecord) (new_played : List Sign) : Type 0 where
   pub ends_new : new_ends ≡ splice ends turn.first (turn.first + turn.closed) (numbers_from (length ends + length closed + 1) m.count)
-  pub sizes_new : new_sizes ≡ splice sizes (first_touched turn) (first_touched turn + (open_sides turn + 1)) (sizes_after turn m.signs)
-  pub signs_new : new_signs ≡ splice signs (first_touched turn) (first_touched turn + open_sides turn) (filter parts m.signs)
+  pub sizes_new : new_sizes ≡ splice sizes (first_touched turn) (first_touched turn + (open_sides_of_record turn + 1)) (sizes_after turn m.signs)
+  pub signs_new : new_signs ≡ splice signs (first_touched turn) (first_touched turn + open_sides_of_record turn) (filter parts m.signs)
   pub closed_new : new_closed ≡ closed ++ slice_range ends turn.first (turn.first + turn.closed)
   pub turns_new : new_turns ≡ turns ++ turn ∷ []
   pub played_new : new_played ≡ played ++ m.signs
@@ -127,15 +127,15 @@ stored_played {w = w} {m = m} {ends = ends} {sizes = sizes} {signs = signs} {clo
     new_turns new_played) (sym n.sizes_new)
     (subst (λ (l : List Sign). IsStoredSkeleton (w ++ m ∷ [])
     (splice ends turn.first (turn.first + turn.closed) (numbers_from (length ends + length closed + 1) m.count))
-    (splice sizes (first_touched turn) (first_touched turn + (open_sides turn + 1)) (sizes_after turn m.signs)) l new_closed new_turns
+    (splice sizes (first_touched turn) (first_touched turn + (open_sides_of_record turn + 1)) (sizes_after turn m.signs)) l new_closed new_turns
     new_played) (sym n.signs_new)
     (subst (λ (l : List ℕ). IsStoredSkeleton (w ++ m ∷ [])
     (splice ends turn.first (turn.first + turn.closed) (numbers_from (length ends + length closed + 1) m.count))
-    (splice sizes (first_touched turn) (first_touched turn + (open_sides turn + 1)) (sizes_after turn m.signs))
-    (splice signs (first_touched turn) (first_touched turn + open_sides turn) (filter parts m.signs)) l new_turns new_played) (sym n.closed_new)
+    (splice sizes (first_touched turn) (first_touched turn + (open_sides_of_record turn + 1)) (sizes_after turn m.signs))
+    (splice signs (first_touched turn) (first_touched turn + open_sides_of_record turn) (filter parts m.signs)) l new_turns new_played) (sym n.closed_new)
     (subst (λ (l : List MoveRecord × List Sign). IsStoredSkeleton (w ++ m ∷ [])
     (splice ends turn.first (turn.first + turn.closed) (numbers_from (length ends + length closed + 1) m.count))
-    (splice sizes (first_touched turn) (first_touched turn + (open_sides turn + 1)) (sizes_after turn m.signs))
-    (splice signs (first_touched turn) (first_touched turn + open_sides turn) (filter parts m.signs))
+    (splice sizes (first_touched turn) (first_touched turn + (open_sides_of_record turn + 1)) (sizes_after turn m.signs))
+    (splice signs (first_touched turn) (first_touched turn + open_sides_of_record turn) (filter parts m.signs))
     (closed ++ slice_range ends turn.first (turn.first + turn.closed)) l.0 l.1) (λ i. (sym n.turns_new i, sym n.played_new i))
     (stored_move w m ends sizes signs closed turns played turn s p.legal p.few p.turn_is)))))

@@ -1,20 +1,20 @@
 -- How many squares each move closes and hangs, as the records of a skeleton say, and the numbers of the closed squares.
-use Rattle.std.proofs.Common.{List, [], ap, arith, cond, length, map, nat_eq, refl, slice_index, suc, sum, sym, zero, ℕ, ◌++◌, ◌+◌, ◌<◌, ◌∙◌, ◌∷◌, ◌≡◌, ◌≤◌}
-use Rattle.std.proofs.lemmas.Bool.Decides.{nat_tests}
+use Rattle.std.proofs.Common.{List, [], ap, arith, length, map, refl, slice_index, sum, sym, ℕ, ◌++◌, ◌+◌, ◌<◌, ◌∙◌, ◌∷◌, ◌≡◌, ◌≤◌}
 use Rattle.std.proofs.lemmas.List.{append-nil, append_assoc, map-append}
 use Rattle.std.proofs.lemmas.List.Sums.{sum_by-cons}
-use Rattle.bk_laws.proofs.Occurrences.{times, times-concat, times_in-append}
+use Rattle.bk_laws.proofs.Occurrences.{times, times-concat, times-slice_index_positive, times_in-append}
+use Rattle.bk_laws.proofs.ListItems.{slice_index-map_length}
+use Rattle.bk_laws.proofs.Sums.{sum-map_length}
 use Rattle.bk_word.proofs.StoredBytes.{order_more}
 use Rattle.bk_word.specs.Outline.{Outline, sizes_of, start, valley_of, valley_place}
 use Rattle.bk_word.specs.Play.{after_move, after_moves, outline_of}
 use Rattle.bk_word.specs.Word.{Word, order_of}
 use Rattle.bk_word.specs.declared.Sign.{Sign}
-use Rattle.bk_word_net.proofs.Numbering.{numbered_moves, numbered_start}
-use Rattle.bk_word_net.proofs.NoLoose.{hung_number}
-use Rattle.bk_play.proofs.SkelReads.{counted_in, size_index}
-use Rattle.bk_play.proofs.TurnParts.{sum_lengths}
+use Rattle.bk_word_net.proofs.Outlines.Numbering.{numbered_moves, numbered_start}
+use Rattle.bk_word_net.proofs.WordFlows.NoLoose.{hung_number}
+use Rattle.bk_play.proofs.SkelReads.{counted_in}
 use Rattle.bk_play.specs.Skeleton.{IsStoredSkeleton, turns_from}
-use Rattle.bk_play.specs.Wiring.{AreNumbers, closed_of, counts_of}
+use Rattle.bk_play.specs.Wiring.{AreNumbers, closed_of, hung_and_closed}
 use Rattle.bk_play.specs.declared.turns.MoveRecord.{MoveRecord}
 
 -- how many squares the records say that each move closes and hangs
@@ -22,12 +22,12 @@ pub closed_turns : (o : Outline) (from : ℕ) (w : Word) → map length (after_m
 closed_turns o from [] = sym (append-nil (map length o.closed))
 closed_turns o from (m ∷ w) = closed_turns (after_move o m) (from + length m.signs) w
     ∙ ap (λ (l : List ℕ). l ++ closed_of (turns_from (after_move o m) (from + length m.signs) w))
-    (map-append length o.closed (valley_of o ∷ []) ∙ ap (λ n. map length o.closed ++ n ∷ []) (sym (size_index o.segments (valley_place o.signs))))
+    (map-append length o.closed (valley_of o ∷ []) ∙ ap (λ n. map length o.closed ++ n ∷ []) (sym (slice_index-map_length o.segments (valley_place o.signs))))
     ∙ append_assoc (map length o.closed) (slice_index (sizes_of o) (valley_place o.signs) ∷ [])
     (closed_of (turns_from (after_move o m) (from + length m.signs) w))
 
 -- the records say how many squares each move hangs
-pub counts_turns : (o : Outline) (from : ℕ) (w : Word) → counts_of (turns_from o from w) ≡ map (λ m. m.count) w
+pub counts_turns : (o : Outline) (from : ℕ) (w : Word) → hung_and_closed (turns_from o from w) ≡ map (λ m. m.count) w
 counts_turns o from [] = refl
 counts_turns o from (m ∷ w) = ap (λ (l : List ℕ). m.count ∷ l) (counts_turns (after_move o m) (from + length m.signs) w)
 
@@ -35,14 +35,6 @@ counts_turns o from (m ∷ w) = ap (λ (l : List ℕ). m.count ∷ l) (counts_tu
 pub counts_sum : (w : Word) → sum (map (λ m. m.count) w) ≡ order_of w
 counts_sum [] = refl
 counts_sum (m ∷ w) = omega (arith, sum_by-cons (λ (n : ℕ). n) m.count (map (λ m. m.count) w), order_more m w, counts_sum w)
-
-times_here : (xs : List ℕ) (i : ℕ) → i < length xs → 0 < times (slice_index xs i) xs
-times_here [] i h = absurd (omega arith)
-times_here (x ∷ xs) zero h = omega (arith, same x)
-  where
-    same : (x : ℕ) → ◌≡◌ {A = ℕ} (cond (nat_eq x x) 1 0) 1
-    same x = grind (arith, nat_tests)
-times_here (x ∷ xs) (suc i) h = omega (arith, times_here xs i (omega arith))
 
 -- the numbers of the closed squares are those of squares
 pub closed_numbers : {w : Word} {ends sizes : List ℕ} {signs : List Sign} {closed : List ℕ} {turns : List MoveRecord} {played : List Sign}
@@ -53,7 +45,7 @@ closed_numbers {w = w} {closed = closed} s =
     number : (i : ℕ) → i < length closed → (1 ≤ slice_index closed i) × (slice_index closed i ≤ length (outline_of w).hung)
     number i h = hung_number (outline_of w) (numbered_moves start w numbered_start) (slice_index closed i) (omega (
       arith,
-      times_here closed i h,
+      times-slice_index_positive closed i h,
       ap (times (slice_index closed i)) (s.shows).closed_are,
       times-concat (slice_index closed i) (outline_of w).closed,
       times_in-append (slice_index closed i) (outline_of w).closed (outline_of w).segments,
@@ -67,4 +59,4 @@ closed_sizes {w = w} s = ap closed_of s.turns_are ∙ sym (closed_turns start 0 
 -- as many squares are closed as the records say
 pub closed_many : {w : Word} {ends sizes : List ℕ} {signs : List Sign} {closed : List ℕ} {turns : List MoveRecord} {played : List Sign}
     → IsStoredSkeleton w ends sizes signs closed turns played → length closed ≡ sum (closed_of turns)
-closed_many {w = w} s = ap length (s.shows).closed_are ∙ sym (sum_lengths (outline_of w).closed) ∙ ap sum (sym (closed_sizes s))
+closed_many {w = w} s = ap length (s.shows).closed_are ∙ sym (sum-map_length (outline_of w).closed) ∙ ap sum (sym (closed_sizes s))

@@ -4,21 +4,22 @@ use Rattle.std.proofs.Common.{List, [], ap, arith, count_by, filter, inl, inr, l
 use Rattle.std.proofs.Common.{◌+◌, ◌-◌, ◌∙◌, ◌∷◌, ◌≡◌, ◌≤◌, ◌⊎◌}
 use Rattle.std.proofs.lemmas.List.Sums.{length-filter}
 use Rattle.std.proofs.lemmas.List.{length-append, length-map, length-replicate}
+use Rattle.bk_laws.proofs.Sums.{sum-map_length}
 use Rattle.bk_word.proofs.StoredBytes.{order_one}
 use Rattle.bk_word.specs.Outline.{IsLegalMove, Outline, sizes_of, start}
 use Rattle.bk_word.specs.Play.{after_move, joined, new_squares, numbers_from, outline_of, parts}
 use Rattle.bk_word.specs.Word.{Move, Word, order_of}
 use Rattle.bk_word.specs.declared.Sign.{Sign}
-use Rattle.bk_word_net.proofs.OutlineParts.{many_segments, many_signs}
-use Rattle.bk_word_net.proofs.MovedParts.{many_between, segments_after}
+use Rattle.bk_word_net.proofs.Outlines.OutlineParts.{many_segments, many_signs}
+use Rattle.bk_word_net.proofs.Outlines.MovedParts.{many_between, segments_after}
 use Rattle.bk_play.proofs.PlayedFlat.{ends_were, shows_move}
-use Rattle.bk_word_net.proofs.Shape.{AllFilled, Filled, Shaped, filled_many, filled_move, filled_parts, hung_many, joined_many, shaped_move}
-use Rattle.bk_word_net.proofs.Shape.{shaped_moves, shaped_start, valley_in}
+use Rattle.bk_word_net.proofs.Outlines.Shape.{AllFilled, Filled, Shaped, filled_many, filled_move, filled_parts, hung_many, joined_many, shaped_move}
+use Rattle.bk_word_net.proofs.Outlines.Shape.{shaped_moves, shaped_start, valley_in}
 use Rattle.bk_word.proofs.PlayLaws.{after-snoc, few_signs, legal-snoc}
 use Rattle.bk_play.proofs.StoredMoves.{signs-snoc, turns-snoc}
-use Rattle.bk_play.proofs.TurnParts.{closed_is, first_is, left_is, right_is, sides_are, start_is, sum_lengths}
-use Rattle.bk_word_net.proofs.ValleyCut.{AtValley}
-use Rattle.bk_play.specs.Skeleton.{IsStoredSkeleton, Shows, first_touched, open_sides, signs_of, sizes_after, turn_at}
+use Rattle.bk_play.proofs.TurnParts.{closed_is, first_is, left_is, right_is, sides_are, start_is}
+use Rattle.bk_word_net.proofs.Outlines.ValleyCut.{AtValley}
+use Rattle.bk_play.specs.Skeleton.{IsStoredSkeleton, Shows, first_touched, open_sides_of_record, signs_of, sizes_after, turn_at}
 use Rattle.bk_play.specs.Valley.{IsKeptSkeleton}
 use Rattle.bk_play.specs.declared.turns.MoveRecord.{MoveRecord}
 
@@ -42,7 +43,7 @@ counted w ends sizes signs closed kept s = record {
   many = omega (arith, long, shaped.many, ap length s.signs_are);
   few = few shaped.filled;
   filled = filled shaped.filled;
-  total = ap sum s.sizes_are ∙ sum_lengths (outline_of w).segments ∙ sym (ap length s.ends_are);
+  total = ap sum s.sizes_are ∙ sum-map_length (outline_of w).segments ∙ sym (ap length s.ends_are);
 }
   where
     shaped : Shaped (outline_of w)
@@ -65,10 +66,10 @@ counted w ends sizes signs closed kept s = record {
 -- the numbers of what a legal move touches, where at most so many squares hang after it
 pub record Touches (most : ℕ) (w : Word) (m : Move) (ends sizes : List ℕ) (signs : List Sign) (closed : List ℕ) (turn : MoveRecord) : Type 0 where
   pub first : turn.first + turn.closed ≤ length ends
-  pub sizes_within : first_touched turn + (open_sides turn + 1) ≤ length sizes
-  pub signs_within : first_touched turn + open_sides turn ≤ length signs
-  pub sizes_fit : length sizes - (open_sides turn + 1) + (turn.parted + 1) ≤ most
-  pub signs_fit : length signs - open_sides turn + turn.parted ≤ most
+  pub sizes_within : first_touched turn + (open_sides_of_record turn + 1) ≤ length sizes
+  pub signs_within : first_touched turn + open_sides_of_record turn ≤ length signs
+  pub sizes_fit : length sizes - (open_sides_of_record turn + 1) + (turn.parted + 1) ≤ most
+  pub signs_fit : length signs - open_sides_of_record turn + turn.parted ≤ most
   pub beside : turn.left + turn.closed + turn.right ≤ length ends
   pub few_signs : length m.signs ≤ m.count + 1
 
@@ -145,16 +146,16 @@ pub stored_move : (w : Word) (m : Move) (ends sizes : List ℕ) (signs : List Si
     → turn ≡ turn_at sizes signs m (length played)
     → IsStoredSkeleton (w ++ m ∷ [])
     (splice ends turn.first (turn.first + turn.closed) (numbers_from (length ends + length closed + 1) m.count))
-    (splice sizes (first_touched turn) (first_touched turn + (open_sides turn + 1)) (sizes_after turn m.signs))
-    (splice signs (first_touched turn) (first_touched turn + open_sides turn) (filter parts m.signs))
+    (splice sizes (first_touched turn) (first_touched turn + (open_sides_of_record turn + 1)) (sizes_after turn m.signs))
+    (splice signs (first_touched turn) (first_touched turn + open_sides_of_record turn) (filter parts m.signs))
     (closed ++ slice_range ends turn.first (turn.first + turn.closed))
     (turns ++ turn ∷ [])
     (played ++ m.signs)
 stored_move w m ends sizes signs closed turns played turn s legal room e = record {
   kept = record { legal = legal-snoc start w m (s.kept).legal legal; few = omega (arith, order_one w m, room) };
   shows = subst (λ (o : Outline). Shows o (splice ends turn.first (turn.first + turn.closed) (numbers_from (length ends + length closed + 1) m.count))
-      (splice sizes (first_touched turn) (first_touched turn + (open_sides turn + 1)) (sizes_after turn m.signs))
-      (splice signs (first_touched turn) (first_touched turn + open_sides turn) (filter parts m.signs))
+      (splice sizes (first_touched turn) (first_touched turn + (open_sides_of_record turn + 1)) (sizes_after turn m.signs))
+      (splice signs (first_touched turn) (first_touched turn + open_sides_of_record turn) (filter parts m.signs))
       (closed ++ slice_range ends turn.first (turn.first + turn.closed))) (sym (after-snoc start w m)) shown;
   turns_are = (λ i. s.turns_are i ++ turn_is i ∷ []) ∙ sym (turns-snoc start 0 w m);
   played_are = (λ i. s.played_are i ++ m.signs) ∙ sym (signs-snoc w m);
@@ -173,17 +174,17 @@ stored_move w m ends sizes signs closed turns played turn s legal room e = recor
     number = omega (arith, c.all, c.hung)
 
     shown : Shows (after_move (outline_of w) m) (splice ends turn.first (turn.first + turn.closed) (numbers_from (length ends + length closed + 1) m.count))
-        (splice sizes (first_touched turn) (first_touched turn + (open_sides turn + 1)) (sizes_after turn m.signs))
-        (splice signs (first_touched turn) (first_touched turn + open_sides turn) (filter parts m.signs))
+        (splice sizes (first_touched turn) (first_touched turn + (open_sides_of_record turn + 1)) (sizes_after turn m.signs))
+        (splice signs (first_touched turn) (first_touched turn + open_sides_of_record turn) (filter parts m.signs))
         (closed ++ slice_range ends turn.first (turn.first + turn.closed))
     shown = subst (λ (t : MoveRecord). Shows (after_move (outline_of w) m)
         (splice ends t.first (t.first + t.closed) (numbers_from (length ends + length closed + 1) m.count))
-        (splice sizes (first_touched t) (first_touched t + (open_sides t + 1)) (sizes_after t m.signs))
-        (splice signs (first_touched t) (first_touched t + open_sides t) (filter parts m.signs))
+        (splice sizes (first_touched t) (first_touched t + (open_sides_of_record t + 1)) (sizes_after t m.signs))
+        (splice signs (first_touched t) (first_touched t + open_sides_of_record t) (filter parts m.signs))
         (closed ++ slice_range ends t.first (t.first + t.closed))) (sym turn_was)
         (subst (λ (n : ℕ). let t : MoveRecord = turn_at (sizes_of (outline_of w)) (outline_of w).signs m (length played) in
         Shows (after_move (outline_of w) m) (splice ends t.first (t.first + t.closed) (numbers_from n m.count))
-        (splice sizes (first_touched t) (first_touched t + (open_sides t + 1)) (sizes_after t m.signs))
-        (splice signs (first_touched t) (first_touched t + open_sides t) (filter parts m.signs))
+        (splice sizes (first_touched t) (first_touched t + (open_sides_of_record t + 1)) (sizes_after t m.signs))
+        (splice signs (first_touched t) (first_touched t + open_sides_of_record t) (filter parts m.signs))
         (closed ++ slice_range ends t.first (t.first + t.closed))) (sym number)
         (shows_move (outline_of w) c.shaped m legal (length played) ends sizes signs closed s.shows))

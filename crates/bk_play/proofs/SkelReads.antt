@@ -1,14 +1,15 @@
 -- What is read of a skeleton: its segments and its moves.
 use Rattle.std.proofs.Common.{List, Some, [], ap, arith, get_or, length, map, refl, slice_get, slice_index, slice_index_or, slice_range}
 use Rattle.std.proofs.Common.{subst, suc, sum, sym, take, zero, ℕ, ◌++◌, ◌+◌, ◌<◌, ◌∙◌, ◌∷◌, ◌≡◌, ◌≤◌}
-use Rattle.std.proofs.lemmas.List.Sums.{sum_by-take-drop}
 use Rattle.std.proofs.lemmas.List.{length-append, length-map}
+use Rattle.bk_laws.proofs.ListPlaces.{slice_get-map_get_or}
+use Rattle.bk_laws.proofs.Sums.{sum-take_suc}
 use Rattle.bk_word.proofs.StoredBytes.{order_more}
 use Rattle.bk_word.specs.Outline.{Outline, start, valley_place}
 use Rattle.bk_word.specs.Play.{AreLegalFrom, after_move}
 use Rattle.bk_word.specs.Word.{Word, order_of}
 use Rattle.bk_word.specs.declared.Sign.{Sign}
-use Rattle.bk_play.proofs.EndNodes.{CutAt, cut_at, here_is, sum_next}
+use Rattle.bk_play.proofs.EndNodes.{CutAt, cut_at, here_is}
 use Rattle.bk_play.proofs.SkelFacts.{Counted, counted}
 use Rattle.bk_word.proofs.PlayLaws.{few_signs}
 use Rattle.bk_play.specs.Skeleton.{IsStoredSkeleton, Shows, move_of, moves_stored, signs_of, turns_from}
@@ -18,12 +19,6 @@ use Rattle.bk_play.specs.declared.turns.MoveRecord.{MoveRecord}
 pub counted_in : {w : Word} {ends sizes : List ℕ} {signs : List Sign} {closed : List ℕ} {turns : List MoveRecord} {played : List Sign}
     → IsStoredSkeleton w ends sizes signs closed turns played → Counted w ends sizes signs closed
 counted_in {w = w} {ends = ends} {sizes = sizes} {signs = signs} {closed = closed} s = counted w ends sizes signs closed s.kept s.shows
-
--- how many items the list at a place has; none past the last list
-pub size_index : (lists : List (List ℕ)) (n : ℕ) → slice_index (map length lists) n ≡ length (slice_index_or lists n [])
-size_index [] n = refl
-size_index (s ∷ lists) zero = refl
-size_index (s ∷ lists) (suc n) = size_index lists n
 
 list_at : (lists : List (List ℕ)) (n : ℕ) (c : CutAt lists n) → slice_index_or lists n [] ≡ c.here
 list_at lists n c = ap (λ (l : List (List ℕ)). slice_index_or l n []) c.whole ∙ go c.front n c.long
@@ -46,7 +41,7 @@ segment_read o ends sizes signs closed place s h =
     cut = cut_at o.segments place (omega (arith, ap length s.sizes_are, length-map o.segments (length {A = ℕ})))
 
     next : sum (take place sizes) + slice_index sizes place ≡ sum (take (suc place) (map length o.segments))
-    next = sym (sum_next sizes place h) ∙ ap (λ (l : List ℕ). sum (take (suc place) l)) s.sizes_are
+    next = sym (sum-take_suc sizes place h) ∙ ap (λ (l : List ℕ). sum (take (suc place) l)) s.sizes_are
 
 -- the signs of a move, where it is read
 pub record Spans (turn : MoveRecord) (end : ℕ) : Type 0 where
@@ -70,30 +65,20 @@ turn_spans o from (m ∷ w) legal few (suc i) d h = let r =
       few = r.few;
     }
 
--- and so among those stored
+-- the signs of each move stand among those stored
 pub span_in : {w : Word} {ends sizes : List ℕ} {signs : List Sign} {closed : List ℕ} {turns : List MoveRecord} {played : List Sign}
     → IsStoredSkeleton w ends sizes signs closed turns played → (i : ℕ) (d : MoveRecord) → i < length w → Spans (get_or turns i d) (length played)
 span_in {w = w} {turns = turns} {played = played} s i d h = subst (λ (l : List MoveRecord). Spans (get_or l i d) (length played)) (sym s.turns_are)
     (subst (λ (n : ℕ). Spans (get_or (turns_from start 0 w) i d) n) (omega (arith, ap length s.played_are))
     (turn_spans start 0 w (s.kept).legal (s.kept).few i d h))
 
--- what stands at a place of a mapped list
-pub get_map : {A B : Type 0} (f : A → B) (xs : List A) (i : ℕ) (d : A) → i < length xs → slice_get (map f xs) i ≡ Some (f (get_or xs i d))
-get_map f [] i d h = absurd (omega arith)
-get_map f (x ∷ xs) zero d h = refl
-get_map f (x ∷ xs) (suc i) d h = get_map f xs i d (omega arith)
-
 -- the move at a place, as it is read
 pub move_read : (w : Word) (turns : List MoveRecord) (played read : List Sign) (i : ℕ) (d : MoveRecord) → moves_stored turns played ≡ w → i < length w
     → read ≡ slice_range played (get_or turns i d).from (get_or turns i d).to
     → slice_get w i ≡ Some (record { count = (get_or turns i d).count; signs = read })
 move_read w turns played read i d whole h e = ap (λ (l : Word). slice_get l i) (sym whole)
-    ∙ get_map (move_of played) turns i d (omega (arith, ap length whole, length-map turns (move_of played)))
+    ∙ slice_get-map_get_or (move_of played) turns i d (omega (arith, ap length whole, length-map turns (move_of played)))
     ∙ (λ j. Some (record { count = (get_or turns i d).count; signs = sym e j }))
-
--- a front of a list of numbers has no more than all
-pub sum_of_front : (xs : List ℕ) (n : ℕ) → sum (take n xs) ≤ sum xs
-sum_of_front xs n = omega (arith, sum_by-take-drop (λ (k : ℕ). k) xs n)
 
 -- where the squares of a segment end, as it is read
 pub reads_segment : (sizes once again : List ℕ) (signs : List Sign) (place first size : ℕ) → sizes ≡ again → once ≡ again
@@ -107,5 +92,5 @@ reads_segment sizes once again signs place first size e f at begins is within =
       ap (λ (l : List ℕ). sum (take place l)) e,
       is,
       ap (λ (l : List ℕ). slice_index l place) f,
-      sum_next again place within,
+      sum-take_suc again place within,
     )

@@ -6,9 +6,9 @@ use Rattle.bk_word.specs.Outline.{sizes_of, start}
 use Rattle.bk_word.specs.Play.{outline_of}
 use Rattle.bk_word.specs.Word.{Move}
 use Rattle.bk_word.specs.declared.Sign.TheVariants.{Even, Under}
-use Rattle.bk_play.specs.Skeleton.{Shows, first_touched, joined_sizes, moves_stored, open_sides, signs_before, signs_of, sizes_after}
+use Rattle.bk_play.specs.Skeleton.{Shows, first_touched, joined_sizes, moves_stored, open_sides_of_record, signs_before, signs_of, sizes_after}
 use Rattle.bk_play.specs.Skeleton.{sizes_before, turns_from, with_parted}
-use Rattle.bk_play.specs.SmallSkeleton.{IsValley, StandsAt}
+use Rattle.bk_play.specs.SmallSkeleton.{IsValleyPlace, StandsAt}
 use Rattle.bk_play.specs.TurnRecord.{SaysWhere}
 use Rattle.bk_play.specs.Valley.{leftmost_valley}
 use Rattle.bk_play.specs.declared.turns.MoveRecord.{MoveRecord}
@@ -65,7 +65,7 @@ stored = refl
 touched : first_touched turn_3 ≡ 0
 touched = refl
 
-sides : open_sides turn_3 ≡ 1
+sides : open_sides_of_record turn_3 ≡ 1
 sides = refl
 
 sizes : sizes_before turn_3 ≡ 2 ∷ 1 ∷ []
@@ -97,5 +97,5 @@ stands : StandsAt (2 ∷ 1 ∷ []) (Under ∷ []) 1 2
 stands = record { place_is = refl; first_is = refl }
 
 -- and has square 4 alone
-valley : IsValley (take 2 staircase) (record { place = 1; start = 2; end = 3 })
+valley : IsValleyPlace (take 2 staircase) (record { place = 1; start = 2; end = 3 })
 valley = record { stands = stands; end_is = refl }

@@ -7,7 +7,7 @@ use Rattle.bk_word.specs.Play.{numbers_from, outline_of, parts}
 use Rattle.bk_word.specs.Word.{Move, Word, order_of}
 use Rattle.bk_word.specs.declared.Sign.{Sign}
 use Rattle.bk_play.proofs.Playing.{Played, Playing, moves_shown, playing_within, stored_played, stored_shown}
-use Rattle.bk_play.specs.Skeleton.{IsStoredSkeleton, first_touched, moves_stored, open_sides, sizes_after, turn_at, with_parted}
+use Rattle.bk_play.specs.Skeleton.{IsStoredSkeleton, first_touched, moves_stored, open_sides_of_record, sizes_after, turn_at, with_parted}
 use Rattle.bk_play.specs.SmallSkeleton.{IsStoredSmall, StandsAt}
 use Rattle.bk_play.specs.declared.turns.MoveRecord.{MoveRecord}
 
@@ -17,15 +17,15 @@ pub played_lists : {most : ℕ} {w : Word} {m : Move} {ends sizes : List ℕ} {s
     {new_turns : List MoveRecord} {new_played moved : List Sign}
     → Playing most w m ends sizes signs closed turns played turn → moved ≡ m.signs
     → new_ends ≡ splice ends turn.first (turn.first + turn.closed) (numbers_from (length ends + length closed + 1) turn.count)
-    → new_sizes ≡ splice sizes (first_touched turn) (first_touched turn + (open_sides turn + 1)) (sizes_after turn moved)
-    → new_signs ≡ splice signs (first_touched turn) (first_touched turn + open_sides turn) (filter parts moved)
+    → new_sizes ≡ splice sizes (first_touched turn) (first_touched turn + (open_sides_of_record turn + 1)) (sizes_after turn moved)
+    → new_signs ≡ splice signs (first_touched turn) (first_touched turn + open_sides_of_record turn) (filter parts moved)
     → new_closed ≡ closed ++ slice_range ends turn.first (turn.first + turn.closed)
     → new_turns ≡ turns ++ turn ∷ [] → new_played ≡ played ++ m.signs
     → Played m ends sizes signs closed turns played turn new_ends new_sizes new_signs new_closed new_turns new_played
 played_lists {ends = ends} {sizes = sizes} {signs = signs} {closed = closed} {turn = turn} p own e f g h j k = record {
   ends_new = e ∙ (λ i. splice ends turn.first (turn.first + turn.closed) (numbers_from (length ends + length closed + 1) ((p.turn_is) i).count));
-  sizes_new = f ∙ (λ i. splice sizes (first_touched turn) (first_touched turn + (open_sides turn + 1)) (sizes_after turn (own i)));
-  signs_new = g ∙ (λ i. splice signs (first_touched turn) (first_touched turn + open_sides turn) (filter parts (own i)));
+  sizes_new = f ∙ (λ i. splice sizes (first_touched turn) (first_touched turn + (open_sides_of_record turn + 1)) (sizes_after turn (own i)));
+  signs_new = g ∙ (λ i. splice signs (first_touched turn) (first_touched turn + open_sides_of_record turn) (filter parts (own i)));
   closed_new = h;
   turns_new = j;
   played_new = k;

@@ -98,7 +98,7 @@ fewer_before w some = fewer (last_move w some)
       order_one r.front r.last,
     )
 
--- and the lists store few squares, of the moves that they show
+-- the lists after the last move is taken back store few squares, of the moves that they show
 pub small_kept_back : {w : Word} {ends sizes : List ℕ} {signs : List Sign} {closed : List ℕ} {turns : List MoveRecord} {played : List Sign}
     {before : SmallOutline} {new_ends new_sizes : List ℕ} {new_signs : List Sign} {new_closed : List ℕ} {new_turns : List MoveRecord}
     {new_played : List Sign} {place first : ℕ}

@@ -15,11 +15,11 @@ use Rattle.bk_word.proofs.PlayLaws.{few_signs}
 pub signs-cons : (n : Move) (w : Word) → signs_of (n ∷ w) ≡ n.signs ++ signs_of w
 signs-cons n w = refl
 
--- and with a further move its signs come last
+-- the signs of a word with a further move end with those of the move
 pub signs-snoc : (w : Word) (m : Move) → signs_of (w ++ m ∷ []) ≡ signs_of w ++ m.signs
 signs-snoc w m = flat_map-append (λ (m : Move). m.signs) w (m ∷ []) ∙ ap (λ (l : List Sign). signs_of w ++ l) (append-nil m.signs)
 
--- and its record comes last
+-- the records of a word with a further move end with that of the move
 pub turns-snoc : (o : Outline) (from : ℕ) (w : Word) (m : Move)
     → turns_from o from (w ++ m ∷ []) ≡ turns_from o from w
     ++ turn_at (sizes_of (after_moves o w)) (after_moves o w).signs m (from + length (signs_of w)) ∷ []

@@ -1,17 +1,17 @@
 -- What is stored of a skeleton whose last move is taken back.
 use Rattle.std.specs.List.{splice}
-use Rattle.std.proofs.Common.{List, [], ap, arith, drop, length, subst, sym, take, take_all, ℕ, ◌++◌, ◌+◌, ◌-◌, ◌<◌, ◌∙◌, ◌∷◌, ◌≡◌, ◌≤◌}
-use Rattle.std.proofs.lemmas.List.{length-append, length-drop, same_from_push, take_at}
+use Rattle.std.proofs.Common.{List, [], ap, arith, drop, length, subst, sym, take, ℕ, ◌++◌, ◌+◌, ◌-◌, ◌<◌, ◌∙◌, ◌∷◌, ◌≡◌, ◌≤◌}
+use Rattle.std.proofs.lemmas.List.{length-append, same_from_push, take_at}
 use Rattle.bk_word.proofs.StoredBytes.{order_one}
 use Rattle.bk_word.specs.Outline.{IsLegalMove, Outline, sizes_of, start}
 use Rattle.bk_word.specs.Play.{after_move, outline_of}
 use Rattle.bk_word.specs.Word.{Move, Word, order_of}
 use Rattle.bk_word.specs.declared.Sign.{Sign}
 use Rattle.bk_play.proofs.PlayedFlat.{shows_back}
-use Rattle.bk_word_net.proofs.Shape.{Shaped, shaped_moves, shaped_start}
+use Rattle.bk_word_net.proofs.Outlines.Shape.{Shaped, shaped_moves, shaped_start}
 use Rattle.bk_play.proofs.StoredMoves.{Ends, last_move, signs-snoc, turns-snoc}
 use Rattle.bk_word.proofs.PlayLaws.{after-snoc, legal-last, legal_front}
-use Rattle.bk_play.specs.Skeleton.{IsStoredSkeleton, Shows, first_touched, moves_stored, open_sides, signs_before, signs_of, sizes_before, turn_at}
+use Rattle.bk_play.specs.Skeleton.{IsStoredSkeleton, Shows, first_touched, moves_stored, open_sides_of_record, signs_before, signs_of, sizes_before, turn_at}
 use Rattle.bk_play.specs.Skeleton.{turns_from}
 use Rattle.bk_play.specs.Valley.{IsKeptSkeleton}
 use Rattle.bk_play.specs.declared.turns.MoveRecord.{MoveRecord}
@@ -35,8 +35,8 @@ pub record TakesBack (w : Word) (ends sizes : List ℕ) (signs : List Sign) (clo
   pub ends_fit : length ends - turn.count + turn.closed ≤ 200
   pub sizes_within : first_touched turn + (turn.parted + 1) ≤ length sizes
   pub signs_within : first_touched turn + turn.parted ≤ length signs
-  pub sizes_fit : length sizes - (turn.parted + 1) + (open_sides turn + 1) ≤ 200
-  pub signs_fit : length signs - turn.parted + open_sides turn ≤ 200
+  pub sizes_fit : length sizes - (turn.parted + 1) + (open_sides_of_record turn + 1) ≤ 200
+  pub signs_fit : length signs - turn.parted + open_sides_of_record turn ≤ 200
 
 -- the last move taken back
 pub takes_back : (w : Word) (ends sizes : List ℕ) (signs : List Sign) (closed : List ℕ) (turns rest : List MoveRecord) (turn : MoveRecord) (played : List Sign)
@@ -70,9 +70,9 @@ takes_back w ends sizes signs closed turns rest turn played s cut some = back (l
           (sizes_in r.front r.last kept legal few (0 + length (signs_of r.front)) sizes shows.sizes_are);
       signs_within = subst (λ (t : MoveRecord). first_touched t + t.parted ≤ length signs) (sym turn_is)
           (signs_in r.front r.last kept legal few (0 + length (signs_of r.front)) signs shows.signs_are);
-      sizes_fit = subst (λ (t : MoveRecord). length sizes - (t.parted + 1) + (open_sides t + 1) ≤ 200) (sym turn_is)
+      sizes_fit = subst (λ (t : MoveRecord). length sizes - (t.parted + 1) + (open_sides_of_record t + 1) ≤ 200) (sym turn_is)
           (sizes_few r.front r.last kept legal few (0 + length (signs_of r.front)) sizes shows.sizes_are);
-      signs_fit = subst (λ (t : MoveRecord). length signs - t.parted + open_sides t ≤ 200) (sym turn_is)
+      signs_fit = subst (λ (t : MoveRecord). length signs - t.parted + open_sides_of_record t ≤ 200) (sym turn_is)
           (signs_few r.front r.last kept legal few (0 + length (signs_of r.front)) signs shows.signs_are);
     }
       where
@@ -106,7 +106,7 @@ takes_back w ends sizes signs closed turns rest turn played s cut some = back (l
         turn_is : turn ≡ turn_at (sizes_of (outline_of r.front)) (outline_of r.front).signs r.last (0 + length (signs_of r.front))
         turn_is = pair.1
 
--- the same of what the code has stored, where it has a move
+-- the last move of what the code has stored is taken back, where it has a move
 pub taken_back : {self : Word} {ends sizes : List ℕ} {signs : List Sign} {closed : List ℕ} {turns rest : List MoveRecord}
     {turn : MoveRecord} {played : List Sign}
     → IsStoredSkeleton (moves_stored turns played) ends sizes signs closed turns played → turns ≡ rest ++ turn ∷ [] → 0 < length self
@@ -141,10 +141,6 @@ stored_back {ends = ends} {sizes = sizes} {signs = signs} {closed = closed} {res
     (splice sizes (first_touched turn) (first_touched turn + (turn.parted + 1)) (sizes_before turn))
     (splice signs (first_touched turn) (first_touched turn + turn.parted) (signs_before turn)) l.0 rest l.1)
     (λ i. (sym n.closed_new i, sym n.played_new i)) b.stored)))
-
--- what stands from a place on, as it is read
-pub behind_read : (xs read : List ℕ) (kept n : ℕ) → read ≡ xs → kept ≡ n → take (length read - kept) (drop kept read) ≡ drop n xs
-behind_read xs read kept n e f = take_all (length read - kept) (drop kept read) (omega (arith, length-drop kept read)) ∙ (λ i. drop (f i) (e i))
 
 -- the moves that are left
 pub front_left : {w : Word} {ends sizes : List ℕ} {signs : List Sign} {closed : List ℕ} {rest : List MoveRecord} {turn : MoveRecord} {played : List Sign}

@@ -1,36 +1,22 @@
 -- The record of a move by the parts of the outline that is cut at its leftmost valley.
 use Rattle.std.specs.List.{concat}
-use Rattle.std.proofs.Common.{List, [], ap, arith, cond, inl, inr, length, map, min, nat_eq, refl, slice_index, slice_range, suc, sum, sym, take}
-use Rattle.std.proofs.Common.{zero, ℕ, ◌++◌, ◌+◌, ◌-◌, ◌<◌, ◌∙◌, ◌∷◌, ◌≡◌, ◌≤◌}
+use Rattle.std.proofs.Common.{List, [], ap, arith, cond, inl, inr, length, map, min, nat_eq, refl, slice_index, slice_range, sum, sym, take}
+use Rattle.std.proofs.Common.{ℕ, ◌++◌, ◌+◌, ◌-◌, ◌<◌, ◌∙◌, ◌∷◌, ◌≡◌, ◌≤◌}
 use Rattle.std.proofs.lemmas.Bool.Decides.{nat_tests}
 use Rattle.std.proofs.lemmas.List.{append-nil, append_assoc, length-append, take_at}
-use Rattle.std.proofs.lemmas.List.Sums.{sum_by-cons}
 use Rattle.std.proofs.lemmas.List.Folds.{concat-append}
+use Rattle.bk_laws.proofs.ListItems.{slice_index-map_length_middle}
+use Rattle.bk_laws.proofs.ListsOfLists.{take-map_length}
+use Rattle.bk_laws.proofs.Sums.{sum-map_length}
 use Rattle.bk_word.specs.Outline.{Outline, sizes_of, valley_place}
 use Rattle.bk_word.specs.Word.{Move}
 use Rattle.bk_word.specs.declared.Sign.{Sign}
 use Rattle.bk_word.specs.declared.Sign.TheVariants.{Above, Under}
-use Rattle.bk_word_net.proofs.OutlineParts.{left_one, many_signs, none_after, none_before, right_one}
-use Rattle.bk_word_net.proofs.Shape.{AllFilled, Filled, Shaped}
-use Rattle.bk_word_net.proofs.ValleyCut.{AtValley, Beside}
-use Rattle.bk_play.specs.Skeleton.{first_touched, open_sides, signs_before, sizes_before, turn_at}
+use Rattle.bk_word_net.proofs.Outlines.OutlineParts.{left_one, many_signs, none_after, none_before, right_one}
+use Rattle.bk_word_net.proofs.Outlines.Shape.{AllFilled, Filled, Shaped}
+use Rattle.bk_word_net.proofs.Outlines.ValleyCut.{AtValley, Beside}
+use Rattle.bk_play.specs.Skeleton.{first_touched, open_sides_of_record, signs_before, sizes_before, turn_at}
 use Rattle.bk_play.specs.declared.turns.MoveRecord.{MoveRecord}
-
--- the sum of some lengths
-pub sum_lengths : (l : List (List ℕ)) → sum (map length l) ≡ length (concat l)
-sum_lengths [] = refl
-sum_lengths (s ∷ l) = omega (arith, sum_by-cons (λ (n : ℕ). n) (length s) (map length l), sum_lengths l, length-append s (concat l))
-
-take_map : (n : ℕ) (l : List (List ℕ)) → take n (map length l) ≡ map length (take n l)
-take_map zero l = refl
-take_map (suc n) [] = refl
-take_map (suc n) (s ∷ l) = ap (λ (k : List ℕ). length s ∷ k) (take_map n l)
-
-size_at : (front : List (List ℕ)) (s : List ℕ) (back : List (List ℕ)) (n : ℕ) → length front ≡ n → slice_index (map length (front ++ s ∷ back)) n ≡ length s
-size_at [] s back zero e = refl
-size_at [] s back (suc n) e = absurd (omega arith)
-size_at (t ∷ front) s back zero e = absurd (omega arith)
-size_at (t ∷ front) s back (suc n) e = size_at front s back n (omega arith)
 
 -- a segment beside a valley, or none: how many there are, by how many squares they have
 pub one_beside : (l : List (List ℕ)) → length l ≤ 1 → AllFilled l → min (length (concat l)) 1 ≡ length l
@@ -78,6 +64,7 @@ two_signs left right left_signs right_signs a b filled full =
     cases (inr (l, e, f)) (inr (r, g, h)) = (λ i. slice_range (Under ∷ Above ∷ []) (1 - length (e i)) (1 + length (g i))) ∙ (λ i. sym f i ++ sym h i)
 
 module _ (o : Outline) (shaped : Shaped o) (m : Move) (from : ℕ) (v : AtValley o) (f : Filled o v) where
+  -- the record of the move at this valley
   abbrev pub turn : MoveRecord
   turn = turn_at (sizes_of o) o.signs m from
 
@@ -87,17 +74,20 @@ module _ (o : Outline) (shaped : Shaped o) (m : Move) (from : ℕ) (v : AtValley
   place_long : length (v.before ++ v.left) ≡ valley_place o.signs
   place_long = length-append v.before v.left ∙ sym v.place
 
+  -- a move's record says how many open squares stand before the valley
   pub first_is : (turn_at (sizes_of o) o.signs m from).first ≡ length (concat v.before) + length (concat v.left)
-  first_is = ap sum (take_map (valley_place o.signs) o.segments)
-      ∙ sum_lengths (take (valley_place o.signs) o.segments)
+  first_is = ap sum (take-map_length (valley_place o.signs) o.segments)
+      ∙ sum-map_length (take (valley_place o.signs) o.segments)
       ∙ ap (λ (l : List (List ℕ)). length (concat l))
       (ap (take (valley_place o.signs)) fronts ∙ take_at (v.before ++ v.left) (v.valley ∷ (v.right ++ v.after)) (valley_place o.signs) place_long)
       ∙ ap length (concat-append v.before v.left) ∙ length-append (concat v.before) (concat v.left)
 
+  -- a move's record says how many squares the valley has
   pub closed_is : (turn_at (sizes_of o) o.signs m from).closed ≡ length v.valley
   closed_is = ap (λ (l : List (List ℕ)). slice_index (map length l) (valley_place o.signs)) fronts
-      ∙ size_at (v.before ++ v.left) v.valley (v.right ++ v.after) (valley_place o.signs) place_long
+      ∙ slice_index-map_length_middle (v.before ++ v.left) v.valley (v.right ++ v.after) (valley_place o.signs) place_long
 
+  -- a move's record says how many squares the segment at the valley's left has
   pub left_is : (turn_at (sizes_of o) o.signs m from).left ≡ length (concat v.left)
   left_is = cases v.left_beside
     where
@@ -114,9 +104,10 @@ module _ (o : Outline) (shaped : Shaped o) (m : Move) (from : ℕ) (v : AtValley
       cases (inr (s, e, g)) = none (valley_place o.signs) (slice_index (map length o.segments) (valley_place o.signs - 1)) (omega (arith, v.place, ap length e))
           ∙ ap (λ (l : List (List ℕ)). slice_index (map length l) (valley_place o.signs - 1))
           (v.segments ∙ (λ i. v.before ++ (e i ++ (v.valley ∷ (v.right ++ v.after)))))
-          ∙ size_at v.before s (v.valley ∷ (v.right ++ v.after)) (valley_place o.signs - 1) (omega (arith, v.place, ap length e))
+          ∙ slice_index-map_length_middle v.before s (v.valley ∷ (v.right ++ v.after)) (valley_place o.signs - 1) (omega (arith, v.place, ap length e))
           ∙ sym (ap length (append-nil s)) ∙ sym (ap (λ (l : List (List ℕ)). length (concat l)) e)
 
+  -- a move's record says how many squares the segment at the valley's right has
   pub right_is : (turn_at (sizes_of o) o.signs m from).right ≡ length (concat v.right)
   right_is = cases v.right_beside
     where
@@ -138,26 +129,32 @@ module _ (o : Outline) (shaped : Shaped o) (m : Move) (from : ℕ) (v : AtValley
           (omega (arith, v.place, many_signs o v, ap length e))
           ∙ ap (λ (l : List (List ℕ)). slice_index (map length l) (valley_place o.signs + 1))
           (behind ∙ (λ i. ((v.before ++ v.left) ++ (v.valley ∷ [])) ++ (e i ++ v.after)))
-          ∙ size_at ((v.before ++ v.left) ++ (v.valley ∷ [])) s v.after (valley_place o.signs + 1)
+          ∙ slice_index-map_length_middle ((v.before ++ v.left) ++ (v.valley ∷ [])) s v.after (valley_place o.signs + 1)
           (omega (arith, length-append (v.before ++ v.left) (v.valley ∷ []), place_long))
           ∙ sym (ap length (append-nil s)) ∙ sym (ap (λ (l : List (List ℕ)). length (concat l)) e)
 
+  -- one if the valley has a segment at its left, none if it has none
   pub left_min : min (turn_at (sizes_of o) o.signs m from).left 1 ≡ length v.left
   left_min = ap (λ n. min n 1) left_is ∙ one_beside v.left (left_one o v).1 f.left
 
+  -- one if the valley has a segment at its right, none if it has none
   pub right_min : min (turn_at (sizes_of o) o.signs m from).right 1 ≡ length v.right
   right_min = ap (λ n. min n 1) right_is ∙ one_beside v.right (right_one o v).1 f.right
 
+  -- the first segment that a move touches is behind those that lie before the valley's left
   pub start_is : first_touched (turn_at (sizes_of o) o.signs m from) ≡ length v.before
   start_is = omega (arith, v.place, left_min)
 
-  pub sides_are : open_sides (turn_at (sizes_of o) o.signs m from) ≡ length v.left + length v.right
+  -- the valley has as many open sides as segments beside it
+  pub sides_are : open_sides_of_record (turn_at (sizes_of o) o.signs m from) ≡ length v.left + length v.right
   sides_are = omega (arith, left_min, right_min)
 
+  -- the sizes before a move are those of the left segment, the valley and the right one
   pub sizes_before_are : sizes_before (turn_at (sizes_of o) o.signs m from) ≡ map length v.left ++ (length v.valley ∷ map length v.right)
   sizes_before_are = (λ i. slice_range (left_is i ∷ closed_is i ∷ right_is i ∷ []) (1 - min (left_is i) 1) (2 + min (right_is i) 1))
       ∙ three_sizes v.left v.right (length v.valley) (left_one o v).1 (right_one o v).1 f.left f.right
 
+  -- the signs before a move are those at the left and at the right of the valley
   pub signs_before_are : signs_before (turn_at (sizes_of o) o.signs m from) ≡ v.left_signs ++ v.right_signs
   signs_before_are = (λ i. slice_range (Under ∷ Above ∷ []) (1 - min (left_is i) 1) (1 + min (right_is i) 1))
       ∙ two_signs v.left v.right v.left_signs v.right_signs v.left_beside v.right_beside f.left f.right

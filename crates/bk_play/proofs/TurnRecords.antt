@@ -1,9 +1,9 @@
 -- The record of a move, found by its place among all.
-use Rattle.std.specs.List.{concat}
-use Rattle.std.proofs.Common.{List, Some, [], ap, arith, drop, length, map, refl, slice_get, slice_index_or, slice_index, slice_range, subst, suc}
-use Rattle.std.proofs.Common.{sum, sym, take, zero, ℕ, ◌+◌, ◌-◌, ◌<◌, ◌∙◌, ◌∷◌, ◌≡◌, ◌≤◌}
-use Rattle.std.proofs.lemmas.List.Sums.{sum_by-cons}
+use Rattle.std.proofs.Common.{List, Some, [], ap, arith, drop, length, slice_get, slice_index_or, slice_range, subst, suc}
+use Rattle.std.proofs.Common.{sym, take, zero, ℕ, ◌+◌, ◌-◌, ◌<◌, ◌∙◌, ◌∷◌, ◌≡◌, ◌≤◌}
 use Rattle.std.proofs.lemmas.List.{length-append}
+use Rattle.bk_laws.proofs.Sums.{sum-take_map_length}
+use Rattle.bk_laws.proofs.ListItems.{slice_index-map_length}
 use Rattle.bk_word.specs.Outline.{Outline, start, valley_of, valley_place}
 use Rattle.bk_word.specs.Play.{after_move, after_moves}
 use Rattle.bk_word.specs.Word.{Move, Word}
@@ -18,22 +18,6 @@ use Rattle.bk_play.specs.declared.turns.MoveRecord.{MoveRecord}
 abbrev pub no_turn : MoveRecord
 no_turn = record { place = 0; first = 0; left = 0; closed = 0; right = 0; count = 0; parted = 0; from = 0; to = 0 }
 
-sizes_taken : (p : ℕ) (lists : List (List ℕ)) → sum (take p (map length lists)) ≡ length (concat (take p lists))
-sizes_taken zero lists = refl
-sizes_taken (suc p) [] = refl
-sizes_taken (suc p) (ns ∷ lists) = omega (
-  arith,
-  sum_by-cons (λ (n : ℕ). n) (length ns) (take p (map length lists)),
-  sizes_taken p lists,
-  length-append ns (concat (take p lists)),
-)
-
-size_there : (p : ℕ) (lists : List (List ℕ)) → slice_index (map length lists) p ≡ length (slice_index_or lists p [])
-size_there zero [] = refl
-size_there (suc p) [] = refl
-size_there zero (ns ∷ lists) = refl
-size_there (suc p) (ns ∷ lists) = size_there p lists
-
 record At (o : Outline) (w : Word) (i : ℕ) (turn : MoveRecord) : Type 0 where
   count : (m : Move) → slice_get w i ≡ Some m → turn.count ≡ m.count
   first : turn.first ≡ length (front_of (after_moves o (take i w)))
@@ -43,9 +27,9 @@ turn_there : (o : Outline) (from : ℕ) (w : Word) (i : ℕ) (d : MoveRecord) �
 turn_there o from [] i d h = absurd (omega arith)
 turn_there o from (n ∷ w) zero d h = record {
   count = λ m e. same m e;
-  first = sizes_taken (valley_place o.signs) o.segments;
+  first = sum-take_map_length (valley_place o.signs) o.segments;
   closed =
-      size_there (valley_place o.signs) o.segments;
+      slice_index-map_length o.segments (valley_place o.signs);
 }
   where
     same : (m : Move) → Some n ≡ Some m → n.count ≡ m.count
@@ -98,7 +82,7 @@ signs_within v w turns seen played i d a e f g h =
     (sym (f ∙ e ∙ ap (turns_from start 0) a))
     (let r = within_there start 0 w i d h in (r.order, omega (arith, r.before, ap length g, ap (λ (u : Word). length (signs_of u)) a)))
 
--- the same for what the code has
+-- the signs that a record names stand among those played, as the code has them
 pub signs_seen : (v w : Word) (turns seen : List MoveRecord) (played shown : List Sign) (i : ℕ) (d : MoveRecord) (from to : ℕ) (m : Move)
     → moves_stored turns played ≡ w → seen ≡ turns → shown ≡ played → i < length turns
     → from ≡ (slice_index_or seen i d).from → to ≡ (slice_index_or seen i d).to → slice_get w i ≡ Some m → take (to - from) (drop from shown) ≡ m.signs

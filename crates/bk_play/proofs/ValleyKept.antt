@@ -1,13 +1,14 @@
 -- Where the leftmost valley stands, as a small skeleton keeps it and as it is looked up.
 use Rattle.std.proofs.Common.{List, ap, arith, length, slice_index, sum, sym, take, ℕ, ◌+◌, ◌<◌, ◌∙◌, ◌≡◌, ◌≤◌}
+use Rattle.bk_laws.proofs.Sums.{sum-take_le}
 use Rattle.bk_word.proofs.PlayLists.{place_within}
 use Rattle.bk_word.specs.Outline.{sizes_of, valley_place}
 use Rattle.bk_word.specs.Play.{outline_of}
 use Rattle.bk_word.specs.Word.{Word}
 use Rattle.bk_word.specs.declared.Sign.{Sign}
 use Rattle.bk_play.proofs.SkelFacts.{Counted}
-use Rattle.bk_play.proofs.SkelReads.{counted_in, sum_of_front}
-use Rattle.bk_play.specs.SmallSkeleton.{IsStoredSmall, IsValley, StandsAt}
+use Rattle.bk_play.proofs.SkelReads.{counted_in}
+use Rattle.bk_play.specs.SmallSkeleton.{IsStoredSmall, IsValleyPlace, StandsAt}
 use Rattle.bk_play.specs.declared.turns.MoveRecord.{MoveRecord}
 
 -- what is kept of the leftmost valley, where it is looked up among the sizes and signs
@@ -27,7 +28,7 @@ kept_looked {w = w} {ends = ends} {sizes = sizes} {signs = signs} {closed = clos
   at = g ∙ (s.valley).place_is ∙ ap valley_place (sym f);
   within = omega (arith, g, (s.valley).place_is, place_within signs, ap length f);
   begins = h ∙ (s.valley).first_is ∙ (λ i. sum (take (valley_place (sym f i)) (sym e i)));
-  few = omega (arith, h, (s.valley).first_is, sum_of_front sizes (valley_place signs), c.total, c.all, ((s.stored).kept).few);
+  few = omega (arith, h, (s.valley).first_is, sum-take_le sizes (valley_place signs), c.total, c.all, ((s.stored).kept).few);
   inside = omega (arith, g, (s.valley).place_is, place_within signs, ap length e, c.many);
 }
   where
@@ -48,7 +49,7 @@ place_kept s e = (s.valley).place_is ∙ ap valley_place ((s.stored).shows).sign
 pub valley_kept : {w now : Word} {ends sizes : List ℕ} {signs : List Sign} {closed : List ℕ} {turns : List MoveRecord} {played : List Sign} {place first : ℕ}
     → IsStoredSmall w ends sizes signs closed turns played place first → w ≡ now
     → {read : List ℕ} {at begin size : ℕ} → read ≡ sizes → at ≡ place → begin ≡ first → size ≡ slice_index read at
-    → IsValley now (record { place = at; start = begin; end = begin + size })
+    → IsValleyPlace now (record { place = at; start = begin; end = begin + size })
 valley_kept {w = w} {now = now} {sizes = sizes} {signs = signs} s same {at = at} {begin = begin} {size = size} e f g h = record {
   stands = record {
     place_is = f ∙ place_kept s same;

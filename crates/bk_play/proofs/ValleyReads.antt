@@ -1,11 +1,12 @@
 -- The leftmost valley of a skeleton, read from the flat lists as they are looked up.
 use Rattle.std.proofs.Common.{List, [], ap, arith, drop, length, nat_eq, slice_index, slice_index_or, slice_range, suc, sum, sym, take, ℕ, ◌+◌, ◌-◌}
 use Rattle.std.proofs.Common.{◌<◌, ◌∙◌, ◌≡◌, ◌≤◌}
+use Rattle.bk_laws.proofs.Sums.{sum-take_le}
 use Rattle.bk_word.specs.Outline.{valley_of, valley_place}
 use Rattle.bk_word.specs.Play.{outline_of}
 use Rattle.bk_word.specs.Word.{Word}
 use Rattle.bk_word.specs.declared.Sign.{Sign}
-use Rattle.bk_play.proofs.SkelReads.{counted_in, reads_segment, segment_read, sum_of_front}
+use Rattle.bk_play.proofs.SkelReads.{counted_in, reads_segment, segment_read}
 use Rattle.bk_play.specs.Skeleton.{IsStoredSkeleton}
 use Rattle.bk_play.specs.Valley.{leftmost_valley}
 use Rattle.bk_play.specs.declared.turns.MoveRecord.{MoveRecord}
@@ -38,7 +39,7 @@ pub valley_cut : {w : Word} {ends sizes : List ℕ} {signs : List Sign} {closed 
     → size ≡ slice_index again place → AreOfValley w squares first (first + size)
 valley_cut {w = w} {ends = ends} {sizes = sizes} {signs = signs} {closed = closed} s looked again squares between place first size e f g h at low begins is =
     record {
-      within = omega (arith, flat, sum_of_front sizes (suc place), (counted_in s).total, ap length g);
+      within = omega (arith, flat, sum-take_le sizes (suc place), (counted_in s).total, ap length g);
       are = (λ j. slice_range (g j) (start j) (start j + many j)) ∙ segment_read (outline_of w) ends sizes signs closed place s.shows within
           ∙ ap (λ n. slice_index_or (outline_of w).segments n []) (at ∙ ap valley_place (h ∙ (s.shows).signs_are));
     }

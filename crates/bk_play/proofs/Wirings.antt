@@ -4,9 +4,10 @@ use Rattle.std.proofs.Common.{List, [], ap, arith, cond, drop, get_or, length, m
 use Rattle.std.proofs.Common.{zero, ℕ, ◌++◌, ◌+◌, ◌-◌, ◌<◌, ◌∙◌, ◌∷◌, ◌≡◌, ◌≤◌}
 use Rattle.std.proofs.lemmas.List.{append_assoc, drop_all, length-map}
 use Rattle.std.proofs.lemmas.List.Sums.{sum_by-cons}
-use Rattle.bk_play.proofs.EndNodes.{marked_node, sum_next}
-use Rattle.bk_word_net.proofs.Wires.{get_replicate}
-use Rattle.bk_play.specs.Wiring.{AreWires, closed_of, counts_of, wires_from}
+use Rattle.bk_laws.proofs.ListItems.{slice_index_or-replicate}
+use Rattle.bk_laws.proofs.Sums.{sum-take_suc}
+use Rattle.bk_play.proofs.EndNodes.{marked_node}
+use Rattle.bk_play.specs.Wiring.{AreWires, closed_of, hung_and_closed, move_wires_from}
 use Rattle.bk_word_net.specs.WordNet.{end_of}
 use Rattle.bk_play.specs.declared.turns.MoveRecord.{MoveRecord}
 
@@ -37,45 +38,45 @@ drop_turn (t ∷ turns) (suc node) d h = drop_turn turns node d (omega arith)
 
 -- the wires from one node, and those behind
 pub next_wires : (turns : List MoveRecord) (rest : List ℕ) (node : ℕ) (d : MoveRecord) → node < length turns
-    → wires_from node (counts_of (drop node turns)) rest ≡ map (λ e. (node, e)) (take (get_or turns node d).count rest)
-    ++ wires_from (node + 1) (counts_of (drop (node + 1) turns)) (drop (get_or turns node d).count rest)
+    → move_wires_from node (hung_and_closed (drop node turns)) rest ≡ map (λ e. (node, e)) (take (get_or turns node d).count rest)
+    ++ move_wires_from (node + 1) (hung_and_closed (drop (node + 1) turns)) (drop (get_or turns node d).count rest)
 next_wires turns rest node d h = let more : suc node ≡ node + 1 = omega arith in
-    ap (λ (l : List MoveRecord). wires_from node (counts_of l) rest) (drop_turn turns node d h)
+    ap (λ (l : List MoveRecord). move_wires_from node (hung_and_closed l) rest) (drop_turn turns node d h)
     ∙ (λ i. map (λ e. (node, e)) (take (get_or turns node d).count rest)
-    ++ wires_from (node + 1) (counts_of (drop (more i) turns)) (drop (get_or turns node d).count rest))
+    ++ move_wires_from (node + 1) (hung_and_closed (drop (more i) turns)) (drop (get_or turns node d).count rest))
 
 -- so many squares hang from a node, and the others from the nodes behind it
 pub next_count : (turns : List MoveRecord) (node : ℕ) (d : MoveRecord) → node < length turns
-    → sum (counts_of (drop node turns)) ≡ (get_or turns node d).count + sum (counts_of (drop (node + 1) turns))
+    → sum (hung_and_closed (drop node turns)) ≡ (get_or turns node d).count + sum (hung_and_closed (drop (node + 1) turns))
 next_count turns node d h = let more : suc node ≡ node + 1 = omega arith in
-    ap (λ (l : List MoveRecord). sum (counts_of l)) (drop_turn turns node d h)
-    ∙ sum_by-cons (λ (n : ℕ). n) (get_or turns node d).count (counts_of (drop (suc node) turns))
-    ∙ ap (λ n. (get_or turns node d).count + sum (counts_of (drop n turns))) more
+    ap (λ (l : List MoveRecord). sum (hung_and_closed l)) (drop_turn turns node d h)
+    ∙ sum_by-cons (λ (n : ℕ). n) (get_or turns node d).count (hung_and_closed (drop (suc node) turns))
+    ∙ ap (λ n. (get_or turns node d).count + sum (hung_and_closed (drop n turns))) more
 
 -- what the wires from one node are known to be
 pub wires_here : (nodes most : ℕ) (all had : List (ℕ × ℕ)) (turns : List MoveRecord) (rest own : List ℕ) (node count : ℕ) (d : MoveRecord)
     → node < length turns → AreWires most all → nodes ≡ most
-    → all ≡ had ++ wires_from node (counts_of (drop node turns)) rest → count ≡ (get_or turns node d).count → own ≡ take count rest
+    → all ≡ had ++ move_wires_from node (hung_and_closed (drop node turns)) rest → count ≡ (get_or turns node d).count → own ≡ take count rest
     → AreWires nodes (map (λ e. (node, e)) own)
 wires_here nodes most all had turns rest own node count d h good same whole e f =
     subst (λ (n : ℕ). AreWires n (map (λ e. (node, e)) own)) (sym same)
     (subst (λ (l : List ℕ). AreWires most (map (λ e. (node, e)) l)) (sym (f ∙ ap (λ n. take n rest) e))
     (wires_front most (map (λ e. (node, e)) (take (get_or turns node d).count rest))
-    (wires_from (node + 1) (counts_of (drop (node + 1) turns)) (drop (get_or turns node d).count rest))
+    (move_wires_from (node + 1) (hung_and_closed (drop (node + 1) turns)) (drop (get_or turns node d).count rest))
     (subst (AreWires most) (next_wires turns rest node d h)
-    (wires_back most had (wires_from node (counts_of (drop node turns)) rest) (subst (AreWires most) whole good)))))
+    (wires_back most had (move_wires_from node (hung_and_closed (drop node turns)) rest) (subst (AreWires most) whole good)))))
 
 -- the wires so far with those from one node, and the wires from the nodes behind it, are all
 pub wires_more : (all had new : List (ℕ × ℕ)) (turns : List MoveRecord) (rest own behind : List ℕ) (node count : ℕ) (d : MoveRecord) → node < length turns
-    → all ≡ had ++ wires_from node (counts_of (drop node turns)) rest → count ≡ (get_or turns node d).count → own ≡ take count rest
+    → all ≡ had ++ move_wires_from node (hung_and_closed (drop node turns)) rest → count ≡ (get_or turns node d).count → own ≡ take count rest
     → behind ≡ drop count rest → new ≡ had ++ map (λ e. (node, e)) own
-    → all ≡ new ++ wires_from (node + 1) (counts_of (drop (node + 1) turns)) behind
+    → all ≡ new ++ move_wires_from (node + 1) (hung_and_closed (drop (node + 1) turns)) behind
 wires_more all had new turns rest own behind node count d h whole e f g put =
     whole ∙ ap (λ (l : List (ℕ × ℕ)). had ++ l) (next_wires turns rest node d h)
     ∙ sym (append_assoc had (map (λ e. (node, e)) (take (get_or turns node d).count rest))
-    (wires_from (node + 1) (counts_of (drop (node + 1) turns)) (drop (get_or turns node d).count rest)))
-    ∙ (λ i. (had ++ map (λ e. (node, e)) (owns i)) ++ wires_from (node + 1) (counts_of (drop (node + 1) turns)) (behinds i))
-    ∙ ap (λ (l : List (ℕ × ℕ)). l ++ wires_from (node + 1) (counts_of (drop (node + 1) turns)) behind) (sym put)
+    (move_wires_from (node + 1) (hung_and_closed (drop (node + 1) turns)) (drop (get_or turns node d).count rest)))
+    ∙ (λ i. (had ++ map (λ e. (node, e)) (owns i)) ++ move_wires_from (node + 1) (hung_and_closed (drop (node + 1) turns)) (behinds i))
+    ∙ ap (λ (l : List (ℕ × ℕ)). l ++ move_wires_from (node + 1) (hung_and_closed (drop (node + 1) turns)) behind) (sym put)
   where
     owns : take (get_or turns node d).count rest ≡ own
     owns = sym (f ∙ ap (λ n. take n rest) e)
@@ -93,7 +94,7 @@ closed_at (t ∷ turns) (suc node) d h = closed_at turns node d (omega arith)
 pub none_marked : (turns : List MoveRecord) (lists : List (List ℕ)) (ended : List ℕ) (k : ℕ) → ended ≡ replicate 200 (length turns)
     → closed_of turns ≡ map length lists → k < 200
     → slice_index ended k ≡ length turns + end_of (drop (length turns) lists) (k + 1)
-none_marked turns lists ended k e long h = ap (λ (l : List ℕ). slice_index l k) e ∙ get_replicate 200 (length turns) k 0 h
+none_marked turns lists ended k e long h = ap (λ (l : List ℕ). slice_index l k) e ∙ slice_index_or-replicate 200 (length turns) k 0 h
     ∙ omega (arith, ap (λ (l : List (List ℕ)). end_of l (k + 1)) none)
   where
     none : drop (length turns) lists ≡ []
@@ -108,7 +109,7 @@ closed_next turns (suc node) count end d some within e at =
       arith,
       at,
       e,
-      sum_next (closed_of turns) node (omega (arith, length-map turns (λ (t : MoveRecord). t.closed))),
+      sum-take_suc (closed_of turns) node (omega (arith, length-map turns (λ (t : MoveRecord). t.closed))),
       closed_at turns node d (omega arith),
       same,
       gets,

@@ -1,7 +1,9 @@
 -- How a skeleton is stored: its outline as flat lists, and a record for each move, by which the move is taken back.
--- Example (SkeletonExamples): the last move of 2u.2eu.1e makes one segment of three squares of one of two and one of one.
+-- Example (SkeletonExamples): the last move of 2u.2eu.1e makes one segment of three squares of one of two and one of
+-- one.
 use Rattle.std.specs.List.{concat}
-use Rattle.std.specs.Prelude.{List, [], cond, count_by, flat_map, length, map, max, min, nat_eq, slice_index, slice_range, sum, take, ℕ, ◌+◌, ◌-◌, ◌∷◌, ◌≡◌}
+use Rattle.std.specs.Prelude.{List, [], cond, count_by, flat_map, length, map, max, min, nat_eq, slice_index}
+use Rattle.std.specs.Prelude.{slice_range, sum, take, ℕ, ◌+◌, ◌-◌, ◌∷◌, ◌≡◌}
 use Rattle.bk_word.specs.Outline.{Outline, sizes_of, start, valley_place}
 use Rattle.bk_word.specs.Play.{after_move, outline_of, parts}
 use Rattle.bk_word.specs.Word.{Move, Word}
@@ -45,8 +47,8 @@ abbrev pub first_touched : MoveRecord → ℕ
 first_touched turn = turn.place - min turn.left 1
 
 -- how many of the valley's sides are no walls
-abbrev pub open_sides : MoveRecord → ℕ
-open_sides turn = min turn.left 1 + min turn.right 1
+abbrev pub open_sides_of_record : MoveRecord → ℕ
+open_sides_of_record turn = min turn.left 1 + min turn.right 1
 
 -- the sizes of the segments that a move touched, as they were before it, and the signs between them
 abbrev pub sizes_before : MoveRecord → List ℕ
@@ -73,7 +75,8 @@ sizes_after turn signs = joined_sizes (max turn.left 1) (max turn.right 1) signs
 -- the records of moves that are played one after another
 abbrev pub turns_from : Outline → ℕ → Word → List MoveRecord
 turns_from o from [] = []
-turns_from o from (m ∷ moves) = turn_at (sizes_of o) o.signs m from ∷ turns_from (after_move o m) (from + length m.signs) moves
+turns_from o from (m ∷ moves) = turn_at (sizes_of o) o.signs m from ∷ turns_from (after_move o m)
+    (from + length m.signs) moves
 
 -- the signs of all moves, one after another
 abbrev pub signs_of : Word → List Sign
@@ -96,7 +99,8 @@ pub record Shows (o : Outline) (ends sizes : List ℕ) (signs : List Sign) (clos
   pub closed_are : closed ≡ concat o.closed
 
 -- all that is stored of moves
-pub record IsStoredSkeleton (moves : Word) (ends sizes : List ℕ) (signs : List Sign) (closed : List ℕ) (turns : List MoveRecord)
+pub record IsStoredSkeleton (moves : Word) (ends sizes : List ℕ) (signs : List Sign) (closed : List ℕ)
+    (turns : List MoveRecord)
     (played : List Sign) : Type 0 where
   pub kept : IsKeptSkeleton moves
   pub shows : Shows (outline_of moves) ends sizes signs closed

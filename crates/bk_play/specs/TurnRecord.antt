@@ -1,5 +1,6 @@
 -- What the record of a move says of the turn at which it was played.
--- Example (SkeletonExamples): the last move of 2u.2eu.1e hangs one square under square 4, with two open squares at its left.
+-- Example (SkeletonExamples): the last move of 2u.2eu.1e hangs one square under square 4, with two open squares at its
+-- left.
 use Rattle.std.specs.Prelude.{Some, length, slice_get, take, ℕ, ◌≡◌}
 use Rattle.bk_word.specs.Outline.{valley_of}
 use Rattle.bk_word.specs.Play.{outline_of}

@@ -1,5 +1,6 @@
 -- The leftmost valley of an outline, and what the play makes of a skeleton that callers see.
--- Example (SkeletonExamples): before the last move of 2u.2eu.1e the leftmost valley is square 4 alone, at the right wall.
+-- Example (SkeletonExamples): before the last move of 2u.2eu.1e the leftmost valley is square 4 alone, at the right
+-- wall.
 use Rattle.std.specs.Prelude.{Bool, List, ℕ, ◌≤◌}
 use Rattle.bk_word.specs.Outline.{Outline, has_left_wall, has_right_wall, valley_of, valley_place}
 use Rattle.bk_word.specs.Play.{IsLegal}

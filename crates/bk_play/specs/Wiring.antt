@@ -4,13 +4,14 @@ use Rattle.std.specs.Prelude.{List, [], drop, length, map, slice_index, take, �
 use Rattle.bk_play.specs.declared.turns.MoveRecord.{MoveRecord}
 
 -- the wires of squares that hang from the nodes in order, from this node on, so many from each; they end at these nodes
-abbrev pub wires_from : ℕ → List ℕ → List ℕ → List (ℕ × ℕ)
-wires_from node [] ends = []
-wires_from node (count ∷ counts) ends = map (λ e. (node, e)) (take count ends) ++ wires_from (node + 1) counts (drop count ends)
+abbrev pub move_wires_from : ℕ → List ℕ → List ℕ → List (ℕ × ℕ)
+move_wires_from node [] ends = []
+move_wires_from node (count ∷ counts) ends = map (λ e. (node, e)) (take count ends)
+    ++ move_wires_from (node + 1) counts (drop count ends)
 
 -- how many squares each move hangs, and how many it closes
-abbrev pub counts_of : List MoveRecord → List ℕ
-counts_of turns = map (λ t. t.count) turns
+abbrev pub hung_and_closed : List MoveRecord → List ℕ
+hung_and_closed turns = map (λ t. t.count) turns
 
 abbrev pub closed_of : List MoveRecord → List ℕ
 closed_of turns = map (λ t. t.closed) turns

@@ -1,16 +1,17 @@
 //! The net of a word, from the records of its moves.
 
 ghost use Rattle.std.specs.List.{concat, list_any};
-ghost use Rattle.std.specs.Prelude.{List, cond, length, map, nat_eq, replicate, slice_index, sum, ℕ, ◌+◌, ◌++◌, ◌<◌, ◌≡◌, ◌≤◌};
+ghost use Rattle.std.specs.Prelude.{List, cond, length, map, nat_eq, replicate, slice_index, sum, ℕ, ◌+◌, ◌++◌, ◌<◌};
+ghost use Rattle.std.specs.Prelude.{◌≡◌, ◌≤◌};
 ghost use Rattle.bk_word_net.specs.WordNet.{end_of};
-ghost use Rattle.bk_play.specs.Wiring.{AreNumbers, AreWires, closed_of, counts_of, wires_from};
+ghost use Rattle.bk_play.specs.Wiring.{AreNumbers, AreWires, closed_of, hung_and_closed, move_wires_from};
 
 use crate::turns::MoveRecord;
 use bk_net::Net;
 use bk_word::LARGEST_ORDER;
 
-// The node at which each square ends, in the order of the squares' numbers from 1: the one whose move closes it, or the last
-// node where none does.
+// The node at which each square ends, in the order of the squares' numbers from 1: the one whose move closes it, or the
+// last node where none does.
 pub(crate) fn end_nodes(turns: &[MoveRecord], closed: &[u8]) -> [u8; LARGEST_ORDER]
     requires few { length turns.now ≤ 200 }
     requires numbers { AreNumbers 200 closed.now }
@@ -53,10 +54,13 @@ fn mark(ended: &mut [u8], squares: &[u8], node: u8)
 pub(crate) fn wired(turns: &[MoveRecord], ends: &[u8]) -> Net
     requires some { 0 < length turns.now }
     requires few { length turns.now ≤ 200 }
-    requires all { length ends.now ≡ sum (counts_of turns.now) }
+    requires all { length ends.now ≡ sum (hung_and_closed turns.now) }
     requires room { length ends.now ≤ 200 }
-    requires wires { AreWires (length turns.now + 1) (wires_from 0 (counts_of turns.now) ends.now) }
-    ensures { result ≡ record { nodes = length turns.now + 1; wires = wires_from 0 (counts_of turns.now) ends.now } }
+    requires wires { AreWires (length turns.now + 1) (move_wires_from 0 (hung_and_closed turns.now) ends.now) }
+    ensures { result ≡ record {
+      nodes = length turns.now + 1;
+      wires = move_wires_from 0 (hung_and_closed turns.now) ends.now;
+    } }
 {
     let mut net = Net::new(turns.len() as u16 + 1);
     let mut rest = ends;

@@ -1,9 +1,11 @@
-//! The sizes of the open segments and the signs between them, where a move parts and joins them, and where it is taken back.
+//! The sizes of the open segments and the signs between them, where a move parts and joins them, and where it is taken
+//! back.
 
 ghost use Rattle.std.specs.List.{splice};
 ghost use Rattle.std.specs.Prelude.{cond, count_by, filter, length, ◌+◌, ◌-◌, ◌<◌, ◌≡◌, ◌≤◌};
 ghost use Rattle.bk_word.specs.Play.{parts};
-ghost use Rattle.bk_play.specs.Skeleton.{first_touched, joined_sizes, open_sides, signs_before, sizes_after, sizes_before};
+ghost use Rattle.bk_play.specs.Skeleton.{first_touched, joined_sizes, open_sides_of_record, signs_before, sizes_after};
+ghost use Rattle.bk_play.specs.Skeleton.{sizes_before};
 
 use crate::splicing::{make_room, splice};
 use crate::turns::MoveRecord;
@@ -18,15 +20,15 @@ pub(crate) fn apply_signs(
     moved: &[Sign],
 )
     requires parted { turn.now.parted ≡ count_by parts moved.now }
-    requires sizes_within { first_touched turn.now + (open_sides turn.now + 1) ≤ length sizes.old.items }
-    requires signs_within { first_touched turn.now + open_sides turn.now ≤ length signs.old.items }
-    requires sizes_fit { length sizes.old.items - (open_sides turn.now + 1) + (turn.now.parted + 1) ≤ 200 }
-    requires signs_fit { length signs.old.items - open_sides turn.now + turn.now.parted ≤ 200 }
+    requires sizes_within { first_touched turn.now + (open_sides_of_record turn.now + 1) ≤ length sizes.old.items }
+    requires signs_within { first_touched turn.now + open_sides_of_record turn.now ≤ length signs.old.items }
+    requires sizes_fit { length sizes.old.items - (open_sides_of_record turn.now + 1) + (turn.now.parted + 1) ≤ 200 }
+    requires signs_fit { length signs.old.items - open_sides_of_record turn.now + turn.now.parted ≤ 200 }
     requires small { turn.now.left + length moved.now + turn.now.right ≤ 253 }
     ensures sizes { sizes.new.items ≡ splice sizes.old.items (first_touched turn.now)
-        (first_touched turn.now + (open_sides turn.now + 1)) (sizes_after turn.now moved.now) }
+        (first_touched turn.now + (open_sides_of_record turn.now + 1)) (sizes_after turn.now moved.now) }
     ensures signs { signs.new.items ≡ splice signs.old.items (first_touched turn.now)
-        (first_touched turn.now + open_sides turn.now) (filter parts moved.now) }
+        (first_touched turn.now + open_sides_of_record turn.now) (filter parts moved.now) }
 {
     let start = turn.first_touched();
     let open = turn.open_sides();
@@ -50,8 +52,8 @@ pub(crate) fn undo_signs(
 )
     requires sizes_within { first_touched turn.now + (turn.now.parted + 1) ≤ length sizes.old.items }
     requires signs_within { first_touched turn.now + turn.now.parted ≤ length signs.old.items }
-    requires sizes_fit { length sizes.old.items - (turn.now.parted + 1) + (open_sides turn.now + 1) ≤ 200 }
-    requires signs_fit { length signs.old.items - turn.now.parted + open_sides turn.now ≤ 200 }
+    requires sizes_fit { length sizes.old.items - (turn.now.parted + 1) + (open_sides_of_record turn.now + 1) ≤ 200 }
+    requires signs_fit { length signs.old.items - turn.now.parted + open_sides_of_record turn.now ≤ 200 }
     ensures sizes { sizes.new.items ≡ splice sizes.old.items (first_touched turn.now)
         (first_touched turn.now + (turn.now.parted + 1)) (sizes_before turn.now) }
     ensures signs { signs.new.items ≡ splice signs.old.items (first_touched turn.now)

@@ -1,12 +1,13 @@
 //! Words that are played and taken back move by move.
 //!
 //! A skeleton keeps the open segments as flat lists: the numbers of all open squares from left to right, how many each
-//! segment has, and the signs between the segments. A move changes the lists only at the valley and the segments beside it.
-//! The closed squares stand in the order of closing, so that a move's are the last ones when it is taken back. Each list is
-//! as long as what is used of it, and nothing is copied but what stands right of the valley.
+//! segment has, and the signs between the segments. A move changes the lists only at the valley and the segments beside
+//! it. The closed squares stand in the order of closing, so that a move's are the last ones when it is taken back. Each
+//! list is as long as what is used of it, and nothing is copied but what stands right of the valley.
 
 ghost use Rattle.std.specs.List.{concat, splice};
-ghost use Rattle.std.specs.Prelude.{IsTrue, Some, [], length, slice_get, slice_range, take, ◌+◌, ◌++◌, ◌-◌, ◌<◌, ◌∷◌, ◌≡◌, ◌≤◌, ◌↔◌};
+ghost use Rattle.std.specs.Prelude.{IsTrue, Some, [], length, slice_get, slice_range, take, ◌+◌, ◌++◌, ◌-◌, ◌<◌, ◌∷◌};
+ghost use Rattle.std.specs.Prelude.{◌≡◌, ◌≤◌, ◌↔◌};
 ghost use Rattle.bk_word.specs.Outline.{IsLegalMove, has_left_wall, has_right_wall, open_side, sizes_of, valley_of};
 ghost use Rattle.bk_word.specs.Play.{IsComplete, numbers_from, outline_of};
 ghost use Rattle.bk_word.specs.Word.{Move as SeenMove, order_of};
@@ -29,8 +30,8 @@ use std::sync::ledger::Ledger;
 // The moves of a skeleton have at most so many signs: each at most one more than squares.
 pub(crate) const MOST_PLAYED_SIGNS: usize = 400;
 
-/// The leftmost valley of a skeleton: how many open segments stand at its left, whether it has a wall at its left and at its
-/// right, and the numbers of its squares from left to right, in the order of hanging from 1.
+/// The leftmost valley of a skeleton: how many open segments stand at its left, whether it has a wall at its left and
+/// at its right, and the numbers of its squares from left to right, in the order of hanging from 1.
 #[derive(Drop)]
 pub struct Valley {
     pub place: usize,
@@ -44,7 +45,12 @@ impl Model for Valley {
 
     ghost Value = { SeenValley };
 
-    ghost view = { λ v. record { place = v.place; left_wall = v.left_wall; right_wall = v.right_wall; squares = v.squares.items } };
+    ghost view = { λ v. record {
+      place = v.place;
+      left_wall = v.left_wall;
+      right_wall = v.right_wall;
+      squares = v.squares.items;
+    } };
 }
 
 /// A word that is played move by move, seen as the list of its moves: each legal after those before it, of at most 200
@@ -67,7 +73,8 @@ impl Model for Skel {
 
     ghost view = { λ s. moves_stored s.turns.items s.played.items };
 
-    ghost invariant = { λ s. IsStoredSkeleton (moves_stored s.turns.items s.played.items) s.ends.items s.sizes.items s.signs.items
+    ghost invariant = { λ s. IsStoredSkeleton
+        (moves_stored s.turns.items s.played.items) s.ends.items s.sizes.items s.signs.items
         s.closed.items s.turns.items s.played.items };
 }
 
@@ -101,8 +108,8 @@ impl Skel {
         self.played.clear();
     }
 
-    /// Whether the move may be played: it hangs a square, and has a sign between each two of its squares and one more for
-    /// each side of the leftmost valley that is no wall.
+    /// Whether the move may be played: it hangs a square, and has a sign between each two of its squares and one more
+    /// for each side of the leftmost valley that is no wall.
     pub fn legal(&self, m: &Move) -> bool
         ensures { IsTrue result ↔ IsLegalMove (outline_of self.now) m.now }
     {
@@ -122,8 +129,8 @@ impl Skel {
         steps.tick();
     }
 
-    /// Plays a move, which must be legal, with at most 200 squares then. It counts no step, so a bound on steps says nothing of
-    /// moves that are played so.
+    /// Plays a move, which must be legal, with at most 200 squares then. It counts no step, so a bound on steps says
+    /// nothing of moves that are played so.
     pub fn play(&mut self, m: &Move)
         requires legal { IsLegalMove (outline_of self.old) m.now }
         requires few { order_of self.old + m.now.count ≤ 200 }
@@ -161,8 +168,8 @@ impl Skel {
         self.played.truncate(usize::from(turn.from));
     }
 
-    /// The leftmost valley: the first open segment with a wall or the sign under at its left, and a wall or the sign above at
-    /// its right.
+    /// The leftmost valley: the first open segment with a wall or the sign under at its left, and a wall or the sign
+    /// above at its right.
     pub fn valley(&self) -> Valley
         ensures { result ≡ leftmost_valley (outline_of self.now) }
     {
@@ -205,8 +212,8 @@ impl Skel {
         usize::from(self.sizes[place])
     }
 
-    /// The numbers of the open squares, segment by segment from left to right. Squares are numbered from 1 in the order of
-    /// hanging.
+    /// The numbers of the open squares, segment by segment from left to right. Squares are numbered from 1 in the order
+    /// of hanging.
     pub fn ends(&self) -> &[u8]
         ensures { result.now ≡ concat (outline_of self.now).segments }
     {
@@ -298,8 +305,8 @@ impl Skel {
         self.turns.len() > 0 && self.sizes.len() == 1
     }
 
-    /// The net of the word, which must be complete: a node for each move, and the last segment as the last node; a wire for
-    /// each square in the order of hanging, from the node from which it hangs to the node at which it ends.
+    /// The net of the word, which must be complete: a node for each move, and the last segment as the last node; a wire
+    /// for each square in the order of hanging, from the node from which it hangs to the node at which it ends.
     pub fn net(&self) -> Net
         requires { IsComplete self.now }
         ensures { result ≡ net_of_word self.now }
@@ -310,7 +317,7 @@ impl Skel {
     }
 }
 
-/// How many signs a side of a valley asks for: none at a wall, else one. (Own.)
+/// How many signs a side of a valley asks for: none at a wall, else one.
 pub fn open_side(wall: bool) -> usize
     ensures { result ≡ open_side wall }
 {
@@ -328,7 +335,8 @@ fn close_and_hang(
     requires few { length ends.old.items + length closed.old.items + turn.now.count ≤ 200 }
     ensures ends { ends.new.items ≡ splice ends.old.items turn.now.first (turn.now.first + turn.now.closed)
         (numbers_from (length ends.old.items + length closed.old.items + 1) turn.now.count) }
-    ensures closed { closed.new.items ≡ closed.old.items ++ slice_range ends.old.items turn.now.first (turn.now.first + turn.now.closed) }
+    ensures closed { closed.new.items
+        ≡ closed.old.items ++ slice_range ends.old.items turn.now.first (turn.now.first + turn.now.closed) }
 {
     let number = (ends.len() + closed.len() + 1) as u8;
     let first = usize::from(turn.first);
@@ -349,7 +357,7 @@ fn take_last(turns: &mut ArrayVec<MoveRecord, LARGEST_ORDER>) -> MoveRecord
 }
 
 impl Skel {
-    /// The record of the move at place i, from 0: what is kept of it. (Own.)
+    /// The record of the move at place i, from 0: what is kept of it.
     pub fn turn(&self, i: usize) -> MoveRecord
         requires { i < length self.now }
         ensures { SaysWhere self.now i result }

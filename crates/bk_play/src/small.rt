@@ -1,16 +1,18 @@
 //! Words of at most 16 squares that are played move by move and taken back.
 //!
-//! A small skeleton keeps the open segments as a skeleton does, in lists that lie in the value itself. Before a move its outline is
-//! copied; then the move is taken back by that copy, and what the moves appended is cut off again.
+//! A small skeleton keeps the open segments as a skeleton does, in lists that lie in the value itself. Before a move
+//! its outline is copied; then the move is taken back by that copy, and what the moves appended is cut off again.
 
 ghost use Rattle.std.specs.List.{concat, splice};
-ghost use Rattle.std.specs.Prelude.{IsTrue, [], count_by, filter, length, slice_range, sum, take, ◌+◌, ◌++◌, ◌-◌, ◌<◌, ◌∷◌, ◌≡◌, ◌≤◌, ◌↔◌};
+ghost use Rattle.std.specs.Prelude.{IsTrue, [], count_by, filter, length, slice_range, sum, take, ◌+◌, ◌++◌, ◌-◌, ◌<◌};
+ghost use Rattle.std.specs.Prelude.{◌∷◌, ◌≡◌, ◌≤◌, ◌↔◌};
 ghost use Rattle.bk_word.specs.Outline.{IsLegalMove, has_left_wall, has_right_wall, sizes_of, valley_of};
 ghost use Rattle.bk_word.specs.Play.{IsComplete, numbers_from, outline_of, parts};
 ghost use Rattle.bk_word.specs.Word.{order_of};
 ghost use Rattle.bk_word_net.specs.WordNet.{net_of_word};
-ghost use Rattle.bk_play.specs.Skeleton.{first_touched, joined_sizes, open_sides, sizes_after, turn_at, with_parted};
-ghost use Rattle.bk_play.specs.SmallSkeleton.{IsOutlineOf, IsValley, StandsAt};
+ghost use Rattle.bk_play.specs.Skeleton.{first_touched, joined_sizes, open_sides_of_record, sizes_after, turn_at};
+ghost use Rattle.bk_play.specs.Skeleton.{with_parted};
+ghost use Rattle.bk_play.specs.SmallSkeleton.{IsOutlineOf, IsValleyPlace, StandsAt};
 ghost use Rattle.bk_play.specs.Valley.{IsKeptSkeleton};
 
 use crate::netting::{end_nodes, wired};
@@ -26,7 +28,8 @@ use std::marker::Model;
 // Twice as many places as a list has items at most: as many lie behind each of its items as are copied at one stroke.
 const ROOM: usize = 32;
 
-// The moves of a small skeleton have at most 32 signs, each at most one more than squares, and the signs of a move are copied behind these.
+// The moves of a small skeleton have at most 32 signs, each at most one more than squares, and the signs of a move are
+// copied behind these.
 const SIGNS_ROOM: usize = 49;
 
 // A move of at most 16 squares has at most so many signs.
@@ -43,8 +46,8 @@ struct Open {
     first: u8,
 }
 
-/// The outline of a small skeleton, and how many closed squares, moves and signs of moves it keeps: what is needed to take the next
-/// move back. (Own.)
+/// The outline of a small skeleton, and how many closed squares, moves and signs of moves it keeps: what is needed to
+/// take the next move back.
 #[derive(Clone, Copy, Drop)]
 pub struct SmallOutline {
     open: Open,
@@ -53,8 +56,8 @@ pub struct SmallOutline {
     played: u8,
 }
 
-/// The place of the leftmost valley among the open segments, and among the open squares the place of its first one and of that behind
-/// its last one. (Own.)
+/// The place of the leftmost valley among the open segments, and among the open squares the place of its first one and
+/// of that behind its last one.
 #[derive(Clone, Copy, Drop)]
 pub struct ValleyPlace {
     pub place: usize,
@@ -77,8 +80,8 @@ impl Model for SmallMove {
     ghost view = { λ m. record { count = m.count; signs = m.signs.items } };
 }
 
-/// A word that is played move by move, seen as the list of its moves: each legal after those before it, of at most 16 squares in
-/// all. (Own.)
+/// A word that is played move by move, seen as the list of its moves: each legal after those before it, of at most 16
+/// squares in all.
 #[derive(Drop)]
 pub struct SmallSkel {
     open: Open,
@@ -96,7 +99,8 @@ impl Model for SmallSkel {
 
     ghost view = { λ s. moves_stored s.turns.items s.played.items };
 
-    ghost invariant = { λ s. IsStoredSmall (moves_stored s.turns.items s.played.items) s.open.ends.items s.open.sizes.items
+    ghost invariant = { λ s. IsStoredSmall
+        (moves_stored s.turns.items s.played.items) s.open.ends.items s.open.sizes.items
         s.open.signs.items s.closed.items s.turns.items s.played.items s.open.place s.open.first };
 }
 
@@ -147,8 +151,8 @@ impl SmallSkel {
         self.played.truncate(usize::from(before.played));
     }
 
-    /// Whether the move may be played: it hangs a square, and has a sign between each two of its squares and one more for
-    /// each side of the leftmost valley that is no wall.
+    /// Whether the move may be played: it hangs a square, and has a sign between each two of its squares and one more
+    /// for each side of the leftmost valley that is no wall.
     pub fn legal(&self, m: &SmallMove) -> bool
         ensures { IsTrue result ↔ IsLegalMove (outline_of self.now) m.now }
     {
@@ -180,7 +184,7 @@ impl SmallSkel {
 
     /// Where the leftmost valley stands.
     pub fn valley_place(&self) -> ValleyPlace
-        ensures { IsValley self.now result }
+        ensures { IsValleyPlace self.now result }
     {
         let place = usize::from(self.open.place);
         let start = usize::from(self.open.first);
@@ -217,8 +221,8 @@ impl SmallSkel {
         usize::from(self.open.sizes.as_slice()[usize::from(self.open.place)])
     }
 
-    /// The numbers of the open squares, segment by segment from left to right. Squares are numbered from 1 in the order of
-    /// hanging.
+    /// The numbers of the open squares, segment by segment from left to right. Squares are numbered from 1 in the order
+    /// of hanging.
     pub fn ends(&self) -> &[u8]
         ensures { result.now ≡ concat (outline_of self.now).segments }
     {
@@ -263,8 +267,9 @@ impl SmallSkel {
     }
 }
 
-/// The net of a small skeleton's word, which must be complete: a node for each move, and the last segment as the last node; a wire
-/// for each square in the order of hanging, from the node from which it hangs to the node at which it ends.
+/// The net of a small skeleton's word, which must be complete: a node for each move, and the last segment as the last
+/// node; a wire for each square in the order of hanging, from the node from which it hangs to the node at which it
+/// ends.
 pub fn small_net(skel: &SmallSkel) -> Net
     requires { IsComplete skel.now }
     ensures { result ≡ net_of_word skel.now }
@@ -274,15 +279,16 @@ pub fn small_net(skel: &SmallSkel) -> Net
     wired(skel.turns.as_slice(), &ended[..order])
 }
 
-// The record of a move where these segments are open, but for how many of the move's signs stay between two segments. So many signs of
-// earlier moves are kept.
+// The record of a move where these segments are open, but for how many of the move's signs stay between two segments.
+// So many signs of earlier moves are kept.
 #[inline(always)]
 fn turn_in(open: &Open, m: &SmallMove, from: usize) -> MoveRecord
     requires many { length open.now.sizes.items ≡ length open.now.signs.items + 1 }
     requires stands { StandsAt open.now.sizes.items open.now.signs.items open.now.place open.now.first }
     requires first { open.now.first ≤ 200 }
     requires from { from ≤ 400 }
-    ensures { with_parted result (count_by parts m.now.signs) ≡ turn_at open.now.sizes.items open.now.signs.items m.now from }
+    ensures { with_parted result (count_by parts m.now.signs)
+        ≡ turn_at open.now.sizes.items open.now.signs.items m.now from }
 {
     turn_at_valley(
         open.sizes.as_slice(),
@@ -301,7 +307,8 @@ fn close_and_hang(ends: &mut Short<u8, ROOM>, closed: &mut Short<u8, ROOM>, turn
     requires few { length ends.old.items + length closed.old.items + turn.now.count ≤ 16 }
     ensures ends { ends.new.items ≡ splice ends.old.items turn.now.first (turn.now.first + turn.now.closed)
         (numbers_from (length ends.old.items + length closed.old.items + 1) turn.now.count) }
-    ensures closed { closed.new.items ≡ closed.old.items ++ slice_range ends.old.items turn.now.first (turn.now.first + turn.now.closed) }
+    ensures closed { closed.new.items
+        ≡ closed.old.items ++ slice_range ends.old.items turn.now.first (turn.now.first + turn.now.closed) }
 {
     let number = (ends.len() + closed.len() + 1) as u8;
     let first = usize::from(turn.first);
@@ -350,8 +357,8 @@ fn numbers(first: u8, count: u8) -> Short<u8, INLINE_ORDER>
     Short::of(room, usize::from(count))
 }
 
-// Joins and parts the segments that a move touches: the new sizes and signs stand in the place of theirs. So many of the move's signs
-// stay as the result says.
+// Joins and parts the segments that a move touches: the new sizes and signs stand in the place of theirs. So many of
+// the move's signs stay as the result says.
 #[inline]
 fn part_and_join(
     sizes: &mut Short<u8, ROOM>,
@@ -359,17 +366,18 @@ fn part_and_join(
     turn: &MoveRecord,
     moved: &[Sign],
 ) -> u8
-    requires sizes_within { first_touched turn.now + (open_sides turn.now + 1) ≤ length sizes.old.items }
-    requires signs_within { first_touched turn.now + open_sides turn.now ≤ length signs.old.items }
+    requires sizes_within { first_touched turn.now + (open_sides_of_record turn.now + 1) ≤ length sizes.old.items }
+    requires signs_within { first_touched turn.now + open_sides_of_record turn.now ≤ length signs.old.items }
     requires sizes_few { length sizes.old.items ≤ 16 }
     requires signs_few { length signs.old.items ≤ 16 }
-    requires sizes_fit { length sizes.old.items - (open_sides turn.now + 1) + (count_by parts moved.now + 1) ≤ 16 }
-    requires signs_fit { length signs.old.items - open_sides turn.now + count_by parts moved.now ≤ 16 }
+    requires sizes_fit { length sizes.old.items - (open_sides_of_record turn.now + 1) +
+        (count_by parts moved.now + 1) ≤ 16 }
+    requires signs_fit { length signs.old.items - open_sides_of_record turn.now + count_by parts moved.now ≤ 16 }
     requires small { turn.now.left + length moved.now + turn.now.right ≤ 253 }
     ensures sizes { sizes.new.items ≡ splice sizes.old.items (first_touched turn.now)
-        (first_touched turn.now + (open_sides turn.now + 1)) (sizes_after turn.now moved.now) }
+        (first_touched turn.now + (open_sides_of_record turn.now + 1)) (sizes_after turn.now moved.now) }
     ensures signs { signs.new.items ≡ splice signs.old.items (first_touched turn.now)
-        (first_touched turn.now + open_sides turn.now) (filter parts moved.now) }
+        (first_touched turn.now + open_sides_of_record turn.now) (filter parts moved.now) }
     ensures parted { result ≡ count_by parts moved.now }
 {
     let start = turn.first_touched();

@@ -57,7 +57,7 @@ pub(crate) fn splice<T: Copy + Default + Drop, const N: usize>(
     list[start..start + items.len()].copy_from_slice(items);
 }
 
-/// Puts so many numbers, from a first one on, in the place of the items from one place up to another. (Own.)
+/// Puts so many numbers, from a first one on, in the place of the items from one place up to another.
 pub fn splice_numbers<const N: usize>(
     list: &mut ArrayVec<u8, N>,
     start: usize,

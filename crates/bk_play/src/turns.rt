@@ -1,15 +1,16 @@
 //! The record of a move, by which it is taken back.
 
-ghost use Rattle.std.specs.Prelude.{List, cond, count_by, length, nat_eq, slice_index, sum, take, ◌+◌, ◌-◌, ◌<◌, ◌≡◌, ◌≤◌};
+ghost use Rattle.std.specs.Prelude.{List, cond, count_by, length, nat_eq, slice_index, sum, take, ◌+◌, ◌-◌, ◌<◌, ◌≡◌};
+ghost use Rattle.std.specs.Prelude.{◌≤◌};
 ghost use Rattle.bk_word.specs.Outline.{valley_place};
 ghost use Rattle.bk_word.specs.Play.{parts};
-ghost use Rattle.bk_play.specs.Skeleton.{first_touched, open_sides, turn_at, with_parted};
+ghost use Rattle.bk_play.specs.Skeleton.{first_touched, open_sides_of_record, turn_at, with_parted};
 ghost use Rattle.bk_word.specs.declared.Sign.{Sign as SeenSign};
 
 use bk_word::Sign;
 
-/// What is kept of a move: where its valley stood, what stood there and beside it, what was hung, and which of the signs
-/// of all moves are its own. (Own.)
+/// What is kept of a move: where its valley stood, what stood there and beside it, what was hung, and which of the
+/// signs of all moves are its own.
 #[derive(Clone, Copy, Default, Drop)]
 pub struct MoveRecord {
     /// How many open segments stood at the valley's left.
@@ -41,14 +42,14 @@ impl MoveRecord {
 
     // How many of the valley's sides are no walls.
     pub(crate) fn open_sides(&self) -> usize
-        ensures { result ≡ open_sides self.now }
+        ensures { result ≡ open_sides_of_record self.now }
     {
         usize::from(self.left.min(1) + self.right.min(1))
     }
 }
 
-// The record of a move, of so many squares and with these signs, where the open segments have these sizes and signs, and so
-// many signs of earlier moves are kept.
+// The record of a move, of so many squares and with these signs, where the open segments have these sizes and signs,
+// and so many signs of earlier moves are kept.
 pub(crate) fn turn_for(
     sizes: &[u8],
     signs: &[Sign],
@@ -75,8 +76,8 @@ pub(crate) fn turn_for(
     turn
 }
 
-// The same but for how many of the signs stay between two segments, where so many open segments stand at the left of the leftmost
-// valley, these have so many squares, and the move has so many signs.
+// The record of a move but for how many of its signs stay between two segments, where so many open segments stand at
+// the left of the leftmost valley, these have so many squares, and the move has so many signs.
 pub(crate) fn turn_at_valley(
     sizes: &[u8],
     signs: &[Sign],
@@ -94,7 +95,8 @@ pub(crate) fn turn_at_valley(
     requires moved { moved ≤ 201 }
     requires from { from ≤ 400 }
     ensures { (own : List SeenSign) → length own ≡ moved
-        → with_parted result (count_by parts own) ≡ turn_at sizes.now signs.now (record { count = count; signs = own }) from }
+        → with_parted result (count_by parts own)
+        ≡ turn_at sizes.now signs.now (record { count = count; signs = own }) from }
 {
     let (place, first) = valley;
     MoveRecord {

@@ -1,7 +1,7 @@
 -- Worked examples of what the answer to one line writes: the line itself and a line feed, by two calls.
 use Rattle.std.proofs.Common.{◌≡◌, Bool, List, Some, [], ◌∷◌, false, refl, ℕ}
 use Rattle.std.specs.Prelude.{codes}
-use Rattle.bk_ports.specs.Answer.{HasOutcome, IsStopped}
+use Rattle.bk_ports.specs.WrittenAnswer.{HasOutcome, IsStopped}
 use Rattle.bk_ports.specs.declared.Outcome.TheVariants.{Accepted, NoMemory}
 use Rattle.bk_ports.specs.declared.line.Stop.TheVariants.{WriteFailed}
 

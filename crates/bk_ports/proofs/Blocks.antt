@@ -1,8 +1,9 @@
 -- A block of bytes, of which some lines are entered.
-use Rattle.std.proofs.Common.{◌≡◌, ℕ, ◌+◌, Bool, true, false, ◌||◌, List, [], ◌∷◌, ◌++◌, length, take, drop, Option, Some, None, refl, sym, ap, ◌∙◌}
+use Rattle.std.proofs.Common.{◌≡◌, ℕ, ◌+◌, Bool, ◌||◌, List, [], ◌∷◌, ◌++◌, length, take, drop, Option, Some, None, sym, ap, ◌∙◌}
 use Rattle.std.proofs.Common.{subst, arith}
 use Rattle.std.proofs.lemmas.List.{append_assoc, append-nil, length-append}
 use Rattle.memchr.specs.Find.{IsFirstByte, is_byte}
+use Rattle.bk_laws.proofs.Truth.{false-of_not_true}
 use Rattle.bk_ports.specs.Lines.{closed_lines, open_line}
 use Rattle.bk_ports.specs.Entering.{AreAllEntered, Entering, IsEntryStopped}
 use Rattle.bk_ports.specs.declared.line.Stop.{Stop}
@@ -10,21 +11,17 @@ use Rattle.bk_ports.proofs.Cuts.{IsFirstFeed, HasNoFeed, closed-none, open-none,
 use Rattle.bk_ports.proofs.Joining.{entered_more}
 use Rattle.bk_ports.proofs.StoppedLines.{stopped_after, stopped_front}
 
-not_true : (b : Bool) → ¬ (b ≡ true) → b ≡ false
-not_true true h = absurd (h refl)
-not_true false h = refl
-
 -- what a search for a line feed says
 pub first_feed : (bytes : List ℕ) (k : ℕ) → IsFirstByte (is_byte 10) bytes (Some k) → IsFirstFeed bytes k
 first_feed bytes k found = record {
   within = found.0.high;
   feed = found.1;
-  before = λ j below. not_true _ (found.0.before j (omega arith) below);
+  before = λ j below. false-of_not_true _ (found.0.before j (omega arith) below);
 }
 
 -- where no byte is the line feed there is none
 pub no_feed : (bytes : List ℕ) → IsFirstByte (is_byte 10) bytes None → HasNoFeed bytes
-no_feed bytes found = λ k below. not_true _ (found k (omega arith) below)
+no_feed bytes found = λ k below. false-of_not_true _ (found k (omega arith) below)
 
 -- of the lines of a block some are entered: `kept` is the front of the open line, `number` its number, and `rest` is still to
 -- be read
@@ -79,7 +76,7 @@ module _ {State : Type 0} (rules : Entering State) (start : State) (from : ℕ) 
   count_all s kept rest n a b p state none =
       state.count ∙ ap (λ (l : List (List ℕ)). from + length l) (sym (all_done kept rest state.done state.lines none))
 
-  -- and what is left is the open line
+  -- what is left of a block with no line feed is the open line
   pub open_all : (s : State) (kept rest : List ℕ) (n : ℕ) (a b : Option (List ℕ)) (p : Bool) → IsReadTo rules start from begun block kept rest n a b p s
       → HasNoFeed rest → open_line begun block ≡ kept ++ rest
   open_all s kept rest n a b p state none = state.open_is ∙ open-none kept rest none

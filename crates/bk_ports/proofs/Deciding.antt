@@ -1,9 +1,11 @@
 -- How a run over lines ends follows from its lines, where the source tells its bytes.
-use Rattle.std.proofs.Common.{Bool, List, Some, [], arith, false, inl, inr, refl, subst, sym, true, ℕ, ◌∙◌, ◌∷◌, ◌||◌, ◌≡◌}
-use Rattle.std.specs.Prelude.{Contains, ◌⊎◌}
+use Rattle.std.proofs.Common.{Bool, List, Some, [], arith, false, inl, inr, refl, subst, sym, true, ℕ, ◌∙◌, ◌∷◌, ◌≡◌}
+use Rattle.std.specs.Prelude.{Contains}
 use Rattle.std.specs.Io.KnownBytes.{Consumes, IsAtEnd}
 use Rattle.std.proofs.lemmas.Bool.{or_parts, true≢false}
-use Rattle.std.proofs.lemmas.List.Elements.{Contains-append_cases, Contains-append_left, Contains-append_right, Contains-push, Contains-push_cases}
+use Rattle.std.proofs.lemmas.List.Elements.{Contains-append_left, Contains-append_right}
+use Rattle.bk_laws.proofs.Membership.{contains-first, contains-first_or_later, contains-later}
+use Rattle.bk_laws.proofs.Truth.{or-right_of_false}
 use Rattle.bk_ports.specs.Answered.{AreAnswered, Replies, answers_of}
 use Rattle.bk_ports.specs.Deciding.{HasRefused, HasWanting}
 use Rattle.bk_ports.specs.Ending.{EndsWith, IsCutShort, Streams}
@@ -12,39 +14,20 @@ use Rattle.bk_ports.specs.Reply.{AreReplies, Reply, some_refused}
 use Rattle.bk_ports.specs.declared.Ended.TheVariants.{NoneRefused, SomeRefused}
 use Rattle.bk_ports.proofs.TakenBytes.{read_front, taken_all}
 
--- ---- the lines among which one is
-
-first_or_later : (line : List ℕ) (lines : List (List ℕ)) (sought : List ℕ) → Contains (line ∷ lines) sought
-    → (line ≡ sought) ⊎ Contains lines sought
-first_or_later line lines sought has = elim (Contains-append_cases (line ∷ []) lines sought has) [
-  | inl one ↦ elim (Contains-push_cases [] line sought one) [ inl none ↦ absurd (omega (arith, none.1)) | inr e ↦ inl e ]
-  | inr later ↦ inr later
-]
-
-is_first : (line : List ℕ) (lines : List (List ℕ)) → Contains (line ∷ lines) line
-is_first line lines = Contains-append_left (line ∷ []) lines line (Contains-push [] line)
-
-is_later : (line : List ℕ) (lines : List (List ℕ)) (sought : List ℕ) → Contains lines sought → Contains (line ∷ lines) sought
-is_later line lines sought has = Contains-append_right (line ∷ []) lines sought has
-
 -- ---- which line is refused
 
 -- a line has one reply
 abbrev pub HasOneReply : (List ℕ → List (List ℕ) → Bool → Type 0) → Type 0
 HasOneReply answers = (line : List ℕ) (pieces others : List (List ℕ)) (p q : Bool) → answers line pieces p → answers line others q → (pieces ≡ others) × (p ≡ q)
 
-refused_later : (p q : Bool) → p ≡ false → (p || q) ≡ true → q ≡ true
-refused_later true q e h = absurd (true≢false e)
-refused_later false q e h = h
-
 module _ (replies : Replies) where
   here_or_later : (line : List ℕ) (lines : List (List ℕ)) (r : Reply) → replies.answers line r.pieces r.refused → (p : Bool)
       → r.refused ≡ p → (r.refused ≡ false → HasRefused replies lines) → HasRefused replies (line ∷ lines)
   here_or_later line lines r answer true e later =
-      (line, is_first line lines, r.pieces, subst (λ (q : Bool). replies.answers line r.pieces q) e answer)
+      (line, contains-first line lines, r.pieces, subst (λ (q : Bool). replies.answers line r.pieces q) e answer)
   here_or_later line lines r answer false e later =
       let found = later e in
-      (found.0, is_later line lines found.0 found.1, found.2, found.3)
+      (found.0, contains-later line lines found.0 found.1, found.2, found.3)
 
   -- where some reply is a refusal, some line is refused
   refused_line : (lines : List (List ℕ)) (given : List Reply) → AreReplies replies.answers lines given
@@ -54,7 +37,7 @@ module _ (replies : Replies) where
   refused_line (line ∷ lines) [] are some = absurd are
   refused_line (line ∷ lines) (r ∷ rs) are some =
       here_or_later line lines r are.0 r.refused refl
-      (λ e. refused_line lines rs are.1 (refused_later r.refused (some_refused rs) e some))
+      (λ e. refused_line lines rs are.1 (or-right_of_false r.refused (some_refused rs) e some))
 
   -- where no reply is one, no line is refused
   none_refused : HasOneReply replies.answers → (lines : List (List ℕ)) (given : List Reply) → AreReplies replies.answers lines given
@@ -64,7 +47,7 @@ module _ (replies : Replies) where
   none_refused one (line ∷ lines) [] are none found = absurd are
   none_refused one (line ∷ lines) (r ∷ rs) are none found =
       let parts = or_parts r.refused (some_refused rs) none in
-      elim (first_or_later line lines found.0 found.1) [
+      elim (contains-first_or_later line lines found.0 found.1) [
         | inl e ↦
             let own : replies.answers line found.2 true = subst (λ (l : List ℕ). replies.answers l found.2 true) (sym e) found.3 in
             true≢false ((one line found.2 r.pieces true r.refused own are.0).1 ∙ parts.0)
@@ -81,7 +64,7 @@ module _ (replies : Replies) (streams : Streams) (input : List ℕ) (tells : str
       let front = read_front input streams.left streams.left_after tells h.input h.lines h.taken h.read in
       let here : Contains h.lines s.line =
       subst (λ (l : List (List ℕ)). Contains l s.line) (sym s.split)
-      (Contains-append_right s.done (s.line ∷ s.unseen) s.line (is_first s.line s.unseen)) in (
+      (Contains-append_right s.done (s.line ∷ s.unseen) s.line (contains-first s.line s.unseen)) in (
         s.line,
         subst (λ (l : List (List ℕ)). Contains l s.line) (sym front.1) (Contains-append_left h.lines front.0 s.line here),
         s.cause,

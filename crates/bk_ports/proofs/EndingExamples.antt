@@ -2,7 +2,7 @@
 use Rattle.std.proofs.Common.{◌≡◌, ℕ, ◌+◌, ◌-◌, ◌^◌, ◌==◌, [], ◌∷◌, ◌++◌, Some, false, get_or, inl, inr, lit<, lit≤, refl, true}
 use Rattle.std.specs.Prelude.{codes}
 use Rattle.bk_ports.specs.Answered.{Replies, answers_of}
-use Rattle.bk_ports.specs.Asking.{asked_count}
+use Rattle.bk_ports.specs.ReadSize.{asked_count}
 use Rattle.bk_ports.specs.Deciding.{HasRefused}
 use Rattle.bk_ports.specs.Ending.{AreRead, EndsWith, Streams}
 use Rattle.bk_ports.specs.Entering.{AreEntered, Entering}
@@ -11,7 +11,7 @@ use Rattle.bk_ports.specs.declared.Ended.TheVariants.{ReadFailed, SomeRefused, W
 use Rattle.bk_ports.specs.Reply.{Reply}
 
 -- each line is answered by itself and a line feed, and one that begins with `!` is refused
-abbrev echo : Replies
+abbrev pub echo : Replies
 echo = record {
   answers = λ line pieces refused. (pieces ≡ (line ++ 10 ∷ []) ∷ []) × (refused ≡ (get_or line 0 0 == 33));
   may_want = λ line. ⊥;

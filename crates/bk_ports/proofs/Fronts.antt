@@ -1,22 +1,17 @@
 -- Lines of which the same front is kept.
-use Rattle.std.proofs.Common.{◌≡◌, ℕ, zero, suc, ◌==◌, true, false, List, [], ◌∷◌, ◌++◌, length, ◌+◌, min, take, map, Result, Ok, Err, IsOk}
+use Rattle.std.proofs.Common.{◌≡◌, ℕ, ◌==◌, true, false, List, [], ◌∷◌, ◌++◌, length, ◌+◌, min, take, map, Result, Ok, Err, IsOk}
 use Rattle.std.proofs.Common.{OnOk, ◌≤◌, refl, sym, ap, ◌∙◌, arith, ⊎_elim}
 use Rattle.std.proofs.lemmas.Bool.{cases_Bool, false≢true}
 use Rattle.std.proofs.lemmas.List.{append-nil, take_min, length-take, take_all}
 use Rattle.std.proofs.Math.Seq.{take-append-add}
-use Rattle.bk_ports.specs.Lines.{closed_lines, open_line, last_line, kept_front}
+use Rattle.bk_laws.proofs.ListParts.{take-append_take}
+use Rattle.bk_ports.specs.Lines.{closed_lines, kept_front, line_at_end, open_line}
 use Rattle.bk_ports.proofs.Cuts.{closed-feed, closed-other, open-feed, open-other}
 
--- what is added to a front is added to the line
-pub take-front : (n : ℕ) (xs ys : List ℕ) → take n (take n xs ++ ys) ≡ take n (xs ++ ys)
-take-front zero xs ys = refl
-take-front (suc n) [] ys = refl
-take-front (suc n) (x ∷ xs) ys = ap (λ (l : List ℕ). x ∷ l) (take-front n xs ys)
-
--- the same is added to lines of which the same front is kept
+-- lines of which the same front is kept keep the same front when the same is added
 front-append : (xs ys zs : List ℕ) → kept_front xs ≡ kept_front ys → kept_front (xs ++ zs) ≡ kept_front (ys ++ zs)
 front-append xs ys zs e =
-    sym (take-front 8193 xs zs) ∙ ap (λ (l : List ℕ). take 8193 (l ++ zs)) e ∙ take-front 8193 ys zs
+    sym (take-append_take 8193 xs zs) ∙ ap (λ (l : List ℕ). take 8193 (l ++ zs)) e ∙ take-append_take 8193 ys zs
 
 -- the lines that a line feed ends, and the open line, where the same front of the line that has begun is kept
 pub closed-fronts : (xs ys bytes : List ℕ) → kept_front xs ≡ kept_front ys → map kept_front (closed_lines xs bytes) ≡ map kept_front (closed_lines ys bytes)
@@ -33,6 +28,7 @@ closed-fronts xs ys (b ∷ bs) e =
     ∙ ap (λ (l : List (List ℕ)). map kept_front l) (sym (closed-other ys bs b t)))
     (cases_Bool (b == 10))
 
+-- lines with the same front kept have the same front kept when further bytes follow
 pub open-fronts : (xs ys bytes : List ℕ) → kept_front xs ≡ kept_front ys → kept_front (open_line xs bytes) ≡ kept_front (open_line ys bytes)
 open-fronts xs ys [] e = e
 open-fronts xs ys (b ∷ bs) e =
@@ -46,9 +42,11 @@ open-fronts xs ys (b ∷ bs) e =
 
 -- a front is its own front
 pub front-front : (xs : List ℕ) → kept_front (kept_front xs) ≡ kept_front xs
-front-front xs = ap (λ (l : List ℕ). take 8193 l) (sym (append-nil (take 8193 xs))) ∙ take-front 8193 xs [] ∙ ap (λ (l : List ℕ). take 8193 l) (append-nil xs)
+front-front xs =
+    ap (λ (l : List ℕ). take 8193 l) (sym (append-nil (take 8193 xs))) ∙ take-append_take 8193 xs [] ∙ ap (λ (l : List ℕ). take 8193 l) (append-nil xs)
 
-pub last-fronts : (xs : List ℕ) → map kept_front (last_line (kept_front xs)) ≡ map kept_front (last_line xs)
+-- the last line of a kept front is the kept front of the last line
+pub last-fronts : (xs : List ℕ) → map kept_front (line_at_end (kept_front xs)) ≡ map kept_front (line_at_end xs)
 last-fronts [] = refl
 last-fronts (x ∷ xs) = ap (λ (l : List ℕ). l ∷ []) (front-front (x ∷ xs))
 
@@ -71,6 +69,7 @@ split_next l f lines front back here s = record {
   same_later = s.same_later;
 }
 
+-- lines that keep the fronts of two parts are split into parts that keep them
 pub split_as : (lines front back : List (List ℕ)) → map kept_front (front ++ back) ≡ map kept_front lines → IsSplitAs lines front back
 split_as lines [] back e = record { first = []; later = lines; split = refl; same_first = refl; same_later = e }
 split_as [] (f ∷ fs) back e = absurd (cc)

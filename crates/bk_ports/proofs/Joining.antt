@@ -3,7 +3,7 @@ use Rattle.std.proofs.Common.{◌≡◌, ℕ, ◌+◌, Bool, ◌||◌, List, [],
 use Rattle.std.proofs.lemmas.List.{length-map}
 use Rattle.std.proofs.lemmas.Grind.{flat_map-append}
 use Rattle.std.proofs.lemmas.List.Folds.{list_any-append}
-use Rattle.bk_ports.proofs.KnownSteps.{appends_more}
+use Rattle.bk_laws.proofs.Bytes.{appends-then}
 use Rattle.bk_ports.specs.Lines.{kept_front}
 use Rattle.bk_ports.specs.Reply.{Reply, reply_text, is_refused, text_of, some_refused}
 use Rattle.bk_ports.specs.Entering.{AreAllEntered, AreEntered, Entering}
@@ -40,14 +40,14 @@ module _ {State : Type 0} (rules : Entering State) where
       let rest : map kept_front xs ≡ map kept_front os = cc in
       (are.0, subst (λ (f : List ℕ). rules.enters s n f r.pieces r.refused are.0) here are.1, entered-fronts are.0 l (n + 1) xs os rs rest are.2)
 
-  -- and so with all that was written, and whether one was refused
+  -- lines entered one after another are entered as all of them, with what was written and whether one was refused
   pub entered_more : (s m l : State) (n : ℕ) (xs ys : List (List ℕ)) (a b c : Option (List ℕ)) (p q : Bool) → AreAllEntered rules s n xs a b p m
       → AreAllEntered rules m (n + length xs) ys b c q l → AreAllEntered rules s n (xs ++ ys) a c (p || q) l
   entered_more s m l n xs ys a b c p q first next = record {
     replies = first.replies ++ next.replies;
     each = entered-append s m l n xs ys first.replies next.replies first.each next.each;
     written =
-        appends_more a b c (text_of first.replies) (text_of next.replies) (text_of (first.replies ++ next.replies))
+        appends-then a b c (text_of first.replies) (text_of next.replies) (text_of (first.replies ++ next.replies))
         first.written next.written (flat_map-append reply_text first.replies next.replies);
     any =
         list_any-append is_refused first.replies next.replies

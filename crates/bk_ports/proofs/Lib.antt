@@ -19,3 +19,5 @@ pub mod OtherReplies
 pub mod TakenBytes
 pub mod CountedFaults
 pub mod Deciding
+pub mod CallOrder
+pub mod CallExamples

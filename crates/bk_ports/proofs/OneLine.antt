@@ -1,30 +1,17 @@
 -- One line that was entered, or at which a run stopped, taken as the only one of some lines: by the result of the call that entered it.
-use Rattle.std.proofs.Common.{◌≡◌, ℕ, ◌+◌, ◌<◌, Bool, true, false, ◌||◌, ◌==◌, List, [], ◌∷◌, length, Option, Some, None, Result, Ok, Err, IfOk, IfErr}
-use Rattle.std.proofs.Common.{refl, sym, ◌∙◌, subst, arith}
+use Rattle.std.proofs.Common.{◌≡◌, ℕ, ◌+◌, ◌<◌, Bool, List, [], ◌∷◌, length, Option, Result, Ok, Err, IfOk, IfErr}
+use Rattle.std.proofs.Common.{refl, sym, subst, arith}
 use Rattle.std.specs.List.{concat}
-use Rattle.std.specs.Io.KnownBytes.{Appends, Keeps}
-use Rattle.std.proofs.lemmas.Bool.{true≢false}
+use Rattle.std.specs.Io.KnownBytes.{Appends}
 use Rattle.std.proofs.lemmas.List.{append-nil}
+use Rattle.std.proofs.Math.Bool.{or-false}
+use Rattle.bk_laws.proofs.Bytes.{appends-nothing_where_kept}
 use Rattle.bk_ports.specs.Causes.{AppendsPrefix}
-use Rattle.bk_ports.specs.Lines.{kept_front, last_line}
-use Rattle.bk_ports.specs.Answer.{IsWritten, IsBegun, IsWanting, IsStopped}
+use Rattle.bk_ports.specs.Lines.{kept_front, line_at_end}
+use Rattle.bk_ports.specs.WrittenAnswer.{IsAnswerBegun, IsStopped, IsWanting, IsWritten}
 use Rattle.bk_ports.specs.Entering.{AreAllEntered, Entering, IsEntryBegun, IsEntryStopped, IsEntryWanting}
 use Rattle.bk_ports.specs.declared.line.Stop.{Stop}
 use Rattle.bk_ports.specs.declared.line.Stop.TheVariants.{WriteFailed, NoMemory}
-
-kept_appends : (a b : Option (List ℕ)) → Keeps a b → Appends a b []
-kept_appends None b k = tt
-kept_appends (Some xs) None k = absurd k
-kept_appends (Some xs) (Some ys) k = k ∙ sym (append-nil xs)
-
--- nothing is written where nothing is to be
-pub none_appends : (a : Option (List ℕ)) → Appends a a []
-none_appends None = tt
-none_appends (Some xs) = sym (append-nil xs)
-
-or_false : (b : Bool) → (b || false) ≡ b
-or_false true = refl
-or_false false = refl
 
 -- that the line was entered, and what was written for it
 abbrev pub IsLineEntered : {State : Type 0} → Entering State → State → State → ℕ → List ℕ → Option (List ℕ) → Option (List ℕ) → Bool → Type 0
@@ -42,10 +29,10 @@ module _ {State : Type 0} (rules : Entering State) (s : State) (n : ℕ) (line f
     replies = record { pieces = h.pieces; refused = p } ∷ [];
     each = (l, subst (λ (f : List ℕ). rules.enters s n f h.pieces p l) e h.answer, refl);
     written = subst (λ (t : List ℕ). Appends a b t) (sym (append-nil (concat h.pieces))) h.written;
-    any = or_false p;
+    any = or-false p;
   }
 
-  begun_line : IsBegun (λ pieces refused. (l : State) × rules.enters s n front pieces refused l) a b → IsEntryBegun rules s n (line ∷ []) a b
+  begun_line : IsAnswerBegun (λ pieces refused. (l : State) × rules.enters s n front pieces refused l) a b → IsEntryBegun rules s n (line ∷ []) a b
   begun_line h = record {
     begun = line ∷ [];
     unseen = [];
@@ -68,7 +55,7 @@ module _ {State : Type 0} (rules : Entering State) (s : State) (n : ℕ) (line f
         last = s;
         each = refl;
         cause = subst (λ (k : ℕ). rules.may_want s k (kept_front line)) same (subst (λ (f : List ℕ). rules.may_want s n f) e h.cause);
-        written = kept_appends a b h.kept;
+        written = appends-nothing_where_kept a b h.kept;
       }
 
   stopped_line : (stop : Stop) → IsLineStopped rules s n front a b stop → IsEntryStopped rules s n (line ∷ []) a b stop
@@ -81,34 +68,29 @@ module _ {State : Type 0} (rules : Entering State) (s : State) (n : ℕ) (line f
   line_entered l (Ok p) h = entered_line l p h
   line_entered l (Err stop) h = tt
 
-  -- and by the result of the call at which the run stopped
+  -- a call that stops at a line stops a run over that line
   pub line_stopped : (r : Result Bool Stop) → IfErr r (λ stop. IsLineStopped rules s n front a b stop)
       → IfErr r (λ stop. IsEntryStopped rules s n (line ∷ []) a b stop)
   line_stopped (Ok p) h = tt
   line_stopped (Err stop) h = stopped_line stop h
 
--- a line that isn't of no bytes has some
-pub not_none : (line : List ℕ) → (length line == 0) ≡ false → 0 < length line
-not_none [] e = absurd (true≢false e)
-not_none (b ∷ bs) e = omega arith
-
-last_whole : (line : List ℕ) → 0 < length line → last_line line ≡ line ∷ []
+last_whole : (line : List ℕ) → 0 < length line → line_at_end line ≡ line ∷ []
 last_whole [] some = absurd (omega arith)
 last_whole (b ∷ bs) some = refl
 
--- the same of the line at the end of the input, if it has bytes
+-- a line at the end of the input, if it has bytes, is entered by the result of its call
 module _ {State : Type 0} (rules : Entering State) (s : State) (n : ℕ) (line front : List ℕ) (a b : Option (List ℕ)) (some : 0 < length line)
     (e : front ≡ kept_front line) where
   -- the line was entered
   pub last_entered : (l : State) (r : Result Bool Stop) → IfOk r (λ p. IsLineEntered rules s l n front a b p)
-      → IfOk r (λ p. AreAllEntered rules s n (last_line line) a b p l)
+      → IfOk r (λ p. AreAllEntered rules s n (line_at_end line) a b p l)
   last_entered l r h =
       subst (λ (lines : List (List ℕ)). IfOk r (λ p. AreAllEntered rules s n lines a b p l)) (sym (last_whole line some))
       (line_entered rules s n line front a b e l r h)
 
   -- the run stopped at it
   pub last_stopped : (r : Result Bool Stop) → IfErr r (λ stop. IsLineStopped rules s n front a b stop)
-      → IfErr r (λ stop. IsEntryStopped rules s n (last_line line) a b stop)
+      → IfErr r (λ stop. IsEntryStopped rules s n (line_at_end line) a b stop)
   last_stopped r h =
       subst (λ (lines : List (List ℕ)). IfErr r (λ stop. IsEntryStopped rules s n lines a b stop)) (sym (last_whole line some))
       (line_stopped rules s n line front a b e r h)

@@ -1,6 +1,6 @@
 -- Where what one run writes is what another writes, the endings of the one are those of the other.
 use Rattle.std.proofs.Common.{Bool, List, Option, false, inl, inr, true, ℕ}
-use Rattle.bk_ports.specs.Ending.{EndsWith, IsBrokenBehind, IsWhole, Output, Streams}
+use Rattle.bk_ports.specs.Ending.{EndsWith, IsBrokenBehind, IsWholeOutput, Output, Streams}
 use Rattle.bk_ports.specs.declared.Ended.{Ended}
 use Rattle.bk_ports.specs.declared.Ended.TheVariants.{NoMemory, NoneRefused, ReadFailed, SomeRefused, TooMany, WriteFailed}
 
@@ -11,7 +11,7 @@ pub record StopsAs (one other : Output) : Type 0 where
   pub begun_behind : (lines : List (List ℕ)) (a b : Option (List ℕ)) → one.begun_behind lines a b → other.begun_behind lines a b
   pub short : (lines : List (List ℕ)) (a b : Option (List ℕ)) → one.short lines a b → other.short lines a b
 
--- and wholly so
+-- what one run writes is what another writes, also where the input was read to its end
 pub record EndsAs (one other : Output) : Type 0 where
   pub stops : StopsAs one other
   pub whole : (lines : List (List ℕ)) (refused : Bool) (a b : Option (List ℕ)) → one.whole lines refused a b → other.whole lines refused a b
@@ -67,7 +67,7 @@ module _ (one other : Output) where
     written = at_stops.lines _ h.refused streams.written streams.written_after h.written;
   }
 
-  -- and so does any run
+  -- any run ends alike by the outputs of one and of another
   pub ends_as : EndsAs one other → (streams : Streams) (ended : Ended) → EndsWith one streams ended → EndsWith other streams ended
   ends_as alike streams NoneRefused h = record {
     input = h.input;
@@ -90,10 +90,10 @@ module _ (one other : Output) where
 
 -- what is written behind all lines
 module _ (one other : Output) (left left_after a b c : Option (List ℕ)) (p : Bool)
-    (all : IsWhole one (record { left = left; left_after = left_after; written = a; written_after = b }) p) where
+    (all : IsWholeOutput one (record { left = left; left_after = left_after; written = a; written_after = b }) p) where
   -- it makes the output whole
   pub whole_behind : (q : Bool) → ((lines : List (List ℕ)) → one.whole lines p a b → other.whole lines q a c)
-      → IsWhole other (record { left = left; left_after = left_after; written = a; written_after = c }) q
+      → IsWholeOutput other (record { left = left; left_after = left_after; written = a; written_after = c }) q
   whole_behind q more =
       record { input = all.input; taken = all.taken; at_end = all.at_end; within = all.within; written = more _ all.written }
 

@@ -47,6 +47,7 @@ module _ (replies others : Replies) (within : AreWithin replies others) where
     written = h.written;
   }
 
+  -- a run that ends by some replies ends by others that each of them is one of
   pub ends_within : (streams : Streams) (ended : Ended) → EndsWith (answers_of replies) streams ended → EndsWith (answers_of others) streams ended
   ends_within =
       ends_as (answers_of replies) (answers_of others)

@@ -4,7 +4,7 @@ use Rattle.std.proofs.Common.{sym, subst}
 use Rattle.std.specs.Prelude.{Err, Ok, OnErr, Result}
 use Rattle.bk_ports.specs.Reply.{Reply, AreReplies}
 use Rattle.bk_ports.specs.Lines.{kept_front}
-use Rattle.bk_ports.specs.Answer.{IsBegun}
+use Rattle.bk_ports.specs.WrittenAnswer.{IsAnswerBegun}
 use Rattle.bk_ports.specs.Answered.{AreAnswered, AreBegun, AreCutShort, Replies, answers_of}
 use Rattle.bk_ports.specs.Ending.{EndsWith, Streams}
 use Rattle.bk_ports.specs.Entering.{AreAllEntered, AreEntered, Entering, IsEntryBegun, IsEntryWanting, entries_of}
@@ -82,6 +82,6 @@ module _ {State : Type 0} (rules : Entering State) (serves : State → Type 0) (
 -- a reply that was begun, and the state that would follow
 pub begun_in_state : {T E State : Type 0} (r : Result T E) (answers : List (List ℕ) → Bool → Type 0) (follows : State → Type 0) (l : State)
     (a b : Option (List ℕ))
-    → follows l → OnErr r (IsBegun answers a b) → OnErr r (IsBegun (λ pieces refused. (x : State) × (answers pieces refused × follows x)) a b)
+    → follows l → OnErr r (IsAnswerBegun answers a b) → OnErr r (IsAnswerBegun (λ pieces refused. (x : State) × (answers pieces refused × follows x)) a b)
 begun_in_state (Ok v) answers follows l a b f h = tt
 begun_in_state (Err e) answers follows l a b f h = record { pieces = h.pieces; refused = h.refused; answer = (l, (h.answer, f)); written = h.written }

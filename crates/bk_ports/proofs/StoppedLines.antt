@@ -4,8 +4,9 @@ use Rattle.std.proofs.Common.{◌≡◌, ℕ, ◌+◌, Bool, List, [], ◌∷◌
 use Rattle.std.specs.Io.KnownBytes.{Appends}
 use Rattle.std.proofs.lemmas.List.{append_assoc, length-append}
 use Rattle.std.proofs.lemmas.Grind.{flat_map-append}
+use Rattle.bk_laws.proofs.Bytes.{appends-then}
 use Rattle.bk_ports.specs.Causes.{AppendsPrefix}
-use Rattle.bk_ports.proofs.KnownSteps.{appends_more, prefix_after}
+use Rattle.bk_ports.proofs.KnownSteps.{prefix_after}
 use Rattle.bk_ports.specs.Lines.{kept_front}
 use Rattle.bk_ports.specs.Reply.{Reply, reply_text, text_of}
 use Rattle.bk_ports.specs.Entering.{AreAllEntered, AreEntered, Entering, IsEntryBegun, IsEntryStopped, IsEntryWanting}
@@ -72,7 +73,7 @@ module _ {State : Type 0} (rules : Entering State) where
         each = entered-append rules s m next.last n xs next.done first.replies next.replies first.each next.each;
         cause = subst (λ (k : ℕ). rules.may_want next.last k (kept_front next.line)) same next.cause;
         written =
-            appends_more a b c (text_of first.replies) (text_of next.replies) (text_of (first.replies ++ next.replies))
+            appends-then a b c (text_of first.replies) (text_of next.replies) (text_of (first.replies ++ next.replies))
             first.written next.written (flat_map-append reply_text first.replies next.replies);
       }
 

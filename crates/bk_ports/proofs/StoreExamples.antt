@@ -2,6 +2,7 @@
 use Rattle.std.proofs.Common.{◌≡◌, ℕ, List, [], ◌∷◌, Some, None, Ok, Err, refl}
 use Rattle.std.specs.Prelude.{codes}
 use Rattle.bk_ports.specs.Causes.{counted}
+use Rattle.bk_ports.specs.Told.{count_after, told_of}
 use Rattle.bk_ports.specs.Stores.{Supply, given_count, after_read, limit_of, Store, kept_count, after_write}
 
 -- a count rises, and stays at the last value of a `u64`
@@ -10,6 +11,13 @@ rises = refl
 
 stays : counted 18446744073709551615 ≡ 18446744073709551615
 stays = refl
+
+-- an error is counted, and what was given is told
+an_error : count_after {T = ℕ} {E = ℕ} (Err 9) 4 ≡ 5
+an_error = refl
+
+what_was_given : told_of {T = ℕ} {E = ℕ} (Ok 7) ≡ Ok 7
+what_was_given = refl
 
 -- `abcdef`, at most 4 bytes a call, where call 1 fails
 abbrev six : ℕ → Supply

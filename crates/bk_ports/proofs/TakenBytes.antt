@@ -5,7 +5,7 @@ use Rattle.std.specs.Io.KnownBytes.{Consumes, IsAtEnd}
 use Rattle.std.proofs.lemmas.List.{append_assoc, append-nil, length-append}
 use Rattle.bk_ports.specs.Deciding.{TookTooMany}
 use Rattle.bk_ports.specs.Ending.{AreRead, EndsWith, Output, Streams}
-use Rattle.bk_ports.specs.Lines.{closed_lines, last_line, lines_of, open_line}
+use Rattle.bk_ports.specs.Lines.{closed_lines, line_at_end, lines_of, open_line}
 use Rattle.bk_ports.specs.declared.Ended.{Ended}
 use Rattle.bk_ports.specs.declared.Ended.TheVariants.{NoMemory, NoneRefused, ReadFailed, SomeRefused, TooMany, WriteFailed}
 use Rattle.bk_ports.proofs.Cuts.{closed-append}
@@ -28,7 +28,7 @@ module _ (input : List ℕ) (left left_after : Option (List ℕ)) (tells : left 
       let none : front.0 ≡ [] = subst (λ (l : Option (List ℕ)). IsAtEnd l) front.1 at_end in
       front.2 ∙ ap (λ (l : List ℕ). taken ++ l) none ∙ append-nil taken
 
-  -- and it has one length
+  -- bytes that are taken from a source have one length
   one_length : (a b : List ℕ) → Consumes left left_after a → Consumes left left_after b → length a ≡ length b
   one_length a b p q =
       let m = taken_front a p in
@@ -52,7 +52,7 @@ module _ (input : List ℕ) (left left_after : Option (List ℕ)) (tells : left 
   )
   read_front taken lines h (inl e) =
       let front = taken_front taken h in
-      let last = last_line (open_line [] input) in
+      let last = line_at_end (open_line [] input) in
       let later = closed_lines (open_line [] taken) front.0 in (
         later ++ last,
         ap (λ (l : List ℕ). closed_lines [] l ++ last) front.2
@@ -99,7 +99,7 @@ ends_took output streams WriteFailed (inr h) = record { input = h.input; taken =
 ends_took output streams NoMemory h = record { input = h.input; taken = h.taken; within = h.within }
 ends_took output streams TooMany h = took_one_more streams.left streams.left_after h.first h.more h.taken h.full h.one
 
--- and the converse, where the source tells its bytes
+-- a run takes too many bytes exactly where it ends so, if the source tells its bytes
 module _ (streams : Streams) (input : List ℕ) (tells : streams.left ≡ Some input) where
   few_or_many : (taken : List ℕ) → Consumes streams.left streams.left_after taken → length taken ≤ 2 ^ 30
       → TookTooMany streams.left streams.left_after → ⊥

@@ -1,12 +1,12 @@
 -- An input of which some bytes are taken, and their lines entered.
-use Rattle.std.proofs.Common.{◌≡◌, ℕ, ◌+◌, ◌^◌, ◌≤◌, Bool, true, false, ◌||◌, List, [], ◌++◌, length, take, map, Option, inl, inr}
+use Rattle.std.proofs.Common.{◌≡◌, ℕ, ◌+◌, ◌^◌, ◌≤◌, Bool, true, false, ◌||◌, List, [], ◌++◌, length, map, Option, inl, inr}
 use Rattle.std.proofs.Common.{refl, sym, ap, ◌∙◌, subst, arith}
 use Rattle.std.specs.Io.KnownBytes.{Consumes, IsAtEnd}
 use Rattle.std.proofs.lemmas.List.{append-nil, length-append}
-use Rattle.bk_ports.proofs.KnownSteps.{consumes_more}
-use Rattle.bk_ports.specs.Lines.{closed_lines, open_line, last_line, lines_of, kept_front}
+use Rattle.bk_laws.proofs.Bytes.{consumes-then}
+use Rattle.bk_ports.specs.Lines.{closed_lines, kept_front, line_at_end, lines_of, open_line}
 use Rattle.bk_ports.specs.Entering.{AreAllEntered, Entering, IsEntryStopped, entries_of}
-use Rattle.bk_ports.specs.Ending.{AreRead, EndsWith, IsTooMany, IsWhole, Streams, ended_of, verdict_of}
+use Rattle.bk_ports.specs.Ending.{AreRead, EndsWith, IsTooMany, IsWholeOutput, Streams, ended_of, verdict_of}
 use Rattle.bk_ports.specs.declared.Ended.{Ended}
 use Rattle.bk_ports.specs.declared.line.Stop.{Stop}
 use Rattle.bk_ports.specs.declared.line.Stop.TheVariants.{WriteFailed, NoMemory}
@@ -43,7 +43,7 @@ module _ {State : Type 0} (rules : Entering State) (start : State) where
       let joined : closed_lines [] (state.input ++ bytes) ≡ known ++ added = closed-append [] state.input bytes in
       record {
         input = state.input ++ bytes;
-        taken = consumes_more l m n state.input bytes (state.input ++ bytes) state.taken read refl;
+        taken = consumes-then l m n state.input bytes (state.input ++ bytes) state.taken read refl;
         size = omega (arith, length-append state.input bytes, state.size, size);
         front =
             front ∙ open-fronts kept (open_line [] state.input) bytes same
@@ -67,9 +67,9 @@ module _ {State : Type 0} (rules : Entering State) (start : State) where
 module _ {State : Type 0} (rules : Entering State) (start s : State) (l m n a b c : Option (List ℕ)) (count : ℕ) (kept : List ℕ) (number : ℕ) (p : Bool)
     (state : IsTaken rules start l m a b count kept number p s) where
   -- the lines of the end of the input
-  last_same : map kept_front (last_line kept) ≡ map kept_front (last_line (open_line [] state.input))
+  last_same : map kept_front (line_at_end kept) ≡ map kept_front (line_at_end (open_line [] state.input))
   last_same =
-      ap (λ (o : List ℕ). map kept_front (last_line o)) state.front ∙ last-fronts (open_line [] state.input)
+      ap (λ (o : List ℕ). map kept_front (line_at_end o)) state.front ∙ last-fronts (open_line [] state.input)
 
   -- a byte more than may be taken is there
   pub ends_more : (more : List ℕ) → Consumes m n more → length more ≡ 1 → count ≡ 2 ^ 30
@@ -77,7 +77,7 @@ module _ {State : Type 0} (rules : Entering State) (start s : State) (l m n a b 
   ends_more more read one full = record {
     first = state.input;
     more = more;
-    taken = consumes_more l m n state.input more (state.input ++ more) state.taken read refl;
+    taken = consumes-then l m n state.input more (state.input ++ more) state.taken read refl;
     full = state.size ∙ full;
     one = one;
     refused = p;
@@ -85,17 +85,17 @@ module _ {State : Type 0} (rules : Entering State) (start s : State) (l m n a b 
   }
 
   -- the input ends, and with its last line all are entered
-  pub ends_all : (q : Bool) (t : State) → Consumes m n [] → IsAtEnd n → count ≤ 2 ^ 30 → AreAllEntered rules s number (last_line kept) b c q t
-      → IsWhole (entries_of rules start t) (record { left = l; left_after = n; written = a; written_after = c }) (p || q)
+  pub ends_all : (q : Bool) (t : State) → Consumes m n [] → IsAtEnd n → count ≤ 2 ^ 30 → AreAllEntered rules s number (line_at_end kept) b c q t
+      → IsWholeOutput (entries_of rules start t) (record { left = l; left_after = n; written = a; written_after = c }) (p || q)
   ends_all q t read at_end within here = record {
     input = state.input;
-    taken = consumes_more l m n state.input [] state.input state.taken read (sym (append-nil state.input));
+    taken = consumes-then l m n state.input [] state.input state.taken read (sym (append-nil state.input));
     at_end = at_end;
     within = omega (arith, state.size);
     written =
-        entered_more rules start s t 1 (closed_lines [] state.input) (last_line (open_line [] state.input)) a b c p q state.entered
-        (subst (λ (i : ℕ). AreAllEntered rules s i (last_line (open_line [] state.input)) b c q t) state.numbered
-        (entered_fronts rules s t number (last_line kept) (last_line (open_line [] state.input)) b c q last_same here));
+        entered_more rules start s t 1 (closed_lines [] state.input) (line_at_end (open_line [] state.input)) a b c p q state.entered
+        (subst (λ (i : ℕ). AreAllEntered rules s i (line_at_end (open_line [] state.input)) b c q t) state.numbered
+        (entered_fronts rules s t number (line_at_end kept) (line_at_end (open_line [] state.input)) b c q last_same here));
   }
 
 -- where a line that was read was not entered
@@ -130,39 +130,35 @@ module _ {State : Type 0} (rules : Entering State) (start s last : State) (l m n
       (stopped_fronts rules stop s number (closed_lines kept bytes) next b c fronts here)) in
       stops rules start last (record { left = l; left_after = n; written = a; written_after = c }) (state.input ++ bytes)
       (closed_lines [] (state.input ++ bytes)) stop ended is
-      (consumes_more l m n state.input bytes (state.input ++ bytes) state.taken read refl)
+      (consumes-then l m n state.input bytes (state.input ++ bytes) state.taken read refl)
       (omega (arith, length-append state.input bytes, state.size, size, within)) (inl refl)
       (subst (λ (lines : List (List ℕ)). IsEntryStopped rules start 1 lines a c stop) (sym (closed-append [] state.input bytes)) all)
 
   -- the last line stops it
   pub ends_last : (ended : Ended) → ended ≡ ended_of stop → Consumes m n [] → IsAtEnd n → count ≤ 2 ^ 30
-      → IsEntryStopped rules s number (last_line kept) b c stop
+      → IsEntryStopped rules s number (line_at_end kept) b c stop
       → EndsWith (entries_of rules start last) (record { left = l; left_after = n; written = a; written_after = c }) ended
   ends_last ended is read at_end within here =
       let known = closed_lines [] state.input in
-      let final = last_line (open_line [] state.input) in
-      let fronts : map kept_front (last_line kept) ≡ map kept_front final =
-      ap (λ (o : List ℕ). map kept_front (last_line o)) state.front ∙ last-fronts (open_line [] state.input) in
+      let final = line_at_end (open_line [] state.input) in
+      let fronts : map kept_front (line_at_end kept) ≡ map kept_front final =
+      ap (λ (o : List ℕ). map kept_front (line_at_end o)) state.front ∙ last-fronts (open_line [] state.input) in
       stops rules start last (record { left = l; left_after = n; written = a; written_after = c }) state.input
       (lines_of state.input) stop ended is
-      (consumes_more l m n state.input [] state.input state.taken read (sym (append-nil state.input)))
+      (consumes-then l m n state.input [] state.input state.taken read (sym (append-nil state.input)))
       (omega (arith, state.size, within)) (inr (at_end, refl))
       (stopped_after rules stop start s 1 known final a b c p state.entered
       (subst (λ (i : ℕ). IsEntryStopped rules s i final b c stop) state.numbered
-      (stopped_fronts rules stop s number (last_line kept) final b c fronts here)))
+      (stopped_fronts rules stop s number (line_at_end kept) final b c fronts here)))
 
 verdict_ends : {State : Type 0} (rules : Entering State) (start last : State) (streams : Streams) (refused : Bool)
-    → IsWhole (entries_of rules start last) streams refused
+    → IsWholeOutput (entries_of rules start last) streams refused
     → EndsWith (entries_of rules start last) streams (verdict_of refused)
 verdict_ends rules start last streams true h = h
 verdict_ends rules start last streams false h = h
 
 -- the run ends as its lines were refused or not
 pub ends_verdict : {State : Type 0} (rules : Entering State) (start last : State) (streams : Streams) (refused : Bool) (ended : Ended)
-    → ended ≡ verdict_of refused → IsWhole (entries_of rules start last) streams refused → EndsWith (entries_of rules start last) streams ended
+    → ended ≡ verdict_of refused → IsWholeOutput (entries_of rules start last) streams refused → EndsWith (entries_of rules start last) streams ended
 ends_verdict rules start last streams refused ended is h =
     subst (λ (e : Ended). EndsWith (entries_of rules start last) streams e) (sym is) (verdict_ends rules start last streams refused h)
-
--- a read that gave no byte
-pub read_nothing : (m n : Option (List ℕ)) (bytes : List ℕ) (count : ℕ) → count ≡ 0 → Consumes m n (take count bytes) → Consumes m n []
-read_nothing m n bytes count none read = subst (λ (k : ℕ). Consumes m n (take k bytes)) none read

@@ -1,6 +1,7 @@
--- What stands written when lines are answered one after another, each for itself. `answers` says which replies a line may
--- have, and `before` and `after` are the bytes that a sink has taken, where it tells them.
--- Example (EndingExamples): where a line is answered by itself and refused where it begins with `!`, of `a` and `!` some are refused.
+-- What stands written when lines are answered one after another, each for itself. `answers` says which replies a line
+-- may have, and `before` and `after` are the bytes that a sink has taken, where it tells them.
+-- Example (EndingExamples): where a line is answered by itself and refused where it begins with `!`, of `a` and `!`
+-- some are refused.
 use Rattle.std.specs.Prelude.{◌≡◌, ℕ, Bool, List, ◌∷◌, ◌++◌, Option, Result, Ok, Err}
 use Rattle.std.specs.Io.KnownBytes.{Appends}
 use Rattle.bk_ports.specs.Causes.{AppendsPrefix, Rose}
@@ -41,7 +42,8 @@ pub record AreBegun (answers : List ℕ → List (List ℕ) → Bool → Type 0)
   pub written : AppendsPrefix before after (text_of replies)
 
 -- memory was wanting at a line where it may: the lines before it are answered, and nothing else was written
-pub record AreCutShort (answers : List ℕ → List (List ℕ) → Bool → Type 0) (may_want : List ℕ → Type 0) (lines : List (List ℕ))
+pub record AreCutShort (answers : List ℕ → List (List ℕ) → Bool → Type 0) (may_want : List ℕ
+    → Type 0) (lines : List (List ℕ))
     (before after : Option (List ℕ)) : Type 0 where
   pub done : List (List ℕ)
   pub line : List ℕ
@@ -52,8 +54,8 @@ pub record AreCutShort (answers : List ℕ → List (List ℕ) → Bool → Type
   pub each : AreReplies answers done replies
   pub written : Appends before after (text_of replies)
 
--- what a run writes that answers lines: where a write failed, a beginning of the answers to the first lines read; and where
--- memory was wanting, the answers to all lines before
+-- what a run writes that answers lines: where a write failed, a beginning of the answers to the first lines read; and
+-- where memory was wanting, the answers to all lines before
 abbrev pub answers_of : Replies → Output
 answers_of replies =
     lines_alone (λ lines refused before after. AreAnswered replies.answers lines before after refused)

@@ -6,7 +6,8 @@ use Rattle.bk_ports.specs.Answered.{Replies}
 
 -- some line among these is refused: it may be answered by the text of a refusal
 abbrev pub HasRefused : Replies → List (List ℕ) → Type 0
-HasRefused replies lines = (line : List ℕ) × Contains lines line × (pieces : List (List ℕ)) × replies.answers line pieces true
+HasRefused replies lines = (line : List ℕ) × Contains lines line × (pieces : List (List ℕ))
+    × replies.answers line pieces true
 
 -- memory may be wanting at some line among these
 abbrev pub HasWanting : Replies → List (List ℕ) → Type 0

@@ -1,12 +1,14 @@
 -- How a run over lines ends, what was taken then and what stands written. What a run writes is a parameter.
--- Example (EndingExamples): of `a`, a line feed, `!` and a failed read the first line is answered; at the end of the input both are.
+-- Example (EndingExamples): of `a`, a line feed, `!` and a failed read the first line is answered; at the end of the
+-- input both are.
 use Rattle.std.specs.Prelude.{◌≡◌, ℕ, ◌^◌, ◌≤◌, ◌⊎◌, Bool, true, false, List, [], ◌++◌, length, Option}
 use Rattle.std.specs.Io.KnownBytes.{Consumes, IsAtEnd}
 use Rattle.bk_ports.specs.Lines.{closed_lines, lines_of}
 use Rattle.bk_ports.specs.declared.Ended.{Ended}
 use Rattle.bk_ports.specs.declared.line.Stop.{Stop}
 use Rattle.bk_ports.specs.declared.line.Stop.TheVariants as stops
-use Rattle.bk_ports.specs.declared.Ended.TheVariants.{NoneRefused, SomeRefused, ReadFailed, WriteFailed, NoMemory, TooMany}
+use Rattle.bk_ports.specs.declared.Ended.TheVariants.{NoneRefused, SomeRefused, ReadFailed, WriteFailed, NoMemory}
+use Rattle.bk_ports.specs.declared.Ended.TheVariants.{TooMany}
 
 -- the bytes that a source has left and that a sink has taken, before and after a run, where they tell them
 pub record Streams : Type 0 where
@@ -14,6 +16,16 @@ pub record Streams : Type 0 where
   pub left_after : Option (List ℕ)
   pub written : Option (List ℕ)
   pub written_after : Option (List ℕ)
+
+-- the streams of a run: its source and its sink before, and both after, where `left` and `written` say what each tells
+-- of its bytes
+abbrev pub streams_between : {S O : Type 0} → (S → Option (List ℕ)) → (O → Option (List ℕ)) → S × O → S × O → Streams
+streams_between left written before after = record {
+  left = left before.0;
+  left_after = left after.0;
+  written = written before.1;
+  written_after = written after.1;
+}
 
 -- what is said of the bytes that a sink has taken, before and after
 abbrev pub OfWritten : Type 1
@@ -33,16 +45,23 @@ pub record Output : Type 1 where
   pub short : List (List ℕ) → OfWritten
 
 -- what a run writes that writes nothing behind its lines
-abbrev pub lines_alone : (List (List ℕ) → Bool → OfWritten) → (List (List ℕ) → OfWritten) → (List (List ℕ) → OfWritten) → Output
-lines_alone lines begun short = record { lines = lines; whole = lines; begun = begun; begun_behind = λ all before after. ⊥; short = short }
+abbrev pub lines_alone : (List (List ℕ) → Bool → OfWritten) → (List (List ℕ) → OfWritten) → (List (List ℕ) → OfWritten)
+    → Output
+lines_alone lines begun short = record {
+  lines = lines;
+  whole = lines;
+  begun = begun;
+  begun_behind = λ all before after. ⊥;
+  short = short;
+}
 
--- the lines that were read where these bytes were taken: those that a line feed ends, and at the end of the input the line
--- that it ends, too
+-- the lines that were read where these bytes were taken: those that a line feed ends, and at the end of the input the
+-- line that it ends, too
 abbrev pub AreRead : Option (List ℕ) → List ℕ → List (List ℕ) → Type 0
 AreRead left input lines = (lines ≡ closed_lines [] input) ⊎ (IsAtEnd left × (lines ≡ lines_of input))
 
 -- the input was read to its end, and the whole output stands there
-pub record IsWhole (output : Output) (streams : Streams) (refused : Bool) : Type 0 where
+pub record IsWholeOutput (output : Output) (streams : Streams) (refused : Bool) : Type 0 where
   pub input : List ℕ
   pub taken : Consumes streams.left streams.left_after input
   pub at_end : IsAtEnd streams.left_after
@@ -57,8 +76,8 @@ pub record IsCutOff (output : Output) (streams : Streams) : Type 0 where
   pub refused : Bool
   pub written : output.lines (closed_lines [] input) refused streams.written streams.written_after
 
--- 2^30 bytes were taken and the next read gave one more: what is written for the lines whose line feed is among the first
--- 2^30 bytes stands there, and nothing else
+-- 2^30 bytes were taken and the next read gave one more: what is written for the lines whose line feed is among the
+-- first 2^30 bytes stands there, and nothing else
 pub record IsTooMany (output : Output) (streams : Streams) : Type 0 where
   pub first : List ℕ
   pub more : List ℕ
@@ -96,8 +115,8 @@ pub record IsCutShort (output : Output) (streams : Streams) : Type 0 where
 
 -- what each ending says
 abbrev pub EndsWith : Output → Streams → Ended → Type 0
-EndsWith output streams NoneRefused = IsWhole output streams false
-EndsWith output streams SomeRefused = IsWhole output streams true
+EndsWith output streams NoneRefused = IsWholeOutput output streams false
+EndsWith output streams SomeRefused = IsWholeOutput output streams true
 EndsWith output streams ReadFailed = IsCutOff output streams
 EndsWith output streams WriteFailed = IsBroken output streams ⊎ IsBrokenBehind output streams
 EndsWith output streams NoMemory = IsCutShort output streams

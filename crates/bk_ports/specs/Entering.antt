@@ -1,5 +1,5 @@
--- Lines entered one after another in a register, whose state goes on from line to line. Lines are numbered from 1, and all
--- of them count. `before` and `after` are the bytes that a sink has taken, where it tells them.
+-- Lines entered one after another in a register, whose state goes on from line to line. Lines are numbered from 1, and
+-- all of them count. `before` and `after` are the bytes that a sink has taken, where it tells them.
 -- Example (EndingExamples): the sum of the numbers of the lines is kept: from 10 two lines lead by 11 to 13.
 use Rattle.std.specs.Prelude.{◌≡◌, ◌+◌, ℕ, Bool, List, [], ◌∷◌, ◌++◌, length, Option}
 use Rattle.std.specs.Io.KnownBytes.{Appends}
@@ -10,8 +10,9 @@ use Rattle.bk_ports.specs.Reply.{Reply, text_of, some_refused}
 use Rattle.bk_ports.specs.declared.line.Stop.{Stop}
 use Rattle.bk_ports.specs.declared.line.Stop.TheVariants.{WriteFailed, NoMemory}
 
--- how a line is entered, and where memory may be wanting: the state before, the number of the line, and the line; and how it
--- is entered, the pieces that are written, each by one call, whether they are the text of a refusal, and the state after
+-- how a line is entered, and where memory may be wanting: the state before, the number of the line, and the line; and
+-- how it is entered, the pieces that are written, each by one call, whether they are the text of a refusal, and the
+-- state after
 pub record Entering (State : Type 0) : Type 1 where
   pub enters : State → ℕ → List ℕ → List (List ℕ) → Bool → State → Type 0
   pub may_want : State → ℕ → List ℕ → Type 0
@@ -26,7 +27,8 @@ AreEntered {State} rules state number (line ∷ lines) (reply ∷ replies) last 
     × AreEntered rules next (number + 1) lines replies last
 
 -- all these lines are entered, and some of them are refused or none
-pub record AreAllEntered {State : Type 0} (rules : Entering State) (state : State) (number : ℕ) (lines : List (List ℕ)) (before after : Option (List ℕ))
+pub record AreAllEntered {State : Type 0} (rules : Entering State) (state : State) (number : ℕ) (lines : List (List ℕ))
+    (before after : Option (List ℕ))
     (refused : Bool) (last : State) : Type 0 where
   pub replies : List Reply
   pub each : AreEntered rules state number lines replies last
@@ -34,7 +36,8 @@ pub record AreAllEntered {State : Type 0} (rules : Entering State) (state : Stat
   pub any : some_refused replies ≡ refused
 
 -- a write failed: what was written is the beginning of the replies to the first of these lines
-pub record IsEntryBegun {State : Type 0} (rules : Entering State) (state : State) (number : ℕ) (lines : List (List ℕ)) (before after : Option (List ℕ))
+pub record IsEntryBegun {State : Type 0} (rules : Entering State) (state : State) (number : ℕ) (lines : List (List ℕ))
+    (before after : Option (List ℕ))
     : Type 0 where
   pub begun : List (List ℕ)
   pub unseen : List (List ℕ)
@@ -45,7 +48,8 @@ pub record IsEntryBegun {State : Type 0} (rules : Entering State) (state : State
   pub written : AppendsPrefix before after (text_of replies)
 
 -- memory was wanting at a line where it may: the lines before it are entered, and nothing else was written
-pub record IsEntryWanting {State : Type 0} (rules : Entering State) (state : State) (number : ℕ) (lines : List (List ℕ)) (before after : Option (List ℕ))
+pub record IsEntryWanting {State : Type 0} (rules : Entering State) (state : State) (number : ℕ)
+    (lines : List (List ℕ)) (before after : Option (List ℕ))
     : Type 0 where
   pub done : List (List ℕ)
   pub line : List ℕ
@@ -58,7 +62,8 @@ pub record IsEntryWanting {State : Type 0} (rules : Entering State) (state : Sta
   pub written : Appends before after (text_of replies)
 
 -- why these lines are not all entered
-abbrev pub IsEntryStopped : {State : Type 0} → Entering State → State → ℕ → List (List ℕ) → Option (List ℕ) → Option (List ℕ) → Stop → Type 0
+abbrev pub IsEntryStopped : {State : Type 0} → Entering State → State → ℕ → List (List ℕ) → Option (List ℕ)
+    → Option (List ℕ) → Stop → Type 0
 IsEntryStopped rules state number lines before after WriteFailed = IsEntryBegun rules state number lines before after
 IsEntryStopped rules state number lines before after NoMemory = IsEntryWanting rules state number lines before after
 

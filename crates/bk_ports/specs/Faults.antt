@@ -1,5 +1,6 @@
 -- What the ending of a run says of faults: of calls of its source and its sink that failed.
--- Example (EndingExamples): a run that ends since a write failed has raised the count of the sink by 1, say, and not that of the source.
+-- Example (EndingExamples): a run that ends since a write failed has raised the count of the sink by 1, say, and not
+-- that of the source.
 use Rattle.std.specs.Prelude.{◌≡◌, ℕ, ◌^◌, ◌≤◌, ◌⊎◌, List, length, Option, IsSomeAnd}
 use Rattle.bk_ports.specs.Causes.{Rose}
 use Rattle.bk_ports.specs.Ending.{HasVerdict}
@@ -12,6 +13,12 @@ pub record Faults : Type 0 where
   pub read_after : ℕ
   pub write : ℕ
   pub write_after : ℕ
+
+-- the counts of a run: those of its source and its sink before, and of both after, where `reads` and `writes` count for
+-- each
+abbrev pub faults_between : {S O : Type 0} → (S → ℕ) → (O → ℕ) → S × O → S × O → Faults
+faults_between reads writes before after =
+    record { read = reads before.0; read_after = reads after.0; write = writes before.1; write_after = writes after.1 }
 
 -- a count rose exactly where the run ends for it, whatever is told of the bytes
 abbrev pub CountsTell : Ended → Faults → Type 0

@@ -1,14 +1,17 @@
 -- What the crate says of reads and writes.
 pub mod Causes
+pub mod Told
 -- And of lines.
-pub mod Lines
-pub mod Reply
-pub mod Asking
-pub mod Ending
-pub mod Faults
 pub mod Answered
+pub mod CallLaws
+pub mod Calls
 pub mod Deciding
+pub mod Ending
 pub mod Entering
+pub mod Faults
+pub mod Lines
+pub mod ReadSize
+pub mod Reply
 -- How its code keeps it.
 pub mod Stores
-pub mod Answer
+pub mod WrittenAnswer

@@ -1,7 +1,7 @@
 -- Sources and sinks in memory: what they hold, and what each call does.
--- Example (StoreExamples): of `abcdef`, at most 4 bytes a call, a buffer of 3 bytes gets 3 and one of 9 gets 4; of `defg` a call
--- that fails keeps `def` where its pair says 3.
-use Rattle.std.specs.Prelude.{ℕ, ◌+◌, ◌-◌, ◌==◌, min, List, ◌++◌, length, take, drop, find, unwrap_or, Result, Ok, Err}
+-- Example (StoreExamples): of `abcdef`, at most 4 bytes a call, a buffer of 3 bytes gets 3 and one of 9 gets 4; of
+-- `defg` a call that fails keeps `def` where its pair says 3.
+use Rattle.std.specs.Prelude.{ℕ, ◌-◌, ◌==◌, min, List, ◌++◌, length, take, drop, find, unwrap_or, Result, Ok, Err}
 use Rattle.std.specs.declared.option.Option.{Option}
 use Rattle.std.specs.Option.{option_map}
 use Rattle.bk_ports.specs.Causes.{counted}
@@ -29,8 +29,8 @@ pub record Copies : Type 0 where
   pub byte : ℕ
   pub count : ℕ
 
--- what a contract sees of a `MemSink`: how many bytes it has room for in all, the bytes kept, the pairs of a call that fails
--- and how many bytes it keeps, the number of the next call, and how many calls have failed
+-- what a contract sees of a `MemSink`: how many bytes it has room for in all, the bytes kept, the pairs of a call that
+-- fails and how many bytes it keeps, the number of the next call, and how many calls have failed
 pub record Store : Type 0 where
   pub room : ℕ
   pub kept : List ℕ
@@ -53,4 +53,8 @@ kept_count s piece = min (fitting_count s piece) (unwrap_or (limit_of s.fails s.
 -- the store after a call that was given a piece, with this result
 abbrev pub after_write : {T E : Type 0} → Store → List ℕ → Result T E → Store
 after_write s piece (Ok _) = record s { kept = s.kept ++ piece; call = counted s.call }
-after_write s piece (Err _) = record s { kept = s.kept ++ take (kept_count s piece) piece; call = counted s.call; faults = counted s.faults }
+after_write s piece (Err _) = record s {
+  kept = s.kept ++ take (kept_count s piece) piece;
+  call = counted s.call;
+  faults = counted s.faults;
+}

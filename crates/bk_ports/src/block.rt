@@ -21,13 +21,16 @@ pub fn enter_block<R: Register, O: Sink>(
 ) -> Result<bool, Stop>
     requires early { kept.old.number + length block.now ≤ 2 ^ 31 }
     requires ready { R.is_ready register.old kept.old.number }
-    ensures entered { IfOk result (λ refused. AreAllEntered (record { enters = R.enters; may_want = R.may_want }) register.old
+    ensures entered { IfOk result
+        (λ refused. AreAllEntered (record { enters = R.enters; may_want = R.may_want }) register.old
         kept.old.number (closed_lines kept.old.front.items block.now) (O.written out.old) (O.written out.new) refused register.new) }
-    ensures stopped { IfErr result (λ stop. IsEntryStopped (record { enters = R.enters; may_want = R.may_want }) register.old
+    ensures stopped { IfErr result
+        (λ stop. IsEntryStopped (record { enters = R.enters; may_want = R.may_want }) register.old
         kept.old.number (closed_lines kept.old.front.items block.now) (O.written out.old) (O.written out.new) stop) }
     ensures count { CountFits (O.faults out.old) (O.faults out.new) result }
     ensures ready { OnOk result (R.is_ready register.new kept.new.number) }
-    ensures number { OnOk result (kept.new.number ≡ kept.old.number + length (closed_lines kept.old.front.items block.now)) }
+    ensures number { OnOk result (kept.new.number
+        ≡ kept.old.number + length (closed_lines kept.old.front.items block.now)) }
     ensures early { OnOk result (kept.new.number ≤ kept.old.number + length block.now) }
     ensures front { OnOk result (kept.new.front.items ≡ kept_front (open_line kept.old.front.items block.now)) }
 {

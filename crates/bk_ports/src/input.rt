@@ -3,12 +3,12 @@
 ghost use Rattle.std.specs.Prelude.{◌≡◌, ◌≤◌, ◌<◌, ◌+◌, ◌^◌, ◌||◌, IfOk, IfErr, length};
 ghost use Rattle.std.specs.Io.KnownBytes.{ReadConsumes};
 ghost use Rattle.bk_ports.specs.Causes.{HasCause};
-ghost use Rattle.bk_ports.specs.Lines.{last_line};
-ghost use Rattle.bk_ports.specs.Asking.{asked_count};
+ghost use Rattle.bk_ports.specs.Lines.{line_at_end};
+ghost use Rattle.bk_ports.specs.ReadSize.{asked_count};
 ghost use Rattle.bk_ports.specs.Answered.{CountFits};
-ghost use Rattle.bk_ports.specs.Ending.{EndsWith, ended_of, verdict_of};
+ghost use Rattle.bk_ports.specs.Ending.{EndsWith, ended_of, streams_between, verdict_of};
 ghost use Rattle.bk_ports.specs.Entering.{AreAllEntered, IsEntryStopped, entries_of};
-ghost use Rattle.bk_ports.specs.Faults.{CountsTell, IsCalm, IsDoneOrWanting};
+ghost use Rattle.bk_ports.specs.Faults.{CountsTell, IsCalm, IsDoneOrWanting, faults_between};
 
 use crate::block::enter_block;
 use crate::line::{Front, OpenLine, Stop, enter_line};
@@ -21,9 +21,9 @@ const MOST_BYTES: usize = 1 << 30;
 // A read asks for at most so many bytes.
 const BLOCK: usize = 16_384;
 
-/// Takes the bytes of the source to their end and enters their lines in the register, in order and numbered from 1. Each line
-/// that was taken with its line feed is entered before the next read. Of a longer input 2^30 bytes are taken, and then a read
-/// gives one more.
+/// Takes the bytes of the source to their end and enters their lines in the register, in order and numbered from 1.
+/// Each line that was taken with its line feed is entered before the next read. Of a longer input 2^30 bytes are taken,
+/// and then a read gives one more.
 pub fn enter_lines<R: Register, S: Source, O: Sink>(
     register: &mut R,
     source: &mut S,
@@ -32,33 +32,19 @@ pub fn enter_lines<R: Register, S: Source, O: Sink>(
     requires { R.is_ready register.old 1 }
 
     // What each ending says of the bytes and of the register.
-    ensures ending { EndsWith (entries_of (record { enters = R.enters; may_want = R.may_want }) register.old register.new)
-        (record {
-          left = S.left source.old;
-          left_after = S.left source.new;
-          written = O.written out.old;
-          written_after = O.written out.new;
-        })
+    ensures ending { EndsWith
+        (entries_of (record { enters = R.enters; may_want = R.may_want }) register.old register.new)
+        (streams_between S.left O.written (source.old, out.old) (source.new, out.new))
         result }
 
     // Where nothing goes wrong, all lines are entered, or memory is wanting.
     ensures complete { IsCalm (S.left source.old)
-        (record {
-          read = S.faults source.old;
-          read_after = S.faults source.new;
-          write = O.faults out.old;
-          write_after = O.faults out.new;
-        })
+        (faults_between S.faults O.faults (source.old, out.old) (source.new, out.new))
         → IsDoneOrWanting result }
 
     // What the ending tells of the counts of faults.
     ensures faults { CountsTell result
-        (record {
-          read = S.faults source.old;
-          read_after = S.faults source.new;
-          write = O.faults out.old;
-          write_after = O.faults out.new;
-        }) }
+        (faults_between S.faults O.faults (source.old, out.old) (source.new, out.new)) }
 {
     let mut block = [0u8; BLOCK];
     let mut kept = OpenLine {
@@ -136,10 +122,12 @@ fn enter_last<R: Register, O: Sink>(
 ) -> Result<bool, Stop>
     requires early { kept.now.number ≤ 2 ^ 31 }
     requires ready { R.is_ready register.old kept.now.number }
-    ensures entered { IfOk result (λ refused. AreAllEntered (record { enters = R.enters; may_want = R.may_want }) register.old
-        kept.now.number (last_line kept.now.front.items) (O.written out.old) (O.written out.new) refused register.new) }
-    ensures stopped { IfErr result (λ stop. IsEntryStopped (record { enters = R.enters; may_want = R.may_want }) register.old
-        kept.now.number (last_line kept.now.front.items) (O.written out.old) (O.written out.new) stop) }
+    ensures entered { IfOk result
+        (λ refused. AreAllEntered (record { enters = R.enters; may_want = R.may_want }) register.old
+        kept.now.number (line_at_end kept.now.front.items) (O.written out.old) (O.written out.new) refused register.new) }
+    ensures stopped { IfErr result
+        (λ stop. IsEntryStopped (record { enters = R.enters; may_want = R.may_want }) register.old
+        kept.now.number (line_at_end kept.now.front.items) (O.written out.old) (O.written out.new) stop) }
     ensures count { CountFits (O.faults out.old) (O.faults out.new) result }
 {
     if kept.front.is_empty() {

@@ -1,15 +1,18 @@
 //! Where bytes come from and go to; and lines of bytes that come in any cuts, answered one after another.
 //!
-//! A line ends at a line feed, which isn't part of it, or at the end of the input. The limits of 8,192 bytes a line and of
-//! 2^30 bytes an input are this program's own.
+//! A line ends at a line feed, which isn't part of it, or at the end of the input. The limits of 8,192 bytes a line and
+//! of 2^30 bytes an input are this program's own.
 #![tactic(auto)]
 
 ghost use Rattle.std.specs.Prelude.{ℕ, [], ◌+◌, ◌<◌, ◌^◌, ◌≤◌, Bool, List, false, length, IfOk, OnOk, OnErr, Option};
 ghost use Rattle.std.specs.Io.KnownBytes.{Appends, ReadConsumes};
-ghost use Rattle.bk_ports.specs.Answer.{HasOutcome, IsBegun};
+ghost use Rattle.bk_ports.specs.WrittenAnswer.{HasOutcome, IsAnswerBegun};
+ghost use Rattle.bk_ports.specs.Answered.{answers_of, of_fronts};
+ghost use Rattle.bk_ports.specs.CallLaws.{AfterAFailedCallTheOtherStreamIsLeft, EachLineIsAnsweredBeforeTheNextRead};
 ghost use Rattle.bk_ports.specs.Causes.{HasCause, AppendsPrefix};
 
 mod block;
+mod flushed;
 mod input;
 mod line;
 mod memory;
@@ -20,7 +23,7 @@ use bk_grammar::AnswerBuffer;
 pub use input::enter_lines;
 pub use line::LONGEST_LINE;
 pub use memory::{FillSource, MemSink, MemSource};
-pub use standard::{StdSink, StdSource};
+pub use standard::{StandardError, StandardOutput, StdSink, StdSource};
 pub use steady::answer_lines;
 
 /// A read or a write failed.
@@ -95,7 +98,8 @@ pub trait Answerer {
         requires { length line.now ≤ 8193 }
         ensures outcome { IfOk result (λ o. HasOutcome (answers self.now line.now) (may_want self.now line.now)
             (O.written out.old) (O.written out.new) o) }
-        ensures failed { OnErr result (IsBegun (answers self.now line.now) (O.written out.old) (O.written out.new)) }
+        ensures failed { OnErr result
+            (IsAnswerBegun (answers self.now line.now) (O.written out.old) (O.written out.new)) }
         ensures cause { HasCause (O.faults out.old) (O.faults out.new) result };
 
     /// An empty line needs no answer.
@@ -104,8 +108,8 @@ pub trait Answerer {
 
 /// Enters lines one after another, and keeps what it needs of them. Lines are numbered from 1, and all of them count.
 pub trait Register {
-    /// How a line is entered: the state before, the number of the line, the line, the pieces that are written for it, each by
-    /// one call, whether they are the text of a refusal, and the state after.
+    /// How a line is entered: the state before, the number of the line, the line, the pieces that are written for it,
+    /// each by one call, whether they are the text of a refusal, and the state after.
     ghost enters: { Self → ℕ → List ℕ → List (List ℕ) → Bool → Self → Type 0 };
 
     /// Where memory may be wanting: the state before, the number of the line, and the line.
@@ -114,8 +118,8 @@ pub trait Register {
     /// What holds of the state before the line of this number.
     ghost is_ready: { Self → ℕ → Type 0 };
 
-    /// Enters a line, which comes without its line feed and has bytes. Of a line of more than 8,192 bytes its first 8,193
-    /// come. The buffer holds any bytes before and after.
+    /// Enters a line, which comes without its line feed and has bytes. Of a line of more than 8,192 bytes its first
+    /// 8,193 come. The buffer holds any bytes before and after.
     fn enter<O: Sink>(
         &mut self,
         number: u64,
@@ -126,9 +130,11 @@ pub trait Register {
         requires short { length line.now ≤ 8193 }
         requires early { number ≤ 2 ^ 31 }
         requires ready { is_ready self.old number }
-        ensures outcome { IfOk result (λ o. HasOutcome (λ pieces refused. enters self.old number line.now pieces refused self.new)
+        ensures outcome { IfOk result
+            (λ o. HasOutcome (λ pieces refused. enters self.old number line.now pieces refused self.new)
             (may_want self.old number line.now) (O.written out.old) (O.written out.new) o) }
-        ensures failed { OnErr result (IsBegun (λ pieces refused. (last : Self) × enters self.old number line.now pieces refused last)
+        ensures failed { OnErr result (IsAnswerBegun (λ pieces refused. (last : Self)
+            × enters self.old number line.now pieces refused last)
             (O.written out.old) (O.written out.new)) }
         ensures cause { HasCause (O.faults out.old) (O.faults out.new) result }
         ensures ready { OnOk result (is_ready self.new (number + 1)) };
@@ -136,7 +142,7 @@ pub trait Register {
     /// An empty line changes nothing and needs no answer.
     ghost empty_line: { (s : Self) (n : ℕ) → enters s n [] [] false s };
 
-    /// And what follows it is entered in its turn.
+    /// A line that follows an empty line is entered in its turn.
     ghost still_ready: { (s : Self) (n : ℕ) → is_ready s n → is_ready s (n + 1) };
 }
 
@@ -149,10 +155,25 @@ pub enum Ended {
     SomeRefused,
     /// A read failed. All lines whose line feed was taken are answered.
     ReadFailed,
-    /// A write failed. The beginning of the answers is written, in order; the failed write may have kept its whole piece.
+    /// A write failed. The beginning of the answers is written, in order; the failed write may have kept its whole
+    /// piece.
     WriteFailed,
     /// Memory was wanting at a line. All lines before it are answered.
     NoMemory,
-    /// 2^30 bytes were taken, and the next read gave one more. All lines whose line feed is among these 2^30 bytes are answered.
+    /// 2^30 bytes were taken, and the next read gave one more. All lines whose line feed is among these 2^30 bytes are
+    /// answered.
     TooMany,
 }
+
+/// A program whose runs end as those of `answer_lines` do, whichever of its calls fail, answers each line whose line
+/// feed it took before it reads again.
+pub fn each_line_is_answered_before_the_next_read<A: Answerer>(_answerer: &A)
+    ensures { EachLineIsAnsweredBeforeTheNextRead
+        (answers_of (of_fronts (record { answers = A.answers _answerer.now; may_want = A.may_want _answerer.now }))) }
+{}
+
+/// Such a program writes nothing after a failed read, and reads nothing after a failed write.
+pub fn after_a_failed_call_the_other_stream_is_left<A: Answerer>(_answerer: &A)
+    ensures { AfterAFailedCallTheOtherStreamIsLeft
+        (answers_of (of_fronts (record { answers = A.answers _answerer.now; may_want = A.may_want _answerer.now }))) }
+{}

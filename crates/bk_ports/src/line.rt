@@ -2,7 +2,7 @@
 
 ghost use Rattle.std.specs.Prelude.{◌≡◌, ◌≤◌, ◌+◌, ◌^◌, ◌++◌, ◌∷◌, [], length, IfOk, IfErr, OnOk};
 ghost use Rattle.bk_ports.specs.Lines.{kept_front};
-ghost use Rattle.bk_ports.specs.Answer.{IsWritten, IsStopped};
+ghost use Rattle.bk_ports.specs.WrittenAnswer.{IsWritten, IsStopped};
 ghost use Rattle.bk_ports.specs.Answered.{CountFits};
 ghost use Rattle.bk_ports.specs.Entering.{AreAllEntered, IsEntryStopped};
 
@@ -10,7 +10,7 @@ use crate::{Failed, Outcome, Register, Sink};
 use arrayvec::ArrayVec;
 use bk_grammar::AnswerBuffer;
 
-/// How many bytes a line may have. A longer one is refused, whatever it holds. (Own.)
+/// How many bytes a line may have. A longer one is refused, whatever it holds.
 pub const LONGEST_LINE: usize = 8_192;
 
 // Of a line so many bytes are kept: one more than it may have.
@@ -54,9 +54,11 @@ pub fn enter_line<R: Register, O: Sink>(
     requires short { length line.now ≤ 8193 }
     requires early { number ≤ 2 ^ 31 }
     requires ready { R.is_ready register.old number }
-    ensures entered { IfOk result (λ refused. IsWritten (λ pieces p. R.enters register.old number line.now pieces p register.new)
+    ensures entered { IfOk result
+        (λ refused. IsWritten (λ pieces p. R.enters register.old number line.now pieces p register.new)
         (O.written out.old) (O.written out.new) refused) }
-    ensures stopped { IfErr result (λ stop. IsStopped (λ pieces p. (last : R) × R.enters register.old number line.now pieces p last)
+    ensures stopped { IfErr result (λ stop. IsStopped (λ pieces p. (last : R)
+        × R.enters register.old number line.now pieces p last)
         (R.may_want register.old number line.now) (O.written out.old) (O.written out.new) stop) }
     ensures count { CountFits (O.faults out.old) (O.faults out.new) result }
     ensures ready { OnOk result (R.is_ready register.new (number + 1)) }
@@ -82,9 +84,11 @@ pub fn close_line<R: Register, O: Sink>(
 ) -> Result<bool, Stop>
     requires early { kept.old.number ≤ 2 ^ 31 }
     requires ready { R.is_ready register.old kept.old.number }
-    ensures entered { IfOk result (λ refused. AreAllEntered (record { enters = R.enters; may_want = R.may_want }) register.old
+    ensures entered { IfOk result
+        (λ refused. AreAllEntered (record { enters = R.enters; may_want = R.may_want }) register.old
         kept.old.number ((kept.old.front.items ++ end.now) ∷ []) (O.written out.old) (O.written out.new) refused register.new) }
-    ensures stopped { IfErr result (λ stop. IsEntryStopped (record { enters = R.enters; may_want = R.may_want }) register.old
+    ensures stopped { IfErr result
+        (λ stop. IsEntryStopped (record { enters = R.enters; may_want = R.may_want }) register.old
         kept.old.number ((kept.old.front.items ++ end.now) ∷ []) (O.written out.old) (O.written out.new) stop) }
     ensures count { CountFits (O.faults out.old) (O.faults out.new) result }
     ensures ready { OnOk result (R.is_ready register.new kept.new.number) }

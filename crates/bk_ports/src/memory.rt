@@ -1,10 +1,12 @@
 //! Sources and sinks in memory. They take no memory of their own.
 
-ghost use Rattle.std.specs.Prelude.{◌≡◌, ℕ, ◌+◌, ◌-◌, ◌<◌, ◌≤◌, ◌++◌, ◌↔◌, [], List, length, IfOk, OnOk, OnErr, IsOk, IsErr, Some, None, Contains};
+ghost use Rattle.std.specs.Prelude.{◌≡◌, ℕ, ◌+◌, ◌-◌, ◌<◌, ◌≤◌, ◌++◌, ◌↔◌, [], List, length, IfOk, OnOk, OnErr, IsOk};
+ghost use Rattle.std.specs.Prelude.{IsErr, Some, None, Contains};
 ghost use Rattle.std.specs.Prelude.{min, take, replicate};
 ghost use Rattle.std.specs.Io.KnownBytes.{Appends, ReadConsumes};
 ghost use Rattle.bk_ports.specs.Causes.{counted, HasCause, AppendsPrefix};
-ghost use Rattle.bk_ports.specs.Stores.{Copies, given_count, after_read, limit_of, fitting_count, kept_count, after_write};
+ghost use Rattle.bk_ports.specs.Stores.{Copies, given_count, after_read, limit_of, fitting_count, kept_count};
+ghost use Rattle.bk_ports.specs.Stores.{after_write};
 
 use crate::{Failed, Sink, Source};
 use std::marker::Model;
@@ -25,14 +27,20 @@ impl<'a> Model for MemSource<'a> {
 
     ghost Value = { Supply };
 
-    ghost view = { λ s. record { left = s.bytes.now; most = s.most; fails = s.fails.now; call = s.call; faults = s.faults } };
+    ghost view = { λ s. record {
+      left = s.bytes.now;
+      most = s.most;
+      fails = s.fails.now;
+      call = s.call;
+      faults = s.faults;
+    } };
 
     ghost invariant = { λ s. 0 < s.most };
 }
 
 impl<'a> MemSource<'a> {
-    /// The source of these bytes, which gives at most `most` of them in a call. The calls whose numbers, from 0, stand in
-    /// `fails` fail and give nothing.
+    /// The source of these bytes, which gives at most `most` of them in a call. The calls whose numbers, from 0, stand
+    /// in `fails` fail and give nothing.
     pub fn new(bytes: &'a [u8], most: usize, fails: &'a [u64]) -> MemSource<'a>
         requires { 0 < most }
         ensures { result ≡ record { left = bytes.now; most = most; fails = fails.now; call = 0; faults = 0 } }
@@ -141,15 +149,21 @@ impl<'a> Model for MemSink<'a> {
 
     ghost Value = { Store };
 
-    ghost view = { λ s. record { room = length s.room.now; kept = take s.kept s.room.now; fails = s.fails.now; call = s.call; faults = s.faults } };
+    ghost view = { λ s. record {
+      room = length s.room.now;
+      kept = take s.kept s.room.now;
+      fails = s.fails.now;
+      call = s.call;
+      faults = s.faults;
+    } };
 
     ghost invariant = { λ s. s.kept ≤ length s.room.now };
 }
 
 impl<'a> MemSink<'a> {
-    /// The sink that keeps bytes in the room. A call whose number, from 0, stands first in a pair of `fails` fails, and keeps
-    /// as many bytes of its piece as the first such pair's second number says, at most those that fit. A call whose piece
-    /// doesn't fit fails, and keeps what fits.
+    /// The sink that keeps bytes in the room. A call whose number, from 0, stands first in a pair of `fails` fails, and
+    /// keeps as many bytes of its piece as the first such pair's second number says, at most those that fit. A call
+    /// whose piece doesn't fit fails, and keeps what fits.
     pub fn new(room: &'a mut [u8], fails: &'a [(u64, usize)]) -> MemSink<'a>
         ensures { result ≡ record { room = length room.old; kept = []; fails = fails.now; call = 0; faults = 0 } }
     {

@@ -1,11 +1,13 @@
 //! Readers and writers of std as sources and sinks.
 
-ghost use Rattle.std.specs.Prelude.{◌≡◌, ℕ, ◌+◌, ◌-◌, ◌<◌, ◌≤◌, length, IfOk, OnOk, OnErr, true};
+ghost use Rattle.std.specs.Prelude.{◌≡◌, ℕ, ◌+◌, ◌-◌, ◌<◌, ◌≤◌, length, IfOk, OnOk, OnErr};
 ghost use Rattle.std.specs.Io.KnownBytes.{Appends, ReadConsumes};
 ghost use Rattle.bk_ports.specs.Causes.{counted, HasCause, AppendsPrefix};
+ghost use Rattle.bk_ports.specs.Told.{count_after, told_of};
 
+use crate::flushed::{Flushed, flush};
 use crate::{Failed, Sink, Source};
-use std::io::{Read, Write};
+use std::io::{Read, Stderr, Stdout, Write};
 
 /// A reader of std. Each of its errors is answered `Failed` and counted, in a `u64` that stays at its last value.
 #[derive(Drop)]
@@ -38,13 +40,7 @@ impl<R: Read> Source for StdSource<R> {
         ensures counts { let count = ⟦<StdSource<R> as Source>⟧.faults in
             OnErr result (count self.new ≡ counted (count self.old)) }
     {
-        match self.inner.read(buf) {
-            Ok(count) => Ok(count),
-            Err(_) => {
-                self.faults = self.faults.saturating_add(1);
-                Err(Failed)
-            }
-        }
+        told(self.inner.read(buf), &mut self.faults)
     }
 }
 
@@ -81,27 +77,51 @@ impl<W: Write> Sink for StdSink<W> {
         ensures counts { let count = ⟦<StdSink<W> as Sink>⟧.faults in
             OnErr result (count self.new ≡ counted (count self.old)) }
     {
-        if write_each(&mut self.inner, bytes) {
-            Ok(())
-        } else {
-            self.faults = self.faults.saturating_add(1);
+        match told(write_each(&mut self.inner, bytes), &mut self.faults) {
+            Ok(Flushed { .. }) => Ok(()),
+            Err(Failed) => Err(Failed),
+        }
+    }
+}
+
+/// A sink that is standard output. No other sink of this crate is one.
+pub trait StandardOutput {}
+
+impl StandardOutput for StdSink<Stdout> {}
+
+/// A sink that is standard error. No other sink of this crate is one.
+pub trait StandardError {}
+
+impl StandardError for StdSink<Stderr> {}
+
+// What is told of one call of a reader or a writer: its error is answered `Failed` and counted.
+fn told<T: Drop, E: Drop>(called: Result<T, E>, faults: &mut u64) -> Result<T, Failed>
+    ensures told { result ≡ told_of called }
+    ensures count { faults.new ≡ count_after called faults.old }
+    ensures cause { HasCause faults.old faults.new result }
+{
+    match called {
+        Ok(given) => Ok(given),
+        Err(_) => {
+            *faults = faults.saturating_add(1);
             Err(Failed)
         }
     }
 }
 
-// Writes all bytes and flushes, or has written a prefix of them.
-fn write_each<W: Write>(writer: &mut W, bytes: &[u8]) -> bool
-    ensures ok { result ≡ true → Appends (W.contents writer.old) (W.contents writer.new) bytes.now }
+// Writes all bytes and flushes, or has written a prefix of them. Success can't be told without a flush, since only that
+// gives a `Flushed`.
+fn write_each<W: Write>(writer: &mut W, bytes: &[u8]) -> Result<Flushed, Failed>
+    ensures ok { OnOk result (Appends (W.contents writer.old) (W.contents writer.new) bytes.now) }
     ensures prefix { AppendsPrefix (W.contents writer.old) (W.contents writer.new) bytes.now }
 {
     let mut done = 0;
     while done < bytes.len() {
         match writer.write(&bytes[done..]) {
-            Ok(0) => return false,
+            Ok(0) => return Err(Failed),
             Ok(count) => done += count,
-            Err(_) => return false,
+            Err(_) => return Err(Failed),
         }
     }
-    writer.flush().is_ok()
+    flush(writer)
 }

@@ -1,8 +1,8 @@
 //! A run over lines each of which is answered for itself.
 
 ghost use Rattle.bk_ports.specs.Answered.{answers_of, of_fronts};
-ghost use Rattle.bk_ports.specs.Ending.{EndsWith};
-ghost use Rattle.bk_ports.specs.Faults.{CountsTell, IsCalm, IsDoneOrWanting};
+ghost use Rattle.bk_ports.specs.Ending.{EndsWith, streams_between};
+ghost use Rattle.bk_ports.specs.Faults.{CountsTell, IsCalm, IsDoneOrWanting, faults_between};
 
 use crate::input::enter_lines;
 use crate::{Answerer, Ended, Failed, Outcome, Register, Sink, Source};
@@ -17,7 +17,8 @@ struct Steady<'a, A: Answerer> {
 impl<A: Answerer> Register for Steady<'_, A> {
     ghost use Rattle.std.specs.Prelude.{◌≡◌};
 
-    ghost enters = { λ s number line pieces refused l. A.answers s.answerer.now line pieces refused × (l.answerer.now ≡ s.answerer.now) };
+    ghost enters = { λ s number line pieces refused l. A.answers s.answerer.now line pieces refused
+        × (l.answerer.now ≡ s.answerer.now) };
 
     ghost may_want = { λ s number line. A.may_want s.answerer.now line };
 
@@ -50,33 +51,19 @@ pub fn answer_lines<S: Source, O: Sink, A: Answerer>(
     out: &mut O,
 ) -> Ended
     // What each ending says of the bytes.
-    ensures ending { EndsWith (answers_of (of_fronts (record { answers = A.answers answerer.now; may_want = A.may_want answerer.now })))
-        (record {
-          left = S.left source.old;
-          left_after = S.left source.new;
-          written = O.written out.old;
-          written_after = O.written out.new;
-        })
+    ensures ending { EndsWith
+        (answers_of (of_fronts (record { answers = A.answers answerer.now; may_want = A.may_want answerer.now })))
+        (streams_between S.left O.written (source.old, out.old) (source.new, out.new))
         result }
 
     // Where nothing goes wrong, all lines are answered, or memory is wanting at one that was read.
     ensures complete { IsCalm (S.left source.old)
-        (record {
-          read = S.faults source.old;
-          read_after = S.faults source.new;
-          write = O.faults out.old;
-          write_after = O.faults out.new;
-        })
+        (faults_between S.faults O.faults (source.old, out.old) (source.new, out.new))
         → IsDoneOrWanting result }
 
     // What the ending tells of the counts of faults.
     ensures faults { CountsTell result
-        (record {
-          read = S.faults source.old;
-          read_after = S.faults source.new;
-          write = O.faults out.old;
-          write_after = O.faults out.new;
-        }) }
+        (faults_between S.faults O.faults (source.old, out.old) (source.new, out.new)) }
 {
     let mut steady = Steady {
         answerer,

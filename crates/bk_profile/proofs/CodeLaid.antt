@@ -5,12 +5,12 @@ use Rattle.std.proofs.lemmas.List.{length-append}
 use Rattle.std.proofs.lemmas.List.Sums.{sum_by-cons}
 use Rattle.bk_tiling.proofs.TilingLaws.{even_below, wide_enough}
 use Rattle.bk_tiling.specs.Column.{depth}
-use Rattle.bk_tiling.specs.Kept.{IsKept, IsSide}
+use Rattle.bk_tiling.specs.KeptTiling.{IsKept, IsSide}
 use Rattle.bk_tiling.specs.Tiling.{IsTiling, Tiling}
 use Rattle.bk_tiling.specs.declared.Segment.{Segment}
 use Rattle.bk_tiling.specs.declared.Square.{Square}
 use Rattle.bk_code.specs.Code.{Code, flat}
-use Rattle.bk_code.specs.Kept.{IsKeptCode, IsSideGroup}
+use Rattle.bk_code.specs.KeptCode.{IsKeptCode, IsSideGroup}
 use Rattle.bk_profile.proofs.CodeLaying.{a_code_is_laid}
 use Rattle.bk_profile.proofs.LaidGroups.{AreGroups, IsLaid, laid_groups, laid_none, tiling_from_laid}
 use Rattle.bk_profile.proofs.LayingOnce.{Halves, gap_of_none, gap_unique, lays_length, lays_sides, lays_split, lays_unique}

@@ -160,6 +160,7 @@ module _ (t : Tiling) (tiling : IsTiling t) (laid group back : List Square) (is 
           cases (inr k) =
               reaches (omega (arith, (over_from g.row.end g.row.first.y z e).top, later (subst (λ (l : List Square). IsOneOf z (l ++ back)) g.row.is k)))
 
+  -- the gap before a group of the tiling is the stretch under which the group stands
   pub gap : IsGap t.width laid (record { x = g.row.first.x; width = g.row.end - g.row.first.x; level = g.row.first.y })
   gap = record {
     flat = record {
@@ -173,9 +174,11 @@ module _ (t : Tiling) (tiling : IsTiling t) (laid group back : List Square) (is 
     ends = λ h. subst (λ (c : ℕ). g.row.first.y < depth laid c) (omega (arith, some_width)) (ends (omega (arith, some_width, h)));
   }
 
+  -- the sides of a group of the tiling fill the stretch under which it stands
   pub fits : sum (laid_sides group) ≡ g.row.end - g.row.first.x
   fits = omega (arith, sum_is_total (laid_sides group), chain_total group g.row.first.x g.row.end g.row.chain)
 
+  -- the sides of a group of the tiling, laid into the gap, are its squares
   pub group_is : laid ++ laid_group g.row.first.x g.row.first.y (laid_sides group) ≡ laid ++ group
   group_is = ap (λ (l : List Square). laid ++ l) (sym (chain_is_group group g.row.first.x g.row.first.y g.row.end g.row.chain g.row.tops))
 

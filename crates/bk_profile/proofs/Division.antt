@@ -1,11 +1,12 @@
 -- How a flat list is divided: in one way, and for the flat list of a tiling's code into the groups of that code.
 use Rattle.std.specs.List.{AllByRecursion}
-use Rattle.std.proofs.Common.{Bool, List, [], ap, arith, cond, drop, length, map, nat_le, refl, subst, suc, sum, sym, take, true, zero, ℕ, ◌++◌, ◌+◌}
+use Rattle.std.proofs.Common.{Bool, List, [], ap, arith, cond, length, map, refl, subst, suc, sum, sym, take, zero, ℕ, ◌++◌, ◌+◌}
 use Rattle.std.proofs.Common.{◌-◌, ◌<◌, ◌∙◌, ◌∷◌, ◌≡◌, ◌≤◌}
 use Rattle.std.proofs.lemmas.Bool.{lt-leb}
-use Rattle.std.proofs.lemmas.Bool.Decides.{nat_tests}
-use Rattle.std.proofs.lemmas.List.{drop_at}
 use Rattle.std.proofs.lemmas.List.Sums.{sum_by-cons}
+use Rattle.bk_laws.proofs.ListParts.{append-same_rest}
+use Rattle.bk_laws.proofs.NumberTests.{nat_le-of_le}
+use Rattle.bk_laws.proofs.Sums.{sum-positive_of_positive}
 use Rattle.bk_tiling.proofs.Groups.{AllIn, IsGroup}
 use Rattle.bk_tiling.proofs.TilingGroups.{all_groups}
 use Rattle.bk_tiling.proofs.TilingLaws.{side_of}
@@ -18,16 +19,13 @@ use Rattle.bk_profile.proofs.CodeLaid.{no_misfit, not_open}
 use Rattle.bk_profile.proofs.CodeLaying.{a_code_is_laid}
 use Rattle.bk_profile.proofs.LaidGroups.{AreGroups}
 use Rattle.bk_profile.proofs.LayingOnce.{gap_unique}
-use Rattle.bk_profile.specs.Gap.{Divides, Fits, IsGap, LaysTo, done, fits, misfit, next_group, with_group}
+use Rattle.bk_profile.specs.Gap.{Divides, FitsGap, IsGap, LaysTo, done, fits, laid_with_group, misfit, next_group}
 use Rattle.bk_profile.specs.Refused.{HasFlat, IsFlatRefused, IsRefused}
 use Rattle.bk_profile.specs.declared.laying.Refusal.{Refusal}
 use Rattle.bk_profile.specs.declared.laying.Refusal.TheVariants.{Gap, Open}
 
-reached : (n s : ℕ) → n ≤ s → nat_le n s ≡ true
-reached n s h = grind (arith, nat_tests)
-
 next_ends : (n s : ℕ) (sides : List ℕ) → n ≤ s → next_group n (s ∷ sides) ≡ s ∷ []
-next_ends n s sides h = ap (λ (b : Bool). s ∷ cond b [] (next_group (n - s) sides)) (reached n s h)
+next_ends n s sides h = ap (λ (b : Bool). s ∷ cond b [] (next_group (n - s) sides)) (nat_le-of_le n s h)
 
 next_goes_on : (n s : ℕ) (sides : List ℕ) → s < n → next_group n (s ∷ sides) ≡ s ∷ next_group (n - s) sides
 next_goes_on n s sides h = ap (λ (b : Bool). s ∷ cond b [] (next_group (n - s) sides)) (lt-leb n s h)
@@ -53,9 +51,6 @@ falls_short n (s ∷ sides) short =
     let less : s + sum sides < n = omega (arith, short, sum_by-cons (λ (k : ℕ). k) s sides) in
     next_goes_on n s sides (omega (arith, less)) ∙ ap (λ (l : List ℕ). s ∷ l) (falls_short (n - s) sides (omega (arith, less)))
 
-some_sum : (s : ℕ) (sides : List ℕ) → AllByRecursion (λ s. 0 < s) (s ∷ sides) → 0 < sum (s ∷ sides)
-some_sum s sides good = omega (arith, sum_by-cons (λ (k : ℕ). k) s sides, good.0)
-
 -- a group that fills the gap is the next one
 next_exact : (n : ℕ) (group more : List ℕ) → 0 < length group → AllByRecursion (λ s. 0 < s) group → sum group ≡ n → group ≡ next_group n (group ++ more)
 next_exact n [] more some good e = absurd (omega arith)
@@ -63,7 +58,7 @@ next_exact n (s ∷ []) more some good e = sym (next_ends n s more (omega (arith
 next_exact n (s ∷ t ∷ group) more some good e =
     let whole : s + sum (t ∷ group) ≡ n = omega (arith, e, sum_by-cons (λ (k : ℕ). k) s (t ∷ group)) in
     ap (λ (l : List ℕ). s ∷ l) (next_exact (n - s) (t ∷ group) more (omega arith) good.1 (omega (arith, whole)))
-    ∙ sym (next_goes_on n s (t ∷ group ++ more) (omega (arith, whole, some_sum t group good.1)))
+    ∙ sym (next_goes_on n s (t ∷ group ++ more) (omega (arith, whole, sum-positive_of_positive t group good.1)))
 
 -- groups that fit, one after another, are how their flat list is divided
 divides_lays : (w : ℕ) (laid : List Square) (code : Code) (end : List Square) → AreGroups code → LaysTo w laid code end → Divides w laid (flat code) code
@@ -71,7 +66,7 @@ divides_lays w laid [] end good lays = done
 divides_lays w laid ([] ∷ code) end good lays = absurd (omega (arith, good.0.0))
 divides_lays w laid ((s ∷ group) ∷ code) end good (gap, is, fit, lays) =
     fits (flat code) gap is (next_exact gap.width (s ∷ group) (flat code) good.0.0 good.0.1 fit) fit refl
-    (divides_lays w (with_group laid gap (s ∷ group)) code end good.1 lays)
+    (divides_lays w (laid_with_group laid gap (s ∷ group)) code end good.1 lays)
 
 -- the next group is one
 same_group : (w : ℕ) (laid : List Square) (sides group other : List ℕ) (gap gap2 : Segment) → IsGap w laid gap → IsGap w laid gap2
@@ -80,15 +75,9 @@ same_group w laid sides group other gap gap2 is is2 next next2 = next
     ∙ ap (λ (g : Segment). next_group g.width sides) (gap_unique w laid gap gap2 is is2) ∙ sym next2
 
 same_fit : (w : ℕ) (laid : List Square) (group other : List ℕ) (gap gap2 : Segment) → IsGap w laid gap → IsGap w laid gap2 → group ≡ other
-    → Fits gap group → Fits gap2 other
+    → FitsGap gap group → FitsGap gap2 other
 same_fit w laid group other gap gap2 is is2 same fit = ap (λ (g : List ℕ). sum g) (sym same) ∙ fit
     ∙ ap (λ (g : Segment). g.width) (gap_unique w laid gap gap2 is is2)
-
-same_rest : (sides group other rest rest2 : List ℕ) → group ≡ other → sides ≡ group ++ rest → sides ≡ other ++ rest2 → rest ≡ rest2
-same_rest sides group other rest rest2 same split split2 =
-    sym (ap (drop (length group)) split ∙ drop_at group rest (length group) refl)
-    ∙ ap (λ n. drop n sides) (ap length same)
-    ∙ (ap (drop (length other)) split2 ∙ drop_at other rest2 (length other) refl)
 
 -- a list is divided in one way
 pub divides_once : (w : ℕ) (laid : List Square) (sides : List ℕ) (code other : Code) → Divides w laid sides code → Divides w laid sides other → code ≡ other
@@ -101,14 +90,14 @@ divides_once w laid sides code other (fits {s = s} {sides = tail} {group = g} re
     absurd (not2 (same_fit w laid g h gap gap2 is is2 (same_group w laid (s ∷ tail) g h gap gap2 is is2 next next2) fit))
 divides_once w laid sides code other (fits {s = s} {sides = tail} {group = g} {code = c} rest gap is next fit split more)
     (fits {group = h} {code = d} rest2 gap2 is2 next2 fit2 split2 more2) =
-    λ i. same i ∷ divides_once w (with_group laid gap2 h) rest2 c d moved more2 i
+    λ i. same i ∷ divides_once w (laid_with_group laid gap2 h) rest2 c d moved more2 i
   where
     same : g ≡ h
     same = same_group w laid (s ∷ tail) g h gap gap2 is is2 next next2
 
-    moved : Divides w (with_group laid gap2 h) rest2 c
-    moved = subst (λ (l : List ℕ). Divides w (with_group laid gap2 h) l c) (same_rest (s ∷ tail) g h rest rest2 same split split2)
-        (subst (λ (l : List Square). Divides w l rest c) (λ i. with_group laid (gap_unique w laid gap gap2 is is2 i) (same i)) more)
+    moved : Divides w (laid_with_group laid gap2 h) rest2 c
+    moved = subst (λ (l : List ℕ). Divides w (laid_with_group laid gap2 h) l c) (append-same_rest (s ∷ tail) g h rest rest2 same split split2)
+        (subst (λ (l : List Square). Divides w l rest c) (λ i. laid_with_group laid (gap_unique w laid gap gap2 is is2 i) (same i)) more)
 
 -- the groups of a tiling's code have sides, all of them positive
 side_groups_good : (t : Tiling) → IsTiling t → (groups : List (List Square)) → AllByRecursion (λ g. IsGroup t.squares g × AllIn t.squares g) groups

@@ -2,22 +2,22 @@
 use Rattle.std.specs.List.{AllByRecursion}
 use Rattle.std.specs.Prelude.{IfErr, IfOk, IsOkAnd, Result}
 use Rattle.std.specs.declared.result.Result.TheVariants.{Err, Ok}
-use Rattle.std.proofs.Common.{Bool, List, [], ap, arith, drop, eqb-true, length, refl, subst, sum, sym, take, true, ℕ, ◌==◌, ◌++◌, ◌+◌, ◌<◌, ◌∙◌, ◌∷◌, ◌≡◌, ◌≤◌}
+use Rattle.std.proofs.Common.{List, [], ap, arith, drop, length, refl, subst, sum, sym, take, ℕ, ◌++◌, ◌+◌, ◌<◌, ◌∙◌, ◌∷◌, ◌≡◌, ◌≤◌}
 use Rattle.std.proofs.lemmas.List.{append-nil, append_assoc, length-append, length-take-le, take-append-drop}
 use Rattle.bk_laws.proofs.AllOfLists.{all_left, all_right}
-use Rattle.bk_tiling.specs.Kept.{IsSide}
+use Rattle.bk_tiling.specs.KeptTiling.{IsSide}
 use Rattle.bk_tiling.specs.Tiling.{Tiling}
 use Rattle.bk_tiling.specs.declared.Segment.{Segment}
 use Rattle.bk_code.proofs.FlatList.{a_flat_list_fixes_a_tiling}
 use Rattle.bk_code.proofs.GroupSteps.{side_groups}
 use Rattle.bk_code.proofs.Storing.{flat_more}
 use Rattle.bk_code.specs.Code.{Code, flat}
-use Rattle.bk_code.specs.Kept.{IsSideGroup}
+use Rattle.bk_code.specs.KeptCode.{IsSideGroup}
 use Rattle.bk_profile.proofs.CodeLaid.{laid_out, sum_bounds}
 use Rattle.bk_profile.proofs.Division.{falls_short, flat_refused_has_none}
 use Rattle.bk_profile.proofs.LayingOnce.{gap_of_none, gap_unique, lays_length, lays_push}
 use Rattle.bk_profile.proofs.Turns.{misfits_at}
-use Rattle.bk_profile.specs.Gap.{Divides, Fits, IsGap, LaysTo, done, fits, misfit, next_group, with_group}
+use Rattle.bk_profile.specs.Gap.{Divides, FitsGap, IsGap, LaysTo, done, fits, laid_with_group, misfit, next_group}
 use Rattle.bk_profile.specs.Laid.{IsLaidOut, IsLaidTiling, IsUneven, Laid, LaysGroup, MisfitsGap}
 use Rattle.bk_profile.specs.Refused.{HasFlat, IsFlatRefused, IsOpen}
 use Rattle.bk_profile.specs.declared.laying.Refusal.{Refusal}
@@ -61,9 +61,11 @@ module _ (width : ℕ) (sides : List ℕ) (number : ℕ) (p : Laid) (rest : List
   count : length p.squares + length rest ≡ length sides
   count = omega (arith, lays_length width [] turn.code p.squares turn.lays, ap length turn.flat_is, length-append (flat turn.code) rest)
 
+  -- the sides that are left are sides that squares may have
   pub rest_good : AllByRecursion IsSide rest
   rest_good = all_right IsSide (flat turn.code) rest (subst (AllByRecursion IsSide) (sym turn.flat_is) good)
 
+  -- the number of the next group is at most one more than the sides
   pub numbers : number ≤ length sides + 1
   numbers = omega (arith, turn.number_is, count, groups turn.code turn.good, lays_length width [] turn.code p.squares turn.lays)
     where
@@ -83,11 +85,11 @@ module _ (width : ℕ) (sides : List ℕ) (number : ℕ) (p : Laid) (rest : List
     here = subst (λ n. IsGap n p.squares gap) turn.width_is its.is
 
     divides_fit : (group rest left : List ℕ) (code : Code) → 0 < length rest → group ≡ next_group gap.width rest → group ++ left ≡ rest
-        → Fits gap group → Divides width (with_group p.squares gap group) left code → Divides width p.squares rest (group ∷ code)
+        → FitsGap gap group → Divides width (laid_with_group p.squares gap group) left code → Divides width p.squares rest (group ∷ code)
     divides_fit group [] left code some next split fit more = absurd (omega arith)
     divides_fit group (s ∷ rest) left code some next split fit more = fits left gap here next fit (sym split) more
 
-    divides_misfit : (group rest : List ℕ) → 0 < length rest → group ≡ next_group gap.width rest → (Fits gap group → ⊥)
+    divides_misfit : (group rest : List ℕ) → 0 < length rest → group ≡ next_group gap.width rest → (FitsGap gap group → ⊥)
         → Divides width p.squares rest (group ∷ [])
     divides_misfit group [] some next not = absurd (omega arith)
     divides_misfit group (s ∷ rest) some next not = misfit gap here next not
@@ -108,11 +110,11 @@ module _ (width : ℕ) (sides : List ℕ) (number : ℕ) (p : Laid) (rest : List
         same : lay.gap ≡ gap
         same = gap_unique p.width p.squares lay.gap gap lay.is_gap its.is
 
-        fit : Fits gap group
+        fit : FitsGap gap group
         fit = lay.fits ∙ ap (λ (g : Segment). g.width) same
 
-        moved : new ≡ record { width = p.width; squares = with_group p.squares gap group }
-        moved = lay.laid ∙ ap (λ (g : Segment). record { width = p.width; squares = with_group p.squares g group }) same
+        moved : new ≡ record { width = p.width; squares = laid_with_group p.squares gap group }
+        moved = lay.laid ∙ ap (λ (g : Segment). record { width = p.width; squares = laid_with_group p.squares g group }) same
 
     pub misfit_turn : (gap_width total : ℕ) → MisfitsGap p group gap_width total → IsFlatRefused width sides (Gap number gap_width total)
     misfit_turn gap_width total m = record {
@@ -127,13 +129,16 @@ module _ (width : ℕ) (sides : List ℕ) (number : ℕ) (p : Laid) (rest : List
 -- after the last turn
 module _ (width : ℕ) (sides : List ℕ) (number : ℕ) (p : Laid) (rest : List ℕ) (turn : Dividing width sides number p rest) (few : length sides ≤ 200)
     (some : 0 < length sides) (over : rest ≡ []) where
+  -- after the last turn the groups have all sides
   pub flat_all : flat turn.code ≡ sides
   flat_all = sym (append-nil (flat turn.code)) ∙ ap (λ (l : List ℕ). flat turn.code ++ l) (sym over) ∙ turn.flat_is
 
+  -- groups with a side are not none
   pub groups_some : (code : Code) → 0 < length (flat code) → 0 < length code
   groups_some [] h = h
   groups_some (group ∷ code) h = omega arith
 
+  -- after the last turn all groups are laid
   abbrev pub last_turn : IsLaidOut p
   last_turn = record {
     code = turn.code;
@@ -168,14 +173,17 @@ module _ (width : ℕ) (sides : List ℕ) (number : ℕ) (p : Laid) (rest : List
         };
   }
 
+  -- where what is laid is a tiling, it has the width and the flat list
   pub ends_ok : (r : Result Tiling Refusal) → IfOk r (IsLaidTiling p) → IfOk r (HasFlat width sides)
   ends_ok (Ok t) is = has_flat t is
   ends_ok (Err e) is = tt
 
+  -- where what is laid is open, the flat list is refused
   pub ends_refused : (r : Result Tiling Refusal) → IfErr r (IsOpen p) → IfErr r (IsFlatRefused width sides)
   ends_refused (Ok t) h = tt
   ends_refused (Err e) h = open_refused e h
 
+  -- a tiling with the width and the flat list is what is laid
   pub ends_only : (r : Result Tiling Refusal) → IfOk r (IsLaidTiling p) → IfErr r (IsOpen p) → (t : Tiling) → HasFlat width sides t → IsOkAnd r (λ u. u ≡ t)
   ends_only (Ok u) is h t has =
       a_flat_list_fixes_a_tiling u t is.tiling has.tiling ((has_flat u is).width_is ∙ sym has.width_is) ((has_flat u is).flat_is ∙ sym has.flat_is)
@@ -210,10 +218,5 @@ too_wide width total (s ∷ sides) some few good wide is = record {
     short : sum (s ∷ sides) < width
     short = omega (arith, (sum_bounds (s ∷ sides) good).0, few, wide)
 
-    not : Fits (whole_gap width) (s ∷ sides) → ⊥
+    not : FitsGap (whole_gap width) (s ∷ sides) → ⊥
     not e = omega (arith, short, e)
-
--- where the test says so, no side is left
-pub none_left : (sides : List ℕ) (b : Bool) → b ≡ (length sides == 0) → b ≡ true → sides ≡ []
-none_left [] b e f = refl
-none_left (s ∷ sides) b e f = absurd (omega (arith, eqb-true (length (s ∷ sides)) 0 (sym e ∙ f)))

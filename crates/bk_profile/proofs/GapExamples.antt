@@ -6,7 +6,8 @@ use Rattle.bk_tiling.specs.declared.Segment.{Segment}
 use Rattle.bk_tiling.specs.declared.Square.{Square}
 use Rattle.bk_code.specs.Code.{code_of}
 use Rattle.bk_profile.proofs.GapTest.{by_tests}
-use Rattle.bk_profile.specs.Gap.{Divides, Fits, IsGap, LaysTo, fits, misfit, next_group, with_group}
+use Rattle.bk_profile.specs.OutlineRuns.{run_start, runs_under_group}
+use Rattle.bk_profile.specs.Gap.{Divides, FitsGap, IsGap, LaysTo, fits, laid_with_group, misfit, next_group}
 
 -- a segment by its left edge, its width and its level
 abbrev pub segment : ℕ → ℕ → ℕ → Segment
@@ -14,15 +15,15 @@ segment x width level = record { x = x; width = width; level = level }
 
 -- the group 18, 15
 abbrev pub one_group : List Square
-one_group = with_group [] (segment 0 33 0) (18 ∷ 15 ∷ [])
+one_group = laid_with_group [] (segment 0 33 0) (18 ∷ 15 ∷ [])
 
 -- and 7, 8 under 15
 abbrev pub two_groups : List Square
-two_groups = with_group one_group (segment 18 15 15) (7 ∷ 8 ∷ [])
+two_groups = laid_with_group one_group (segment 18 15 15) (7 ∷ 8 ∷ [])
 
 -- and 14, 4 under 18
 abbrev pub three_groups : List Square
-three_groups = with_group two_groups (segment 0 18 18) (14 ∷ 4 ∷ [])
+three_groups = laid_with_group two_groups (segment 0 18 18) (14 ∷ 4 ∷ [])
 
 -- the third gap is over the first 18 columns, at level 18
 pub third_gap : IsGap 33 two_groups (segment 0 18 18)
@@ -34,7 +35,7 @@ cut_short gap = let deeper : 15 < 15 = gap.ends (lit< tt) in omega (arith, deepe
 
 -- the group 1, 2, 1 in a rectangle of width 4
 abbrev low_ends : List Square
-low_ends = with_group [] (segment 0 4 0) (1 ∷ 2 ∷ 1 ∷ [])
+low_ends = laid_with_group [] (segment 0 4 0) (1 ∷ 2 ∷ 1 ∷ [])
 
 -- of the two runs of least depth under it the left one is the gap
 pub left_end : IsGap 4 low_ends (segment 0 1 1)
@@ -44,7 +45,7 @@ pub not_right_end : IsGap 4 low_ends (segment 3 1 1) → ⊥
 not_right_end gap = let deeper : 1 < 1 = gap.leftmost 0 (lit< tt) in omega (arith, deeper)
 
 -- a side of 10 doesn't fit a gap of 11
-pub ten_is_not_eleven : Fits (segment 14 11 22) (10 ∷ []) → ⊥
+pub ten_is_not_eleven : FitsGap (segment 14 11 22) (10 ∷ []) → ⊥
 ten_is_not_eleven h = omega arith
 
 -- the fourth group is all that is left, and does not fill its gap of 11 columns
@@ -98,3 +99,7 @@ all_that_is_left = refl
 -- a group goes on to the side that reaches or passes the gap's width
 pub too_much : next_group 32 (18 ∷ 15 ∷ 7 ∷ []) ≡ 18 ∷ 15 ∷ []
 too_much = refl
+
+-- the second run under the group 18, 15 begins in column 18
+second_run : run_start (runs_under_group 0 (18 ∷ 15 ∷ [])) 1 ≡ 18
+second_run = refl

@@ -9,14 +9,14 @@ use Rattle.bk_laws.proofs.Totals.{sum_is_total, total}
 use Rattle.bk_tiling.proofs.FilledGroup.{depth_beside, depth_under}
 use Rattle.bk_tiling.proofs.Group.{length_group}
 use Rattle.bk_tiling.specs.Column.{depth}
-use Rattle.bk_tiling.specs.Kept.{IsSide}
+use Rattle.bk_tiling.specs.KeptTiling.{IsSide}
 use Rattle.bk_tiling.specs.SquareGroups.{laid_group}
 use Rattle.bk_tiling.specs.Tiling.{IsOneOf}
 use Rattle.bk_tiling.specs.declared.Segment.{Segment}
 use Rattle.bk_tiling.specs.declared.Square.{Square}
 use Rattle.bk_profile.proofs.RunStarts.{no_run}
 use Rattle.bk_profile.specs.Gap.{IsGap}
-use Rattle.bk_profile.specs.Outline.{AreLevel, IsLowest, IsOutline, run_under, runs_under, start, width_of}
+use Rattle.bk_profile.specs.OutlineRuns.{AreLevel, AreOutlineRuns, IsLowest, run_start, run_under_side, runs_under_group, width_of}
 use Rattle.bk_profile.specs.declared.runs.Run.{Run}
 
 level_join : (laid : List Square) (x : ℕ) (runs more : List Run) → AreLevel laid x runs → AreLevel laid (x + width_of runs) more
@@ -42,28 +42,28 @@ level_kept laid new x (r ∷ runs) all same =
 
 -- the runs under a group
 under_level : (new : List Square) (x y : ℕ) (sides : List ℕ)
-    → ((q : Square) → IsOneOf q (laid_group x y sides) → (c : ℕ) → q.x ≤ c → c < q.x + q.s → depth new c ≡ q.y + q.s) → AreLevel new x (runs_under y sides)
+    → ((q : Square) → IsOneOf q (laid_group x y sides) → (c : ℕ) → q.x ≤ c → c < q.x + q.s → depth new c ≡ q.y + q.s) → AreLevel new x (runs_under_group y sides)
 under_level new x y [] at = tt
 under_level new x y (s ∷ sides) at =
     (λ c l h. at (record { x = x; y = y; s = s }) (inl refl) c l h, under_level new (x + s) y sides (λ q k c l h. at q (inr k) c l h))
 
 -- level runs under sides are as wide as the sides together
-pub width_under : (level : ℕ) (sides : List ℕ) → width_of (runs_under level sides) ≡ sum sides
+pub width_under : (level : ℕ) (sides : List ℕ) → width_of (runs_under_group level sides) ≡ sum sides
 width_under level [] = refl
 width_under level (s ∷ sides) =
-    omega (arith, sum_by-cons (λ (r : Run). r.width) (run_under level s) (runs_under level sides), sum_by-cons (λ (n : ℕ). n) s sides, width_under level sides)
+    omega (arith, sum_by-cons (λ (r : Run). r.width) (run_under_side level s) (runs_under_group level sides), sum_by-cons (λ (n : ℕ). n) s sides, width_under level sides)
 
 -- there is a run for each side
-pub length_under : (level : ℕ) (sides : List ℕ) → length (runs_under level sides) ≡ length sides
-length_under level sides = length-map sides (run_under level)
+pub length_under : (level : ℕ) (sides : List ℕ) → length (runs_under_group level sides) ≡ length sides
+length_under level sides = length-map sides (run_under_side level)
 
-under_some : (level : ℕ) (sides : List ℕ) → AllByRecursion IsSide sides → All (λ (r : Run). 0 < r.width) (runs_under level sides)
+under_some : (level : ℕ) (sides : List ℕ) → AllByRecursion IsSide sides → All (λ (r : Run). 0 < r.width) (runs_under_group level sides)
 under_some level [] good k d l = absurd (omega arith)
 under_some level (s ∷ sides) good zero d l = good.0.0
 under_some level (s ∷ sides) good (suc k) d l = under_some level sides good.1 k d (omega arith)
 
 under_low : (level : ℕ) (sides : List ℕ) (most : ℕ) → AllByRecursion IsSide sides → level + 999_999_999_999_999 ≤ most
-    → All (λ (r : Run). r.level ≤ most) (runs_under level sides)
+    → All (λ (r : Run). r.level ≤ most) (runs_under_group level sides)
 under_low level [] most good low k d l = absurd (omega arith)
 under_low level (s ∷ sides) most good low zero d l = omega (arith, good.0.1)
 under_low level (s ∷ sides) most good low (suc k) d l = under_low level sides most good.1 low k d (omega arith)
@@ -79,16 +79,16 @@ all_drop P runs b all k d l = subst P (sym (get_or-drop b runs k d)) (all (b + k
 all_lower : (n m : ℕ) (runs : List Run) → n ≤ m → All (λ (r : Run). r.level ≤ n) runs → All (λ (r : Run). r.level ≤ m) runs
 all_lower n m runs le all k d l = omega (arith, le, all k d l)
 
-module _ (w : ℕ) (laid : List Square) (runs : List Run) (a b : ℕ) (gap : Segment) (sides : List ℕ) (outline : IsOutline w laid runs)
+module _ (w : ℕ) (laid : List Square) (runs : List Run) (a b : ℕ) (gap : Segment) (sides : List ℕ) (outline : AreOutlineRuns w laid runs)
     (lowest : IsLowest runs (length runs) a b)
-    (at : gap.x ≡ start runs a) (end : gap.x + gap.width ≡ start runs b) (level : (d : Run) → gap.level ≡ (get_or runs a d).level)
+    (at : gap.x ≡ run_start runs a) (end : gap.x + gap.width ≡ run_start runs b) (level : (d : Run) → gap.level ≡ (get_or runs a d).level)
     (is : IsGap w laid gap) (fits : sum sides ≡ gap.width)
     (good : AllByRecursion IsSide sides) where
   abbrev new : List Square
   new = laid ++ laid_group gap.x gap.level sides
 
   abbrev hung : List Run
-  hung = (take a runs ++ runs_under gap.level sides) ++ drop b runs
+  hung = (take a runs ++ runs_under_group gap.level sides) ++ drop b runs
 
   first : a < length runs
   first = omega (arith, lowest.some, lowest.within)
@@ -99,10 +99,10 @@ module _ (w : ℕ) (laid : List Square) (runs : List Run) (a b : ℕ) (gap : Seg
   there : (c : ℕ) → gap.x ≤ c → c < gap.x + total sides → depth laid c ≡ gap.level
   there c l h = (is.flat).level c l (omega (arith, h, wide))
 
-  front : width_of (take a runs ++ runs_under gap.level sides) ≡ start runs b
-  front = sum_by-append (λ (r : Run). r.width) (take a runs) (runs_under gap.level sides) ∙ omega (arith, width_under gap.level sides, fits, at, end)
+  front : width_of (take a runs ++ runs_under_group gap.level sides) ≡ run_start runs b
+  front = sum_by-append (λ (r : Run). r.width) (take a runs) (runs_under_group gap.level sides) ∙ omega (arith, width_under gap.level sides, fits, at, end)
 
-  back : start runs b + width_of (drop b runs) ≡ width_of runs
+  back : run_start runs b + width_of (drop b runs) ≡ width_of runs
   back = sym (sum_by-append (λ (r : Run). r.width) (take b runs) (drop b runs)) ∙ ap width_of (take-append-drop b runs)
 
   left_level : AreLevel new 0 (take a runs)
@@ -111,12 +111,12 @@ module _ (w : ℕ) (laid : List Square) (runs : List Run) (a b : ℕ) (gap : Seg
       (level_split laid 0 (take a runs) (drop a runs) (subst (AreLevel laid 0) (sym (take-append-drop a runs)) outline.level)).0
       (λ c l h. depth_beside laid gap.x gap.level sides there c (inl (omega (arith, h, at))))
 
-  under : AreLevel new (0 + width_of (take a runs)) (runs_under gap.level sides)
-  under = subst (λ n. AreLevel new n (runs_under gap.level sides)) (at ∙ omega arith)
+  under : AreLevel new (0 + width_of (take a runs)) (runs_under_group gap.level sides)
+  under = subst (λ n. AreLevel new n (runs_under_group gap.level sides)) (at ∙ omega arith)
       (under_level new gap.x gap.level sides (λ q k c l h. depth_under laid gap.x gap.level sides there c q k l h))
 
-  right_level : AreLevel new (0 + width_of (take a runs ++ runs_under gap.level sides)) (drop b runs)
-  right_level = level_kept laid new (0 + width_of (take a runs ++ runs_under gap.level sides)) (drop b runs)
+  right_level : AreLevel new (0 + width_of (take a runs ++ runs_under_group gap.level sides)) (drop b runs)
+  right_level = level_kept laid new (0 + width_of (take a runs ++ runs_under_group gap.level sides)) (drop b runs)
       (subst (λ n. AreLevel laid n (drop b runs)) (ap (λ n. 0 + n) (sym front))
       (level_split laid 0 (take b runs) (drop b runs) (subst (AreLevel laid 0) (sym (take-append-drop b runs)) outline.level)).1)
       (λ c l h. depth_beside laid gap.x gap.level sides there c (inr (omega (arith, l, front, end, wide))))
@@ -127,19 +127,20 @@ module _ (w : ℕ) (laid : List Square) (runs : List Run) (a b : ℕ) (gap : Seg
   most : length laid * 999_999_999_999_999 ≤ length new * 999_999_999_999_999
   most = omega (arith, ap (λ n. n * 999_999_999_999_999) longer)
 
-  pub outline_laid : 0 < length sides → IsOutline w new hung
+  -- with a group laid into the gap, the runs with its own in the place of the gap's are the outline
+  pub outline_laid : 0 < length sides → AreOutlineRuns w new hung
   outline_laid some = record {
-    some = All-append (λ (r : Run). 0 < r.width) (take a runs ++ runs_under gap.level sides) (drop b runs)
-        (All-append (λ (r : Run). 0 < r.width) (take a runs) (runs_under gap.level sides)
+    some = All-append (λ (r : Run). 0 < r.width) (take a runs ++ runs_under_group gap.level sides) (drop b runs)
+        (All-append (λ (r : Run). 0 < r.width) (take a runs) (runs_under_group gap.level sides)
         (all_take (λ (r : Run). 0 < r.width) runs a (omega (arith, first)) outline.some) (under_some gap.level sides good))
         (all_drop (λ (r : Run). 0 < r.width) runs b outline.some);
-    whole = sum_by-append (λ (r : Run). r.width) (take a runs ++ runs_under gap.level sides) (drop b runs) ∙ omega (arith, front, back, outline.whole);
-    level = level_join new 0 (take a runs ++ runs_under gap.level sides) (drop b runs)
-        (level_join new 0 (take a runs) (runs_under gap.level sides) left_level under) right_level;
+    whole = sum_by-append (λ (r : Run). r.width) (take a runs ++ runs_under_group gap.level sides) (drop b runs) ∙ omega (arith, front, back, outline.whole);
+    level = level_join new 0 (take a runs ++ runs_under_group gap.level sides) (drop b runs)
+        (level_join new 0 (take a runs) (runs_under_group gap.level sides) left_level under) right_level;
     few = omega (
       arith,
-      length-append (take a runs ++ runs_under gap.level sides) (drop b runs),
-      length-append (take a runs) (runs_under gap.level sides),
+      length-append (take a runs ++ runs_under_group gap.level sides) (drop b runs),
+      length-append (take a runs) (runs_under_group gap.level sides),
       length_under gap.level sides,
       length-drop b runs,
       length-take-le a runs (omega (arith, first)),
@@ -148,8 +149,8 @@ module _ (w : ℕ) (laid : List Square) (runs : List Run) (a b : ℕ) (gap : Seg
       lowest.some,
       lowest.within,
     );
-    low = All-append (λ (r : Run). r.level ≤ length new * 999_999_999_999_999) (take a runs ++ runs_under gap.level sides) (drop b runs)
-        (All-append (λ (r : Run). r.level ≤ length new * 999_999_999_999_999) (take a runs) (runs_under gap.level sides)
+    low = All-append (λ (r : Run). r.level ≤ length new * 999_999_999_999_999) (take a runs ++ runs_under_group gap.level sides) (drop b runs)
+        (All-append (λ (r : Run). r.level ≤ length new * 999_999_999_999_999) (take a runs) (runs_under_group gap.level sides)
         (all_take (λ (r : Run). r.level ≤ length new * 999_999_999_999_999) runs a (omega (arith, first))
         (all_lower (length laid * 999_999_999_999_999) (length new * 999_999_999_999_999) runs most outline.low))
         (under_low gap.level sides (length new * 999_999_999_999_999) good

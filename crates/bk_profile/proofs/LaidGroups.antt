@@ -19,7 +19,7 @@ use Rattle.bk_tiling.specs.declared.Square.{Square}
 use Rattle.bk_code.proofs.GroupSteps.{before, groups_cons, groups_some, side_groups}
 use Rattle.bk_code.specs.Code.{Code}
 use Rattle.bk_profile.proofs.Storing.{there}
-use Rattle.bk_profile.specs.Gap.{Fits, IsGap, LaysTo, with_group}
+use Rattle.bk_profile.specs.Gap.{FitsGap, IsGap, LaysTo, laid_with_group}
 
 -- the square is the last of these
 abbrev pub IsLast : List Square → Square → Type 0
@@ -107,7 +107,7 @@ laid_none w = record { filled = λ c j a b. absurd (omega arith); stands = λ q 
 
 -- a group is laid into the gap that it fits
 module _ (w : ℕ) (laid : List Square) (code : Code) (gap : Segment) (group : List ℕ) (is_laid : IsLaid w laid code) (is : IsGap w laid gap)
-    (fits : Fits gap group)
+    (fits : FitsGap gap group)
     (good : AllByRecursion (λ s. 0 < s) group) (some : 0 < length group) where
   abbrev more : List Square
   more = laid_group gap.x gap.level group
@@ -186,7 +186,8 @@ module _ (w : ℕ) (laid : List Square) (code : Code) (gap : Segment) (group : L
       long : 0 < length more
       long = omega (arith, go gap.x group, some)
 
-  pub laid_step : IsLaid w (with_group laid gap group) (code ++ group ∷ [])
+  -- with a further group laid into its gap, what is laid is that of the groups with it
+  pub laid_step : IsLaid w (laid_with_group laid gap group) (code ++ group ∷ [])
   laid_step = record {
     filled = filled_group laid gap.x gap.level group (there w laid gap group is fits) w is_laid.filled;
     stands = λ q h. stands q (from_append laid more q h);
@@ -210,7 +211,7 @@ laid_groups w laid done [] end is_laid good lays =
     subst (λ (l : List Square). IsLaid w l (done ++ [])) lays (subst (IsLaid w laid) (sym (append-nil done)) is_laid)
 laid_groups w laid done (group ∷ code) end is_laid good (gap, is, fits, lays) =
     subst (IsLaid w end) (append_assoc done (group ∷ []) code)
-    (laid_groups w (with_group laid gap group) (done ++ group ∷ []) code end (laid_step w laid done gap group is_laid is fits good.0.1 good.0.0) good.1 lays)
+    (laid_groups w (laid_with_group laid gap group) (done ++ group ∷ []) code end (laid_step w laid done gap group is_laid is fits good.0.1 good.0.0) good.1 lays)
 
 -- what is laid tiles where its outline is even
 pub tiling_from_laid : (w h : ℕ) (laid : List Square) (code : Code) → IsLaid w laid code → 0 < length laid → ((c : ℕ) → c < w → depth laid c ≡ h)

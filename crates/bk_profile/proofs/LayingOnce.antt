@@ -6,13 +6,13 @@ use Rattle.std.proofs.lemmas.List.{length-append}
 use Rattle.bk_laws.proofs.AllOfLists.{all_append}
 use Rattle.bk_tiling.proofs.Group.{length_group}
 use Rattle.bk_tiling.specs.Column.{depth}
-use Rattle.bk_tiling.specs.Kept.{IsSide}
+use Rattle.bk_tiling.specs.KeptTiling.{IsSide}
 use Rattle.bk_tiling.specs.SquareGroups.{laid_group}
 use Rattle.bk_tiling.specs.declared.Segment.{Segment}
 use Rattle.bk_tiling.specs.declared.Square.{Square}
 use Rattle.bk_code.specs.Code.{Code, flat}
-use Rattle.bk_code.specs.Kept.{IsSideGroup}
-use Rattle.bk_profile.specs.Gap.{Fits, IsGap, LaysTo, with_group}
+use Rattle.bk_code.specs.KeptCode.{IsSideGroup}
+use Rattle.bk_profile.specs.Gap.{FitsGap, IsGap, LaysTo, laid_with_group}
 
 same_level : (w : ℕ) (laid : List Square) (g h : Segment) → IsGap w laid g → IsGap w laid h → g.level ≤ h.level
 same_level w laid g h a b =
@@ -61,15 +61,15 @@ gap_of_none w h = record {
 pub lays_unique : (w : ℕ) (laid : List Square) (code : Code) (end other : List Square) → LaysTo w laid code end → LaysTo w laid code other → end ≡ other
 lays_unique w laid [] end other a b = sym a ∙ b
 lays_unique w laid (group ∷ code) end other (gap, is, fits, a) (gap2, is2, fits2, b) =
-    lays_unique w (with_group laid gap2 group) code end other
-    (subst (λ (g : Segment). LaysTo w (with_group laid g group) code end) (gap_unique w laid gap gap2 is is2) a) b
+    lays_unique w (laid_with_group laid gap2 group) code end other
+    (subst (λ (g : Segment). LaysTo w (laid_with_group laid g group) code end) (gap_unique w laid gap gap2 is is2) a) b
 
 -- one more group
 pub lays_push : (w : ℕ) (laid : List Square) (code : Code) (mid : List Square) (group : List ℕ) (gap : Segment) → LaysTo w laid code mid
-    → IsGap w mid gap → Fits gap group → LaysTo w laid (code ++ group ∷ []) (with_group mid gap group)
+    → IsGap w mid gap → FitsGap gap group → LaysTo w laid (code ++ group ∷ []) (laid_with_group mid gap group)
 lays_push w laid [] mid group gap lays is fits =
-    (gap, subst (λ (l : List Square). IsGap w l gap) (sym lays) is, fits, ap (λ (l : List Square). with_group l gap group) lays)
-lays_push w laid (first ∷ code) mid group gap (g, a, b, lays) is fits = (g, a, b, lays_push w (with_group laid g first) code mid group gap lays is fits)
+    (gap, subst (λ (l : List Square). IsGap w l gap) (sym lays) is, fits, ap (λ (l : List Square). laid_with_group l gap group) lays)
+lays_push w laid (first ∷ code) mid group gap (g, a, b, lays) is fits = (g, a, b, lays_push w (laid_with_group laid g first) code mid group gap lays is fits)
 
 -- some groups and then others
 pub record Halves (w : ℕ) (laid : List Square) (code more : Code) (end : List Square) : Type 0 where
@@ -81,7 +81,7 @@ pub record Halves (w : ℕ) (laid : List Square) (code more : Code) (end : List 
 pub lays_split : (w : ℕ) (laid : List Square) (code more : Code) (end : List Square) → LaysTo w laid (code ++ more) end → Halves w laid code more end
 lays_split w laid [] more end lays = record { middle = laid; first = refl; second = lays }
 lays_split w laid (group ∷ code) more end (gap, is, fits, lays) =
-    let rest : Halves w (with_group laid gap group) code more end = lays_split w (with_group laid gap group) code more end lays in
+    let rest : Halves w (laid_with_group laid gap group) code more end = lays_split w (laid_with_group laid gap group) code more end lays in
     record { middle = rest.middle; first = (gap, is, fits, rest.first); second = rest.second }
 
 -- laying a code lays a square for each of its sides
@@ -90,7 +90,7 @@ lays_length w laid [] end lays = omega (arith, ap length lays)
 lays_length w laid (group ∷ code) end (gap, is, fits, lays) =
     omega (
       arith,
-      lays_length w (with_group laid gap group) code end lays,
+      lays_length w (laid_with_group laid gap group) code end lays,
       length-append laid (laid_group gap.x gap.level group),
       length_group gap.x gap.level group,
       length-append group (flat code),
@@ -105,5 +105,5 @@ pub lays_sides : (w : ℕ) (laid : List Square) (code : Code) (end : List Square
     → AllByRecursion (λ q. IsSide q.s) laid → AllByRecursion (λ q. IsSide q.s) end
 lays_sides w laid [] end good lays sides = subst (AllByRecursion (λ q. IsSide q.s)) lays sides
 lays_sides w laid (group ∷ code) end good (gap, is, fits, lays) sides =
-    lays_sides w (with_group laid gap group) code end good.1 lays
+    lays_sides w (laid_with_group laid gap group) code end good.1 lays
     (all_append (λ q. IsSide q.s) laid (laid_group gap.x gap.level group) sides (group_good gap.x gap.level group good.0.1))

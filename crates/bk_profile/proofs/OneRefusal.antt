@@ -6,7 +6,7 @@ use Rattle.bk_code.specs.Code.{Code}
 use Rattle.bk_profile.proofs.CodeLaid.{no_misfit}
 use Rattle.bk_profile.proofs.Division.{divides_once}
 use Rattle.bk_profile.proofs.LayingOnce.{gap_unique, lays_unique}
-use Rattle.bk_profile.specs.Gap.{Fits, IsGap, LaysTo, with_group}
+use Rattle.bk_profile.specs.Gap.{FitsGap, IsGap, LaysTo, laid_with_group}
 use Rattle.bk_profile.specs.Laid.{IsUneven, Laid}
 use Rattle.bk_profile.specs.LayingLaws.{ACodeIsRefusedInOneWay, AFlatListIsRefusedInOneWay}
 use Rattle.bk_profile.specs.Refused.{IsRefused}
@@ -17,7 +17,7 @@ pub record Stops (w : ℕ) (laid : List Square) (before : Code) (group : List �
   pub end : List Square
   pub lays : LaysTo w laid before end
   pub is_gap : IsGap w end gap
-  pub misfit : Fits gap group → ⊥
+  pub misfit : FitsGap gap group → ⊥
 
 -- two misfits of a code are one: the same groups before, the same group, the same gap
 pub record Same (before other : Code) (group group2 : List ℕ) (gap gap2 : Segment) : Type 0 where
@@ -27,7 +27,7 @@ pub record Same (before other : Code) (group group2 : List ℕ) (gap gap2 : Segm
 
 -- a group that misfits the gap doesn't begin a code that is laid
 not_laid : (w : ℕ) (laid : List Square) (first : List ℕ) (code : Code) (group : List ℕ) (gap : Segment) (end : List Square) → group ≡ first
-    → IsGap w laid gap → (Fits gap group → ⊥) → LaysTo w laid (first ∷ code) end → ⊥
+    → IsGap w laid gap → (FitsGap gap group → ⊥) → LaysTo w laid (first ∷ code) end → ⊥
 not_laid w laid first code group gap end same is misfit (g, is_gap, fits, lays) =
     misfit (ap (λ (l : List ℕ). sum l) same ∙ fits ∙ ap (λ (s : Segment). s.width) (gap_unique w laid g gap is_gap is))
 
@@ -51,7 +51,7 @@ stops_once w laid (first ∷ before) [] after after2 group group2 gap gap2 e a b
     same : group2 ≡ first
     same = cc
 stops_once w laid (first ∷ before) (second ∷ other) after after2 group group2 gap gap2 e a b =
-    from a.lays b.lays (λ h. stops_once w (with_group laid h second) before other after after2 group group2 gap gap2 rest)
+    from a.lays b.lays (λ h. stops_once w (laid_with_group laid h second) before other after after2 group group2 gap gap2 rest)
   where
     same : first ≡ second
     same = cc
@@ -60,12 +60,12 @@ stops_once w laid (first ∷ before) (second ∷ other) after after2 group group
     rest = cc
 
     from : LaysTo w laid (first ∷ before) a.end → LaysTo w laid (second ∷ other) b.end
-        → ((h : Segment) → Stops w (with_group laid h second) before group gap → Stops w (with_group laid h second) other group2 gap2
+        → ((h : Segment) → Stops w (laid_with_group laid h second) before group gap → Stops w (laid_with_group laid h second) other group2 gap2
         → Same before other group group2 gap gap2)
         → Same (first ∷ before) (second ∷ other) group group2 gap gap2
     from (g, is, fits, lays) (h, is2, fits2, lays2) more =
-        let moved : LaysTo w (with_group laid h second) before a.end =
-        subst (λ (l : List Square). LaysTo w l before a.end) (λ i. with_group laid (gap_unique w laid g h is is2 i) (same i)) lays in
+        let moved : LaysTo w (laid_with_group laid h second) before a.end =
+        subst (λ (l : List Square). LaysTo w l before a.end) (λ i. laid_with_group laid (gap_unique w laid g h is is2 i) (same i)) lays in
         let later = more h (record { end = a.end; lays = moved; is_gap = a.is_gap; misfit = a.misfit })
         (record { end = b.end; lays = lays2; is_gap = b.is_gap; misfit = b.misfit }) in
         record { places = ap suc later.places; groups = later.groups; gaps = later.gaps }

@@ -6,15 +6,15 @@ use Rattle.bk_tiling.specs.Column.{depth}
 use Rattle.bk_tiling.specs.declared.Square.{Square}
 use Rattle.bk_profile.proofs.GapExamples.{fourth_does_not_fit, one_group, segment, ten_is_not_eleven, three_groups}
 use Rattle.bk_profile.proofs.GapTest.{by_tests}
-use Rattle.bk_profile.specs.Gap.{Fits, LaysTo, with_group}
-use Rattle.bk_profile.specs.Outline.{runs_under, start}
+use Rattle.bk_profile.specs.Gap.{FitsGap, LaysTo, laid_with_group}
+use Rattle.bk_profile.specs.OutlineRuns.{run_start, runs_under_group}
 use Rattle.bk_profile.specs.Refused.{EndsOpen, IsFlatRefused, Misfits, first_sum}
 use Rattle.bk_profile.specs.declared.laying.Refusal.TheVariants.{Gap}
 
 width-33x32 : first_sum ((18 ∷ 15 ∷ []) ∷ (7 ∷ 9 ∷ []) ∷ []) ≡ 33
 width-33x32 = refl
 
-not_sixteen : Fits (segment 18 15 15) (7 ∷ 9 ∷ []) → ⊥
+not_sixteen : FitsGap (segment 18 15 15) (7 ∷ 9 ∷ []) → ⊥
 not_sixteen h = omega arith
 
 -- the second group, of sum 16, doesn't fit into its gap of 15 columns
@@ -35,7 +35,7 @@ second_does_not_fit = record {
 }
 
 abbrev four_groups : List Square
-four_groups = with_group three_groups (segment 14 11 22) (10 ∷ 1 ∷ [])
+four_groups = laid_with_group three_groups (segment 14 11 22) (10 ∷ 1 ∷ [])
 
 lays_four : LaysTo 33 [] ((18 ∷ 15 ∷ []) ∷ (7 ∷ 8 ∷ []) ∷ (14 ∷ 4 ∷ []) ∷ (10 ∷ 1 ∷ []) ∷ []) four_groups
 lays_four = (
@@ -114,5 +114,5 @@ four_end_open = record {
 }
 
 -- the runs under the first group, and the column at which the second of them begins
-pub runs_under_first : start (runs_under 0 (18 ∷ 15 ∷ [])) 1 ≡ 18
+pub runs_under_first : run_start (runs_under_group 0 (18 ∷ 15 ∷ [])) 1 ≡ 18
 runs_under_first = refl

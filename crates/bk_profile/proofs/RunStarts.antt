@@ -9,7 +9,7 @@ use Rattle.bk_tiling.specs.declared.Segment.{Segment}
 use Rattle.bk_tiling.specs.declared.Square.{Square}
 use Rattle.bk_profile.specs.Gap.{IsGap}
 use Rattle.bk_profile.specs.Laid.{IsGreatestDepth, IsLeastDepth}
-use Rattle.bk_profile.specs.Outline.{AreLevel, IsLowest, IsOutline, start, width_of}
+use Rattle.bk_profile.specs.OutlineRuns.{AreLevel, AreOutlineRuns, IsLowest, run_start, width_of}
 use Rattle.bk_profile.specs.declared.runs.Run.{Run}
 
 -- a run that stands for none
@@ -17,11 +17,11 @@ abbrev pub no_run : Run
 no_run = record { width = 0; level = 0 }
 
 -- a run begins where the one before it ends
-pub start_more : (runs : List Run) (k : ℕ) (d : Run) → k < length runs → start runs (k + 1) ≡ start runs k + (get_or runs k d).width
+pub start_more : (runs : List Run) (k : ℕ) (d : Run) → k < length runs → run_start runs (k + 1) ≡ run_start runs k + (get_or runs k d).width
 start_more runs k d l = sum_by_more (λ (r : Run). r.width) runs k d l
 
 -- later runs begin further to the right
-pub start_le : (runs : List Run) (j k : ℕ) → j ≤ k → start runs j ≤ start runs k
+pub start_le : (runs : List Run) (j k : ℕ) → j ≤ k → run_start runs j ≤ run_start runs k
 start_le runs zero k h = omega arith
 start_le [] (suc j) zero h = absurd (omega arith)
 start_le [] (suc j) (suc k) h = omega arith
@@ -30,15 +30,15 @@ start_le (r ∷ runs) (suc j) (suc k) h =
     omega (arith, start_le runs j k (omega arith), sum_by-cons (λ (s : Run). s.width) r (take j runs), sum_by-cons (λ (s : Run). s.width) r (take k runs))
 
 -- past the last run begins what is behind all of them
-pub start_all : (runs : List Run) (n : ℕ) → length runs ≤ n → start runs n ≡ width_of runs
+pub start_all : (runs : List Run) (n : ℕ) → length runs ≤ n → run_start runs n ≡ width_of runs
 start_all runs n h = ap width_of (take_all n runs h)
 
 -- no run begins behind all of them
-pub start_below : (runs : List Run) (b : ℕ) → start runs b ≤ width_of runs
+pub start_below : (runs : List Run) (b : ℕ) → run_start runs b ≤ width_of runs
 start_below runs b = sum_by-take-le (λ (r : Run). r.width) runs b
 
-level_from : (laid : List Square) (x : ℕ) (runs : List Run) (k : ℕ) (d : Run) (c : ℕ) → AreLevel laid x runs → k < length runs → x + start runs k ≤ c
-    → c < x + start runs (k + 1) → depth laid c ≡ (get_or runs k d).level
+level_from : (laid : List Square) (x : ℕ) (runs : List Run) (k : ℕ) (d : Run) (c : ℕ) → AreLevel laid x runs → k < length runs → x + run_start runs k ≤ c
+    → c < x + run_start runs (k + 1) → depth laid c ≡ (get_or runs k d).level
 level_from laid x [] k d c all l from to = absurd (omega arith)
 level_from laid x (r ∷ runs) zero d c all l from to = all.0 c (omega arith) (omega (arith, start_more (r ∷ runs) 0 no_run (omega arith)))
 level_from laid x (r ∷ runs) (suc k) d c all l from to =
@@ -49,16 +49,16 @@ level_from laid x (r ∷ runs) (suc k) d c all l from to =
     same n = omega arith
 
 -- the depth of a column is the level of its run
-pub level_at : (w : ℕ) (laid : List Square) (runs : List Run) (k : ℕ) (d : Run) (c : ℕ) → IsOutline w laid runs → k < length runs → start runs k ≤ c
-    → c < start runs (k + 1) → depth laid c ≡ (get_or runs k d).level
+pub level_at : (w : ℕ) (laid : List Square) (runs : List Run) (k : ℕ) (d : Run) (c : ℕ) → AreOutlineRuns w laid runs → k < length runs → run_start runs k ≤ c
+    → c < run_start runs (k + 1) → depth laid c ≡ (get_or runs k d).level
 level_at w laid runs k d c outline l from to = level_from laid 0 runs k d c outline.level l (omega arith) (omega arith)
 
 -- the run over a column, where the first run begins at x
 pub record Lies (x : ℕ) (runs : List Run) (c : ℕ) : Type 0 where
   pub place : ℕ
   pub below : place < length runs
-  pub from : x + start runs place ≤ c
-  pub to : c < x + start runs (place + 1)
+  pub from : x + run_start runs place ≤ c
+  pub to : c < x + run_start runs (place + 1)
 
 -- over each column lies a run
 pub lies : (x : ℕ) (runs : List Run) (c : ℕ) → x ≤ c → c < x + width_of runs → Lies x runs c
@@ -81,8 +81,8 @@ lies x (r ∷ runs) c l h =
     same n = omega arith
 
 -- the leftmost runs of least level that touch are the gap
-pub gap_from_runs : (w : ℕ) (laid : List Square) (runs : List Run) (a b : ℕ) (gap : Segment) → IsOutline w laid runs → IsLowest runs (length runs) a b
-    → gap.x ≡ start runs a → gap.x + gap.width ≡ start runs b → ((d : Run) → gap.level ≡ (get_or runs a d).level) → IsGap w laid gap
+pub gap_from_runs : (w : ℕ) (laid : List Square) (runs : List Run) (a b : ℕ) (gap : Segment) → AreOutlineRuns w laid runs → IsLowest runs (length runs) a b
+    → gap.x ≡ run_start runs a → gap.x + gap.width ≡ run_start runs b → ((d : Run) → gap.level ≡ (get_or runs a d).level) → IsGap w laid gap
 gap_from_runs w laid runs a b gap outline lowest x end level = record {
   flat = record {
     some = omega (arith, x, end, start_le runs (a + 1) b (omega (arith, lowest.some)), start_more runs a no_run first, outline.some a no_run first);
@@ -140,19 +140,19 @@ gap_from_runs w laid runs a b gap outline lowest x end level = record {
         ⊎_elim (λ (k : at.place < a). k) (λ (k : a ≤ at.place). absurd (omega (arith, at.from, x, l, start_le runs a at.place k))) (cases_lt at.place a)
 
 -- the columns of a run lie in the width and have its level
-in_width : (w : ℕ) (laid : List Square) (runs : List Run) (k : ℕ) → IsOutline w laid runs → k < length runs
-    → (start runs k < w) × (depth laid (start runs k) ≡ (get_or runs k no_run).level)
+in_width : (w : ℕ) (laid : List Square) (runs : List Run) (k : ℕ) → AreOutlineRuns w laid runs → k < length runs
+    → (run_start runs k < w) × (depth laid (run_start runs k) ≡ (get_or runs k no_run).level)
 in_width w laid runs k outline l =
     let some : 0 < (get_or runs k no_run).width = outline.some k no_run l in (
       omega (arith, start_more runs k no_run l, start_below runs (k + 1), outline.whole),
-      level_at w laid runs k no_run (start runs k) outline l (omega arith) (omega (arith, start_more runs k no_run l)),
+      level_at w laid runs k no_run (run_start runs k) outline l (omega arith) (omega (arith, start_more runs k no_run l)),
     )
 
 -- the lowest runs' level is the least depth
-pub least_depth : (w : ℕ) (laid : List Square) (runs : List Run) (a b : ℕ) → IsOutline w laid runs → IsLowest runs (length runs) a b
+pub least_depth : (w : ℕ) (laid : List Square) (runs : List Run) (a b : ℕ) → AreOutlineRuns w laid runs → IsLowest runs (length runs) a b
     → IsLeastDepth (record { width = w; squares = laid }) (get_or runs a no_run).level
 least_depth w laid runs a b outline lowest = record {
-  column = start runs a;
+  column = run_start runs a;
   within = (in_width w laid runs a outline first).0;
   there = (in_width w laid runs a outline first).1;
   below = λ c h.
@@ -168,11 +168,11 @@ least_depth w laid runs a b outline lowest = record {
     first = omega (arith, lowest.some, lowest.within)
 
 -- a level that is a run's and that none passes is the greatest depth
-pub greatest_depth : (w : ℕ) (laid : List Square) (runs : List Run) (k greatest : ℕ) → IsOutline w laid runs
+pub greatest_depth : (w : ℕ) (laid : List Square) (runs : List Run) (k greatest : ℕ) → AreOutlineRuns w laid runs
     → All (λ (r : Run). r.level ≤ greatest) runs → k < length runs → HoldsAt (λ (r : Run). r.level ≡ greatest) runs k
     → IsGreatestDepth (record { width = w; squares = laid }) greatest
 greatest_depth w laid runs k greatest outline most below at = record {
-  column = start runs k;
+  column = run_start runs k;
   within = (in_width w laid runs k outline below).0;
   there = (in_width w laid runs k outline below).1 ∙ at no_run;
   above = λ c h.

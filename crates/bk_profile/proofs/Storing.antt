@@ -6,20 +6,20 @@ use Rattle.bk_laws.proofs.Totals.{sum_is_total, total}
 use Rattle.bk_tiling.proofs.FilledGroup.{filled_group}
 use Rattle.bk_tiling.proofs.Group.{length_group}
 use Rattle.bk_tiling.specs.Column.{depth}
-use Rattle.bk_tiling.specs.Kept.{IsSide}
+use Rattle.bk_tiling.specs.KeptTiling.{IsSide}
 use Rattle.bk_tiling.specs.SquareGroups.{laid_group}
 use Rattle.bk_tiling.specs.declared.Segment.{Segment}
 use Rattle.bk_tiling.specs.declared.Square.{Square}
 use Rattle.bk_profile.proofs.Hanging.{outline_laid}
 use Rattle.bk_profile.proofs.RunStarts.{gap_from_runs, greatest_depth, least_depth, no_run}
-use Rattle.bk_profile.specs.Gap.{Fits, IsGap, with_group}
+use Rattle.bk_profile.specs.Gap.{FitsGap, IsGap, laid_with_group}
 use Rattle.bk_profile.specs.Laid.{IsGreatestDepth, IsLeastDepth, Laid}
-use Rattle.bk_profile.specs.Outline.{IsLowest, runs_under, start, width_of}
-use Rattle.bk_profile.specs.Stored.{IsStoredProfile}
+use Rattle.bk_profile.specs.OutlineRuns.{IsLowest, run_start, runs_under_group, width_of}
+use Rattle.bk_profile.specs.StoredProfile.{IsStoredProfile}
 use Rattle.bk_profile.specs.declared.runs.Run.{Run}
 
 -- the columns of a gap, by the sum of the sides that fill it
-pub there : (w : ℕ) (laid : List Square) (gap : Segment) (sides : List ℕ) → IsGap w laid gap → Fits gap sides → (c : ℕ) → gap.x ≤ c
+pub there : (w : ℕ) (laid : List Square) (gap : Segment) (sides : List ℕ) → IsGap w laid gap → FitsGap gap sides → (c : ℕ) → gap.x ≤ c
     → c < gap.x + total sides → depth laid c ≡ gap.level
 there w laid gap sides is fits c l h = (is.flat).level c l (omega (arith, h, fits, sum_is_total sides))
 
@@ -28,13 +28,13 @@ pub record Reads (runs once twice : List Run) (places : ℕ × ℕ) (gap : Segme
   pub once_is : once ≡ runs
   pub twice_is : twice ≡ runs
   pub lowest : IsLowest once (length once) places.0 places.1
-  pub x : gap.x ≡ start twice places.0
-  pub end : gap.x + gap.width ≡ start twice places.1
+  pub x : gap.x ≡ run_start twice places.0
+  pub end : gap.x + gap.width ≡ run_start twice places.1
   pub level : (d : Run) → gap.level ≡ (get_or twice places.0 d).level
 
 -- an outline read twice alike, with what is computed of it
 pub reads_from : (runs once twice : List Run) (places : ℕ × ℕ) (gap : Segment) → once ≡ runs → twice ≡ runs
-    → IsLowest once (length once) places.0 places.1 → gap.x ≡ start twice places.0 → gap.x + gap.width ≡ start twice places.1
+    → IsLowest once (length once) places.0 places.1 → gap.x ≡ run_start twice places.0 → gap.x + gap.width ≡ run_start twice places.1
     → ((d : Run) → gap.level ≡ (get_or twice places.0 d).level) → Reads runs once twice places gap
 reads_from runs once twice places gap first second lowest x end level =
     record { once_is = first; twice_is = second; lowest = lowest; x = x; end = end; level = level }
@@ -45,11 +45,11 @@ module _ (p : Laid) (runs once twice : List Run) (places : ℕ × ℕ) (gap : Se
   pub lowest_runs : IsLowest runs (length runs) places.0 places.1
   lowest_runs = subst (λ (l : List Run). IsLowest l (length l) places.0 places.1) reads.once_is reads.lowest
 
-  x_is : gap.x ≡ start runs places.0
-  x_is = reads.x ∙ ap (λ (l : List Run). start l places.0) reads.twice_is
+  x_is : gap.x ≡ run_start runs places.0
+  x_is = reads.x ∙ ap (λ (l : List Run). run_start l places.0) reads.twice_is
 
-  end_is : gap.x + gap.width ≡ start runs places.1
-  end_is = reads.end ∙ ap (λ (l : List Run). start l places.1) reads.twice_is
+  end_is : gap.x + gap.width ≡ run_start runs places.1
+  end_is = reads.end ∙ ap (λ (l : List Run). run_start l places.1) reads.twice_is
 
   level_is : (d : Run) → gap.level ≡ (get_or runs places.0 d).level
   level_is d = reads.level d ∙ ap (λ (l : List Run). (get_or l places.0 d).level) reads.twice_is
@@ -68,9 +68,9 @@ module _ (p : Laid) (runs once twice : List Run) (places : ℕ × ℕ) (gap : Se
   )
 
   -- with a group laid in it, what is laid and its runs are stored as before
-  pub stored_laid : (sides : List ℕ) → Fits gap sides → AllByRecursion IsSide sides → 0 < length sides → length p.squares + length sides ≤ 200
-      → IsStoredProfile (record { width = p.width; squares = with_group p.squares gap sides })
-      ((take places.0 runs ++ runs_under gap.level sides) ++ drop places.1 runs)
+  pub stored_laid : (sides : List ℕ) → FitsGap gap sides → AllByRecursion IsSide sides → 0 < length sides → length p.squares + length sides ≤ 200
+      → IsStoredProfile (record { width = p.width; squares = laid_with_group p.squares gap sides })
+      ((take places.0 runs ++ runs_under_group gap.level sides) ++ drop places.1 runs)
   stored_laid sides fits good some room = record {
     profile = record {
       some = (stored.profile).some;
@@ -86,6 +86,7 @@ pub some_runs : (p : Laid) (runs : List Run) → IsStoredProfile p runs → 0 < 
 some_runs p [] stored = absurd (omega (arith, (stored.outline).whole, (stored.profile).some))
 some_runs p (r ∷ runs) stored = omega arith
 
+-- the stored runs have less than 2^63 columns
 pub narrow_runs : (p : Laid) (runs : List Run) → IsStoredProfile p runs → width_of runs < 9223372036854775808
 narrow_runs p runs stored = omega (arith, (stored.outline).whole, (stored.profile).narrow)
 

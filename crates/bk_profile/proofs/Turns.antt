@@ -7,10 +7,10 @@ use Rattle.bk_tiling.proofs.NextCorner.{same_tiling}
 use Rattle.bk_tiling.specs.Tiling.{Tiling}
 use Rattle.bk_code.proofs.GroupSteps.{side_groups}
 use Rattle.bk_code.specs.Code.{Code, flat}
-use Rattle.bk_code.specs.Kept.{IsKeptCode}
+use Rattle.bk_code.specs.KeptCode.{IsKeptCode}
 use Rattle.bk_profile.proofs.CodeLaid.{laid_out, lays_code, no_misfit, not_open, width_is}
 use Rattle.bk_profile.proofs.LayingOnce.{lays_length, lays_push, lays_unique}
-use Rattle.bk_profile.specs.Gap.{IsGap, LaysTo, with_group}
+use Rattle.bk_profile.specs.Gap.{IsGap, LaysTo, laid_with_group}
 use Rattle.bk_profile.specs.Laid.{IsLaidOut, IsLaidTiling, IsUneven, Laid, LaysGroup, MisfitsGap}
 use Rattle.bk_profile.specs.Refused.{HasCode, IsOpen, IsRefused, Misfits, first_sum}
 use Rattle.bk_profile.specs.declared.laying.Refusal.{Refusal}
@@ -56,15 +56,15 @@ pub next_turn : (code : Code) (k : ℕ) (group : List ℕ) (old new : Laid) → 
 next_turn code k group old new turn l is lay =
     let more : take (k + 1) code ≡ take k code ++ group ∷ [] = take_more code k [] l ∙ ap (λ (g : List ℕ). take k code ++ g ∷ []) (sym is) in
     let gap : IsGap (first_sum code) old.squares lay.gap = subst (λ n. IsGap n old.squares lay.gap) turn.width lay.is_gap in
-    let lays : LaysTo (first_sum code) [] (take k code ++ group ∷ []) (with_group old.squares lay.gap group) =
+    let lays : LaysTo (first_sum code) [] (take k code ++ group ∷ []) (laid_with_group old.squares lay.gap group) =
     lays_push (first_sum code) [] (take k code) old.squares group lay.gap turn.lays gap lay.fits in
     subst (λ (q : Laid). Turn code (k + 1) q) (sym lay.laid)
     (record {
       width = turn.width;
-      lays = subst (λ (c : Code). LaysTo (first_sum code) [] c (with_group old.squares lay.gap group)) (sym more) lays;
+      lays = subst (λ (c : Code). LaysTo (first_sum code) [] c (laid_with_group old.squares lay.gap group)) (sym more) lays;
       count = omega (
         arith,
-        lays_length (first_sum code) [] (take k code ++ group ∷ []) (with_group old.squares lay.gap group) lays,
+        lays_length (first_sum code) [] (take k code ++ group ∷ []) (laid_with_group old.squares lay.gap group) lays,
         ap
             (λ (c : Code). length (flat c)) more,
       );
@@ -106,9 +106,11 @@ refused_has_none code (Open least greatest) some refused t has =
 
 -- after the last turn
 module _ (code : Code) (k : ℕ) (p : Laid) (kept : IsKeptCode code) (some : 0 < length code) (turn : Turn code k p) (all : length code ≤ k) where
+  -- after the last turn the code lays what is laid
   pub lays : LaysTo (first_sum code) [] code p.squares
   lays = subst (λ (c : Code). LaysTo (first_sum code) [] c p.squares) (take_all k code all) turn.lays
 
+  -- after the last turn all groups of the code are laid
   abbrev pub last_turn : IsLaidOut p
   last_turn = record { code = code; kept = kept; some = some; lays = subst (λ n. LaysTo n [] code p.squares) (sym turn.width) lays }
 
@@ -118,6 +120,7 @@ module _ (code : Code) (k : ℕ) (p : Laid) (kept : IsKeptCode code) (some : 0 <
   has_code : (t : Tiling) → IsLaidTiling p t → HasCode code t
   has_code t is = record { tiling = is.tiling; code_is = ap side_groups is.squares_are ∙ groups }
 
+  -- where what is laid is open, the code is refused
   pub open_refused : (refusal : Refusal) → IsOpen p refusal → IsRefused (first_sum code) code refusal
   open_refused (Gap number gap_width total) h = absurd h
   open_refused (Open least greatest) h =
@@ -127,10 +130,12 @@ module _ (code : Code) (k : ℕ) (p : Laid) (kept : IsKeptCode code) (some : 0 <
   the_one t u is has = same_tiling t u is.tiling has.tiling (is.width_is ∙ turn.width ∙ width_is code u has some)
       (is.squares_are ∙ lays_unique (first_sum code) [] code p.squares u.squares lays (lays_code code u has some))
 
+  -- where what is laid is a tiling, it has the code
   pub ends_ok : (r : Result Tiling Refusal) → IfOk r (IsLaidTiling p) → IfOk r (HasCode code)
   ends_ok (Ok t) is = has_code t is
   ends_ok (Err e) is = tt
 
+  -- a tiling with the code is what is laid
   pub ends_only : (r : Result Tiling Refusal) → IfOk r (IsLaidTiling p) → IfErr r (IsOpen p) → (t : Tiling) → HasCode code t → IsOkAnd r (λ u. u ≡ t)
   ends_only (Ok u) is h t has = the_one u t is has
   ends_only (Err e) is h t has = absurd (refused_has_none code e some (open_refused e h) t has)

@@ -1,15 +1,16 @@
 -- What a contract sees of a `Profile`, and what laying a group does to it.
--- Examples (LaidExamples): in the width 33 with the group 18, 15 laid the group 7, 8 is laid next, and 7, 9 is not, of sum 16 at a gap of
--- 15 columns; laid one after another the five groups of the rectangle 33x32 are that tiling. (RefusalExamples): after
--- [18,15][7,8][14,4][10,1] the depths lie between 23 and 32.
+-- Examples (LaidExamples): in the width 33 with the group 18, 15 laid the group 7, 8 is laid next, and 7, 9 is not, of
+-- sum 16 at a gap of 15 columns; laid one after another the five groups of the rectangle 33x32 are that tiling.
+-- (RefusalExamples): after [18,15][7,8][14,4][10,1] the depths lie between 23 and 32.
 use Rattle.std.specs.Prelude.{List, [], length, sum, ℕ, ◌<◌, ◌≡◌, ◌≤◌}
 use Rattle.bk_tiling.specs.Column.{IsFilled, depth}
 use Rattle.bk_tiling.specs.Tiling.{IsTiling, Tiling}
 use Rattle.bk_tiling.specs.declared.Segment.{Segment}
 use Rattle.bk_tiling.specs.declared.Square.{Square}
 use Rattle.bk_code.specs.Code.{Code}
-use Rattle.bk_code.specs.Kept.{IsKeptCode}
-use Rattle.bk_profile.specs.Gap.{Fits, IsGap, LaysTo, with_group}
+use Rattle.bk_code.specs.KeptCode.{IsKeptCode}
+use Rattle.bk_profile.specs.Gap.{FitsGap, IsGap, LaysTo, laid_with_group}
+use Rattle.bk_tiling.specs.declared.TheConstants.{MOST_SQUARES}
 
 -- a width, and the squares laid in it, in the order of laying
 pub record Laid : Type 0 where
@@ -20,7 +21,7 @@ pub record Laid : Type 0 where
 pub record IsProfile (p : Laid) : Type 0 where
   pub some : 0 < p.width
   pub narrow : p.width ≤ 200_000_000_000_000_000
-  pub few : length p.squares ≤ 200
+  pub few : length p.squares ≤ MOST_SQUARES
   -- each cell above a column's depth lies in exactly one of the squares
   pub filled : IsFilled p.width p.squares
 
@@ -28,8 +29,8 @@ pub record IsProfile (p : Laid) : Type 0 where
 pub record LaysGroup (old : Laid) (group : List ℕ) (new : Laid) : Type 0 where
   pub gap : Segment
   pub is_gap : IsGap old.width old.squares gap
-  pub fits : Fits gap group
-  pub laid : new ≡ record { width = old.width; squares = with_group old.squares gap group }
+  pub fits : FitsGap gap group
+  pub laid : new ≡ record { width = old.width; squares = laid_with_group old.squares gap group }
 
 -- the group doesn't fit into the gap: its sum is another than the gap's width
 pub record MisfitsGap (old : Laid) (group : List ℕ) (gap_width total : ℕ) : Type 0 where
@@ -37,7 +38,7 @@ pub record MisfitsGap (old : Laid) (group : List ℕ) (gap_width total : ℕ) : 
   pub is_gap : IsGap old.width old.squares gap
   pub width : gap.width ≡ gap_width
   pub total_is : sum group ≡ total
-  pub misfit : Fits gap group → ⊥
+  pub misfit : FitsGap gap group → ⊥
 
 -- the least depth of a column
 pub record IsLeastDepth (p : Laid) (least : ℕ) : Type 0 where

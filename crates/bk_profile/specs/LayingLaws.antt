@@ -13,7 +13,8 @@ ACodeIsLaid = (t : Tiling) → IsTiling t → LaysTo t.width [] (code_of t) t.sq
 
 -- a code has one refusal at most
 abbrev pub ACodeIsRefusedInOneWay : Type 0
-ACodeIsRefusedInOneWay = (width : ℕ) (code : Code) (r s : Refusal) → IsRefused width code r → IsRefused width code s → r ≡ s
+ACodeIsRefusedInOneWay =
+    (width : ℕ) (code : Code) (r s : Refusal) → IsRefused width code r → IsRefused width code s → r ≡ s
 
 -- and so has a flat list
 abbrev pub AFlatListIsRefusedInOneWay : Type 0
@@ -24,8 +25,10 @@ AFlatListIsRefusedInOneWay =
 -- first group
 abbrev pub ARefusedCodeHasNoTiling : Type 0
 ARefusedCodeHasNoTiling =
-    (code : Code) (r : Refusal) → 0 < length code → IsRefused (first_sum code) code r → (t : Tiling) → ¬ (HasCode code t)
+    (code : Code) (r : Refusal) → 0 < length code → IsRefused (first_sum code) code r → (t : Tiling)
+    → ¬ (HasCode code t)
 
 -- and none has a width and a flat list that are refused
 abbrev pub ARefusedFlatListHasNoTiling : Type 0
-ARefusedFlatListHasNoTiling = (width : ℕ) (sides : List ℕ) (r : Refusal) → IsFlatRefused width sides r → (t : Tiling) → ¬ (HasFlat width sides t)
+ARefusedFlatListHasNoTiling =
+    (width : ℕ) (sides : List ℕ) (r : Refusal) → IsFlatRefused width sides r → (t : Tiling) → ¬ (HasFlat width sides t)

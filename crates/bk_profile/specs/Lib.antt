@@ -1,8 +1,8 @@
 -- What the crate says.
 pub mod Gap
-pub mod Refused
-pub mod LayingLaws
 pub mod Laid
+pub mod LayingLaws
+pub mod Refused
 -- How its code keeps it.
-pub mod Outline
-pub mod Stored
+pub mod OutlineRuns
+pub mod StoredProfile

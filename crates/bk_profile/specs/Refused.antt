@@ -1,12 +1,13 @@
 -- What it is that a tiling has a code or a flat list, and why none has one.
--- Examples (RefusalExamples): [18,15][7,9] is refused for its second group, of sum 16, at a gap of 15 columns; [18,15][7,8][14,4][10,1]
--- since it ends open, between the depths 23 and 32; the flat list 18, 15, 7, 8, 14, 4, 10 for its fourth group.
+-- Examples (RefusalExamples): [18,15][7,9] is refused for its second group, of sum 16, at a gap of 15 columns;
+-- [18,15][7,8][14,4][10,1] since it ends open, between the depths 23 and 32; the flat list 18, 15, 7, 8, 14, 4, 10 for
+-- its fourth group.
 use Rattle.std.specs.Prelude.{List, [], length, sum, ℕ, ◌++◌, ◌+◌, ◌∷◌, ◌≡◌}
 use Rattle.bk_tiling.specs.Tiling.{IsTiling, Tiling}
 use Rattle.bk_tiling.specs.declared.Segment.{Segment}
 use Rattle.bk_tiling.specs.declared.Square.{Square}
 use Rattle.bk_code.specs.Code.{Code, code_of, flat}
-use Rattle.bk_profile.specs.Gap.{Divides, Fits, IsGap, LaysTo}
+use Rattle.bk_profile.specs.Gap.{Divides, FitsGap, IsGap, LaysTo}
 use Rattle.bk_profile.specs.Laid.{IsUneven, Laid}
 use Rattle.bk_profile.specs.declared.laying.Refusal.{Refusal}
 use Rattle.bk_profile.specs.declared.laying.Refusal.TheVariants.{Gap, Open}
@@ -40,7 +41,7 @@ pub record Misfits (width : ℕ) (code : Code) (number gap_width total : ℕ) : 
   pub is_gap : IsGap width laid gap
   pub gap_is : gap.width ≡ gap_width
   pub total_is : sum group ≡ total
-  pub misfit : Fits gap group → ⊥
+  pub misfit : FitsGap gap group → ⊥
 
 -- all groups fit and are laid, and then the least depth is below the greatest
 pub record EndsOpen (width : ℕ) (code : Code) (least greatest : ℕ) : Type 0 where

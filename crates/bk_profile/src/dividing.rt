@@ -1,18 +1,18 @@
 //! Laying flat lists of sides, whose groups are found by laying.
 
 ghost use Rattle.std.specs.List.{AllByRecursion};
-ghost use Rattle.std.specs.Prelude.{IfErr, IfOk, IsOk, IsOkAnd, OnOk, length, take, ◌<◌, ◌≡◌, ◌≤◌};
-ghost use Rattle.bk_tiling.specs.Kept.{IsSide};
+ghost use Rattle.std.specs.Prelude.{IfErr, IfOk, IsOk, IsOkAnd, OnErr, OnOk, length, take, ◌<◌, ◌≡◌, ◌≤◌};
+ghost use Rattle.bk_tiling.specs.KeptTiling.{IsSide};
 ghost use Rattle.bk_tiling.specs.Tiling.{Tiling as Tiled};
 ghost use Rattle.bk_profile.specs.Gap.{next_group};
 ghost use Rattle.bk_profile.specs.Refused.{HasFlat, IsFlatRefused};
 
 use crate::laying::{Refusal, even_height};
 use crate::profile::Profile;
-use bk_tiling::{Tiling, sum_of};
+use bk_tiling::{LONGEST_SIDE, MOST_SQUARES, Tiling, sum_of};
 
 /// No 200 sides have a greater sum.
-const WIDEST: u64 = 199_999_999_999_999_800;
+const WIDEST: u64 = MOST_SQUARES as u64 * LONGEST_SIDE;
 
 /// Divides a flat list of sides into groups and lays them under a width of 1 to 999,999,999,999,999,999: the next group
 /// is the shortest prefix of the sides that are left whose sum reaches the width of the gap, or all of them. The result
@@ -23,7 +23,7 @@ pub fn lay_flat(width: u64, sides: &[u64]) -> Result<Tiling, Refusal>
     requires wide { 0 < width }
     requires narrow { width ≤ 999_999_999_999_999_999 }
     requires some { 0 < length sides.now }
-    requires few { length sides.now ≤ 200 }
+    requires few { length sides.now ≤ MOST_SQUARES }
     requires sides { AllByRecursion IsSide sides.now }
     ensures ok { IfOk result (HasFlat width sides.now) }
     ensures only { (t : Tiled) → HasFlat width sides.now t → IsOkAnd result (λ u. u ≡ t) }
@@ -37,8 +37,9 @@ pub fn lay_flat(width: u64, sides: &[u64]) -> Result<Tiling, Refusal>
     }
 }
 
-/// Does what `lay_flat` does in a profile and a tiling that are there, and hold anything before: the one tiling that has this width
-/// and a code with this flat list is left. So nothing large is made for a list.
+/// Does what `lay_flat` does in a profile and a tiling that are there, and hold anything before: the one tiling that
+/// has this width and a code with this flat list is left. So nothing large is made for a list. After a refusal the
+/// tiling is as it was, and the profile may hold anything.
 pub fn lay_flat_in(
     width: u64,
     sides: &[u64],
@@ -48,11 +49,12 @@ pub fn lay_flat_in(
     requires wide { 0 < width }
     requires narrow { width ≤ 999_999_999_999_999_999 }
     requires some { 0 < length sides.now }
-    requires few { length sides.now ≤ 200 }
+    requires few { length sides.now ≤ MOST_SQUARES }
     requires sides { AllByRecursion IsSide sides.now }
     ensures ok { OnOk result (HasFlat width sides.now tiling.new) }
     ensures only { (t : Tiled) → HasFlat width sides.now t → IsOk result × (tiling.new ≡ t) }
     ensures refused { IfErr result (IsFlatRefused width sides.now) }
+    ensures same { OnErr result (tiling.new ≡ tiling.old) }
 {
     if width > WIDEST {
         return Err(Refusal::Gap {
@@ -89,7 +91,7 @@ pub fn lay_flat_in(
 fn group_len(gap: u64, rest: &[u64]) -> usize
     requires gap { 0 < gap }
     requires some { 0 < length rest.now }
-    requires few { length rest.now ≤ 200 }
+    requires few { length rest.now ≤ MOST_SQUARES }
     requires sides { AllByRecursion IsSide rest.now }
     ensures group { take result rest.now ≡ next_group gap rest.now }
     ensures some { 0 < result }

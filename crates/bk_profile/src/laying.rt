@@ -1,8 +1,8 @@
 //! Laying codes: the one tiling that has a code, or why there is none.
 
-ghost use Rattle.std.specs.Prelude.{IfErr, IfOk, IsOk, IsOkAnd, OnOk, length, ◌<◌, ◌≡◌};
+ghost use Rattle.std.specs.Prelude.{IfErr, IfOk, IsOk, IsOkAnd, OnErr, OnOk, length, ◌<◌, ◌≡◌};
 ghost use Rattle.bk_tiling.specs.Tiling.{Tiling as Tiled};
-ghost use Rattle.bk_tiling.specs.Kept.{IsKept};
+ghost use Rattle.bk_tiling.specs.KeptTiling.{IsKept};
 ghost use Rattle.bk_profile.specs.Laid.{IsLaidOut};
 ghost use Rattle.bk_profile.specs.Refused.{HasCode, IsOpen, IsRefused, first_sum};
 
@@ -39,13 +39,15 @@ pub fn lay_code(code: &Code) -> Result<Tiling, Refusal>
     }
 }
 
-/// Does what `lay_code` does in a profile and a tiling that are there, and hold anything before: the one tiling that has the code
-/// is left. So nothing large is made for a code.
+/// Does what `lay_code` does in a profile and a tiling that are there, and hold anything before: the one tiling that
+/// has the code is left. So nothing large is made for a code. After a refusal the tiling is as it was, and the profile
+/// may hold anything.
 pub fn lay_code_in(code: &Code, profile: &mut Profile, tiling: &mut Tiling) -> Result<(), Refusal>
     requires { 0 < length code.now }
     ensures ok { OnOk result (HasCode code.now tiling.new) }
     ensures only { (t : Tiled) → HasCode code.now t → IsOk result × (tiling.new ≡ t) }
     ensures refused { IfErr result (IsRefused (first_sum code.now) code.now) }
+    ensures same { OnErr result (tiling.new ≡ tiling.old) }
 {
     let count = code.groups();
     profile.restart(sum_of(code.group(0)));

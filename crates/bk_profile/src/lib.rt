@@ -25,8 +25,8 @@ pub fn laying_ends_in_one_way()
     ensures flat { AFlatListIsRefusedInOneWay }
 {}
 
-/// A group that does not fit, or an open end, excludes every tiling: none has a code, or a width and a flat list, that are
-/// refused.
+/// A group that does not fit, or an open end, excludes every tiling: none has a code, or a width and a flat list, that
+/// are refused.
 pub fn a_refusal_excludes_every_tiling()
     ensures code { ARefusedCodeHasNoTiling }
     ensures flat { ARefusedFlatListHasNoTiling }

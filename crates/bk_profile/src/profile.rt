@@ -2,7 +2,7 @@
 
 ghost use Rattle.std.specs.List.{AllByRecursion};
 ghost use Rattle.std.specs.Prelude.{[], IfErr, OnErr, OnOk, length, ◌+◌, ◌<◌, ◌≡◌, ◌≤◌};
-ghost use Rattle.bk_tiling.specs.Kept.{IsKept, IsSide};
+ghost use Rattle.bk_tiling.specs.KeptTiling.{IsKept, IsSide};
 ghost use Rattle.bk_profile.specs.Gap.{IsGap};
 ghost use Rattle.bk_profile.specs.Laid.{IsGreatestDepth, IsLaidTiling, IsLeastDepth, IsProfile, LaysGroup, MisfitsGap};
 
@@ -31,7 +31,7 @@ pub struct Profile {
 
 impl Model for Profile {
     ghost use Rattle.bk_profile.specs.Laid.{Laid};
-    ghost use Rattle.bk_profile.specs.Stored.{IsStoredProfile};
+    ghost use Rattle.bk_profile.specs.StoredProfile.{IsStoredProfile};
 
     ghost Value = { Laid };
 
@@ -82,7 +82,7 @@ impl Profile {
     pub fn lay(&mut self, sides: &[u64]) -> Result<(), GapFault>
         requires some { 0 < length sides.now }
         requires sides { AllByRecursion IsSide sides.now }
-        requires room { length self.old.squares + length sides.now ≤ 200 }
+        requires room { length self.old.squares + length sides.now ≤ MOST_SQUARES }
         ensures ok { OnOk result (LaysGroup self.old sides.now self.new) }
         ensures err { IfErr result (λ fault. MisfitsGap self.old sides.now fault.gap fault.sum) }
         ensures same { OnErr result (self.new ≡ self.old) }

@@ -1,9 +1,10 @@
 //! The outline of laid squares as level runs of columns, side by side.
 
 ghost use Rattle.std.specs.List.{All, AllByRecursion, HoldsAt};
-ghost use Rattle.std.specs.Prelude.{drop, length, slice_index_or, slice_set, sum, take, ℕ, ◌+◌, ◌++◌, ◌<◌, ◌^◌, ◌≡◌, ◌≤◌};
-ghost use Rattle.bk_tiling.specs.Kept.{IsSide};
-ghost use Rattle.bk_profile.specs.Outline.{IsLowest, run_under, runs_under, start, width_of};
+ghost use Rattle.std.specs.Prelude.{drop, length, slice_index_or, slice_set, sum, take, ℕ, ◌+◌, ◌++◌, ◌<◌, ◌^◌, ◌≡◌};
+ghost use Rattle.std.specs.Prelude.{◌≤◌};
+ghost use Rattle.bk_tiling.specs.KeptTiling.{IsSide};
+ghost use Rattle.bk_profile.specs.OutlineRuns.{IsLowest, run_start, run_under_side, runs_under_group, width_of};
 
 use arrayvec::ArrayVec;
 use bk_tiling::{MOST_SQUARES, Segment};
@@ -43,8 +44,8 @@ pub(crate) fn segment(outline: &[Run], first: usize, end: usize) -> Segment
     requires order { first < end }
     requires within { end ≤ length outline.now }
     requires narrow { width_of outline.now < 2 ^ 63 }
-    ensures x { result.x ≡ start outline.now first }
-    ensures end { result.x + result.width ≡ start outline.now end }
+    ensures x { result.x ≡ run_start outline.now first }
+    ensures end { result.x + result.width ≡ run_start outline.now end }
     ensures level { (d : Run) → result.level ≡ (slice_index_or outline.now first d).level }
 {
     let x = columns(&outline[..first]);
@@ -93,10 +94,11 @@ pub(crate) fn hang(
     requires order { first < end }
     requires within { end ≤ length outline.old.items }
     requires some { 0 < length sides.now }
-    requires room { length outline.old.items + length sides.now ≤ 201 }
+    requires room { length outline.old.items + length sides.now ≤ MOST_RUNS }
     requires high { level < 2 ^ 63 }
     requires sides { AllByRecursion IsSide sides.now }
-    ensures { outline.new.items ≡ (take first outline.old.items ++ runs_under level sides.now) ++ drop end outline.old.items }
+    ensures { outline.new.items
+        ≡ (take first outline.old.items ++ runs_under_group level sides.now) ++ drop end outline.old.items }
 {
     set_run(outline, first, level, sides[0]);
     take_out(outline, first + 1, end);
@@ -107,7 +109,7 @@ pub(crate) fn hang(
 fn set_run(outline: &mut ArrayVec<Run, MOST_RUNS>, place: usize, level: u64, side: u64)
     requires place { place < length outline.old.items }
     requires fits { level + side < 2 ^ 64 }
-    ensures { outline.new.items ≡ slice_set outline.old.items place (run_under level side) }
+    ensures { outline.new.items ≡ slice_set outline.old.items place (run_under_side level side) }
 {
     outline[place] = Run {
         width: side,
@@ -131,10 +133,11 @@ fn take_out(outline: &mut ArrayVec<Run, MOST_RUNS>, first: usize, end: usize)
 // Puts in the runs under a group, from a place on.
 fn put_in(outline: &mut ArrayVec<Run, MOST_RUNS>, first: usize, level: u64, sides: &[u64])
     requires place { first ≤ length outline.old.items }
-    requires room { length outline.old.items + length sides.now ≤ 201 }
+    requires room { length outline.old.items + length sides.now ≤ MOST_RUNS }
     requires high { level < 2 ^ 63 }
     requires sides { AllByRecursion IsSide sides.now }
-    ensures { outline.new.items ≡ (take first outline.old.items ++ runs_under level sides.now) ++ drop first outline.old.items }
+    ensures { outline.new.items
+        ≡ (take first outline.old.items ++ runs_under_group level sides.now) ++ drop first outline.old.items }
 {
     for (i, side) in sides.iter().enumerate() {
         outline.insert(

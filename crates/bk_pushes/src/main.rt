@@ -1,19 +1,17 @@
-//! How many moves the search for a whole catalogue pushes that makes no table of members, for the figures of `bench/`: a line for each
-//! order among the words of the command line, in the class perfect. Words that are no order from 2 to 16 are passed over.
+//! How many moves the search for a whole catalogue pushes that makes no table of members, for the figures of `bench/`:
+//! a line for each order among the words of the command line, in the class perfect. Words that are no order from 2 to
+//! 16 are passed over.
 #![tactic(auto)]
 
 ghost use Rattle.std.specs.Prelude.{◌<◌, ◌≡◌, ◌≤◌};
 
 use bk_play::Steps;
-use bk_walk::UntabledWalk;
+use bk_walk::{MOST_MEMBERS, TabledWalk};
 use bk_word::{Class, INLINE_ORDER};
 use std::alloc::Global;
 use std::marker::Brand;
 use std::sync::ledger::{Blank, Ledger};
 use std::{env, io};
-
-// No order up to 16 is known to have more members.
-const MOST_MEMBERS: u64 = 100_000;
 
 fn main(rt: HostRuntime) -> io::Result<()> {
     for word in env::args(&rt)?.skip(1) {
@@ -45,13 +43,14 @@ fn walked<L: Ledger>(alloc: Global, order: u8, blank: Blank) -> (u64, u64)
     requires some { 0 < L.parts }
 {
     let mut steps = Steps::<L>::new(blank);
-    let mut walk = UntabledWalk::new(alloc, order, Class::Perfect, None);
-    for members in 0..MOST_MEMBERS {
+    let mut walk = TabledWalk::<0>::new(alloc, order, Class::Perfect, None);
+    let most = MOST_MEMBERS as u64;
+    for members in 0..most {
         match walk.advance(&mut steps) {
             Some(Ok(_)) => {}
             Some(Err(_)) => unreachable!(),
             None => return (members, walk.pushes()),
         }
     }
-    (MOST_MEMBERS, walk.pushes())
+    (most, walk.pushes())
 }

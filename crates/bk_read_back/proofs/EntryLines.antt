@@ -4,7 +4,7 @@ use Rattle.std.specs.Prelude.{List, [], codes, decimal, length, ℕ, ◌++◌, �
 use Rattle.std.proofs.Common.{ap, arith, length-append, refl, sym}
 use Rattle.std.proofs.lemmas.Fmt.{length-decimal-le}
 use Rattle.bk_tiling.proofs.Sizes.{most_height, most_width}
-use Rattle.bk_tiling.specs.Kept.{IsKept}
+use Rattle.bk_tiling.specs.KeptTiling.{IsKept}
 use Rattle.bk_tiling.specs.Tiling.{Tiling, order}
 use Rattle.bk_code.proofs.CodeOfTiling.{code_kept}
 use Rattle.bk_code.proofs.FlatList.{a_flat_list_fixes_a_tiling}
@@ -76,6 +76,7 @@ module _ (t : Tiling) (w : Word) (kept : IsKept t) (legal : AreLegalFrom start w
       (word_text w) + 5
   entry_length = length_of (decimal (order t)) (size_text t.width t.height) (code_text (code_of t)) (word_text w)
 
+  -- the entry of a kept tiling with a word has at most 8,192 bytes
   pub entry_short : length (entry_text t w) ≤ 8192
   entry_short = omega (
     arith,
@@ -86,6 +87,7 @@ module _ (t : Tiling) (w : Word) (kept : IsKept t) (legal : AreLegalFrom start w
     short_text w word_kept some,
   )
 
+  -- the entry of a kept tiling with a word has no byte at or below a line feed
   pub entry_printed : IsPrinted (entry_text t w)
   entry_printed = joined_printed 32 (omega arith) (entry_words t w) (
     decimal_printed (order t) (omega (arith, squares)),
@@ -113,9 +115,11 @@ module _ (n : ℕ) (class : Class) (e : Entry) (small : n ≤ 16) (is : IsEntry 
   few : order_of e.word ≤ 200
   few = omega (arith, word.1, (is.member).order, small)
 
+  -- the entry of a member has no byte at or below a line feed
   pub member_printed : IsPrinted (entry_text e.tiling e.word)
   member_printed = entry_printed e.tiling e.word kept (word.0).legal (word.0).some few
 
+  -- the entry of a member is read as its tiling
   pub read_as : IsReadAs (entry_text e.tiling e.word) e.tiling
   read_as = record {
     item = record {
@@ -127,5 +131,6 @@ module _ (n : ℕ) (class : Class) (e : Entry) (small : n ≤ 16) (is : IsEntry 
     only = λ u st. one_item e.tiling u kept st;
   }
 
+-- each entry of a list is read as the tiling of the member
 pub a_listed_entry_is_read : AListedEntryIsRead
 a_listed_entry_is_read n class e small is = read_as n class e small is

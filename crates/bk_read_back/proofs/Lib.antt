@@ -5,3 +5,8 @@ pub mod EntryLines
 pub mod ListLines
 pub mod Accepted
 pub mod ReadBackExamples
+pub mod DividedFlows
+pub mod LowestSides
+pub mod NetLinesWritten
+pub mod SidesBack
+pub mod NetExamples

@@ -12,15 +12,15 @@ use Rattle.bk_report.specs.Answers.{spaced}
 use Rattle.bk_report.specs.declared.listing.Last.{Last}
 use Rattle.bk_report.specs.declared.listing.Last.TheVariants.{End, Limit, Wide}
 use Rattle.bk_ports.proofs.Cuts.{HasNoFeed, closed-append, closed-none, open-append, open-none}
-use Rattle.bk_ports.specs.Lines.{closed_lines, last_line, lines_of, open_line}
+use Rattle.bk_ports.specs.Lines.{closed_lines, line_at_end, lines_of, open_line}
 use Rattle.bk_answer.specs.Item.{HasItem}
 use Rattle.bk_read_back.proofs.PrintedBytes.{IsPrinted, decimal_printed, joined_printed, no_feed}
 
 -- the lines behind a line and its line feed
 pub first_line : (text rest : List ℕ) → IsPrinted text → lines_of (text ++ 10 ∷ rest) ≡ text ∷ lines_of rest
 first_line text rest printed =
-    ap (λ (l : List (List ℕ)). l ++ last_line (open_line [] (text ++ 10 ∷ rest))) closed
-    ∙ ap (λ (l : List ℕ). text ∷ (closed_lines [] rest ++ last_line l)) opened
+    ap (λ (l : List (List ℕ)). l ++ line_at_end (open_line [] (text ++ 10 ∷ rest))) closed
+    ∙ ap (λ (l : List ℕ). text ∷ (closed_lines [] rest ++ line_at_end l)) opened
   where
     free : HasNoFeed text
     free = no_feed text printed
@@ -41,6 +41,7 @@ abbrev pub last_words : Last → ℕ → Class → ℕ → List (List ℕ)
 last_words last n class listed =
     (codes ";" ∷ last_name last ∷ codes "order" ∷ decimal n ∷ []) ++ (class_words class ++ (codes "listed" ∷ decimal listed ∷ []))
 
+-- the text of a listing's last line
 abbrev pub last_text : Last → ℕ → Class → ℕ → List ℕ
 last_text last n class listed = spaced (last_words last n class listed)
 
@@ -98,6 +99,7 @@ module _ (last : Last) (n listed : ℕ) (small : n ≤ 16) (fits : listed < 2 ^ 
   few_words Imperfect = omega arith
   few_words Simple = omega arith
 
+  -- a listing's last line has no byte at or below a line feed
   pub last_printed : (class : Class) → IsPrinted (last_text last n class listed)
   last_printed class = joined_printed 32 (omega arith) (last_words last n class listed) (pieces_printed (last_words last n class listed) (all_words class))
 

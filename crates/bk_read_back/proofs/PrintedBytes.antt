@@ -1,14 +1,14 @@
 -- What is printed on a line has no line feed: each of its bytes is greater.
-use Rattle.std.specs.Char.{digit_value}
 use Rattle.std.specs.List.{AllByRecursion, join_with_byte}
-use Rattle.std.specs.Prelude.{List, [], codes, decimal, map, ℕ, ◌++◌, ◌<◌, ◌==◌, ◌^◌, ◌∷◌, ◌≡◌, ◌≤◌}
+use Rattle.std.specs.Prelude.{List, [], codes, decimal, map, ℕ, ◌++◌, ◌<◌, ◌^◌, ◌∷◌, ◌≤◌}
 use Rattle.std.specs.Str.Parse.{AllDigits}
-use Rattle.std.proofs.Common.{arith, false, suc, zero}
-use Rattle.std.proofs.lemmas.Bool.Decides.{nat_tests}
+use Rattle.std.proofs.Common.{arith, suc, zero}
 use Rattle.std.proofs.lemmas.Fmt.{decimal_is_IsNumeral}
 use Rattle.bk_laws.proofs.AllOfLists.{all_append}
-use Rattle.bk_tiling.specs.Kept.{IsSide}
-use Rattle.bk_code.specs.Kept.{IsSideGroup}
+use Rattle.bk_laws.proofs.Digits.{digit_value-above_10}
+use Rattle.bk_laws.proofs.NumberTests.{eq_ten-not_above}
+use Rattle.bk_tiling.specs.KeptTiling.{IsSide}
+use Rattle.bk_code.specs.KeptCode.{IsSideGroup}
 use Rattle.bk_text.specs.CodeText.{code_text, group_text, size_text}
 use Rattle.bk_word.specs.Word.{Word}
 use Rattle.bk_word.specs.WordText.{letter, move_text, word_text}
@@ -20,16 +20,15 @@ use Rattle.bk_ports.proofs.Cuts.{HasNoFeed}
 abbrev pub IsPrinted : List ℕ → Type 0
 IsPrinted bytes = AllByRecursion (λ b. 10 < b) bytes
 
+-- two printed texts put together are printed
 pub both_printed : (xs ys : List ℕ) → IsPrinted xs → IsPrinted ys → IsPrinted (xs ++ ys)
 both_printed xs ys a b = all_append (λ b. 10 < b) xs ys a b
 
-high_digit : (c : ℕ) → digit_value c < 10 → 10 < c
-high_digit c h = grind (arith, nat_tests)
-
 digits_printed : (bytes : List ℕ) → AllDigits 10 bytes → IsPrinted bytes
 digits_printed [] all = tt
-digits_printed (c ∷ bytes) all = (high_digit c all.0, digits_printed bytes all.1)
+digits_printed (c ∷ bytes) all = (digit_value-above_10 c all.0, digits_printed bytes all.1)
 
+-- the decimal digits of a number below 2^64 are printed
 pub decimal_printed : (n : ℕ) → n < 2 ^ 64 → IsPrinted (decimal n)
 decimal_printed n small = digits_printed (decimal n) ((decimal_is_IsNumeral n small).0).1
 
@@ -56,6 +55,7 @@ group_printed sides all = (
       (omega arith, tt),
 )
 
+-- the text of a code of groups of sides is printed
 pub code_printed : (code : List (List ℕ)) → AllByRecursion IsSideGroup code → IsPrinted (code_text code)
 code_printed [] all = tt
 code_printed (g ∷ code) all = both_printed (group_text g) (code_text code) (group_printed g (all.0).1) (code_printed code all.1)
@@ -77,14 +77,12 @@ moves_printed (m ∷ w) all = (
   moves_printed w all.1,
 )
 
+-- the text of a word with counts of at most 200 is printed
 pub word_printed : (w : Word) → AllByRecursion (λ m. m.count ≤ 200) w → IsPrinted (word_text w)
 word_printed w all = joined_printed 46 (omega arith) (map move_text w) (moves_printed w all)
 
--- so there is no line feed
-not_feed : (b : ℕ) → 10 < b → (b == 10) ≡ false
-not_feed b h = grind (arith, nat_tests)
-
+-- printed bytes have no line feed
 pub no_feed : (bytes : List ℕ) → IsPrinted bytes → HasNoFeed bytes
 no_feed [] all k within = absurd (omega (arith, within))
-no_feed (b ∷ bytes) all zero within = not_feed b all.0
+no_feed (b ∷ bytes) all zero within = eq_ten-not_above b all.0
 no_feed (b ∷ bytes) all (suc k) within = no_feed bytes all.1 k (omega (arith, within))

@@ -1,7 +1,7 @@
 -- The member of order 2 is a small tiling; a larger square isn't.
 use Rattle.std.proofs.Common.{[], arith, lit<, lit≤, ◌+◌, ◌^◌, ◌∷◌}
-use Rattle.bk_catalogue.proofs.CatalogueExamples.{entry_is}
-use Rattle.bk_catalogue.proofs.TwoSquares.{row_of_two}
+use Rattle.bk_catalogue.proofs.Members.CatalogueExamples.{entry_is}
+use Rattle.bk_catalogue.proofs.Members.TwoSquares.{row_of_two}
 use Rattle.bk_read_back.specs.Small.{IsSmallTiling}
 
 -- the row of two squares of side 1 is small

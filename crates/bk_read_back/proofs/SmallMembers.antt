@@ -5,11 +5,12 @@ use Rattle.std.proofs.Common.{ap, arith, subst, sym, ◌∙◌}
 use Rattle.std.proofs.Math.Nat.{eq-one_of_dvd-one}
 use Rattle.std.proofs.lemmas.List.Elements.{recursion_from_All}
 use Rattle.std.proofs.lemmas.List.{length-map}
-use Rattle.bk_tiling.specs.Kept.{IsSide}
+use Rattle.bk_tiling.specs.KeptTiling.{IsSide}
 use Rattle.bk_tiling.specs.Tiling.{IsTiling, Tiling}
 use Rattle.bk_tiling.specs.declared.Square.{Square}
 use Rattle.bk_frac.proofs.DivisorLaws.{gcd_of-greatest}
 use Rattle.bk_sym.proofs.OwnCanonical.{own_one}
+use Rattle.bk_sym.proofs.ScaledDown.{side_divisor}
 use Rattle.bk_sym.specs.Canonical.{IsCanonical}
 use Rattle.bk_net.proofs.SidesFlow.{sides_are_the_one_flow}
 use Rattle.bk_net.specs.Diagram.{smith_diagram}
@@ -34,27 +35,33 @@ kept_sides : (squares : List Square) → AllByRecursion (λ q. 0 < q.s) squares 
 kept_sides [] some small = tt
 kept_sides (q ∷ squares) some small = ((some.0, omega (arith, small.0)), kept_sides squares some.1 small.1)
 
+-- a Smith diagram has a wire for each square
+pub as_many_wires : (t : Tiling) → IsTiling t → length (smith_diagram t).wires ≡ length t.squares
+as_many_wires t tiling = sym (length-map (smith_diagram t).wires (λ w. potential (smith_flow t) w.0 -ℤ potential (smith_flow t) w.1))
+    ∙ sym (ap length ((sides_are_the_one_flow t tiling).2).flow.differences) ∙ length-map t.squares (λ (q : Square). pos q.s)
+
+-- sides without a common divisor are primitive as currents
+pub primitive_sides : (t : Tiling) → side_divisor t ≡ 1 → (total : ℤ) (potentials : List ℤ)
+    → IsPrimitive (record { total = total; potentials = potentials; currents = map (λ q. pos q.s) t.squares })
+primitive_sides t one total potentials d divides currents = omega (arith, same)
+  where
+    same : d ≡ 1
+    same = eq-one_of_dvd-one (subst (λ (n : ℕ). d ∣ n) one
+        (gcd_of-greatest d (map (λ q. q.s) t.squares)
+        (divides_sides d t.squares (recursion_from_All (λ (c : ℤ). d ∣ nat_abs c) (map (λ q. pos q.s) t.squares) currents))))
+
 module _ (t : Tiling) (tiling : IsTiling t) (own : IsCanonical t) (few : length t.squares ≤ 16) where
-  primitive : IsPrimitive (smith_flow t)
-  primitive d total currents = omega (arith, one)
-    where
-      one : d ≡ 1
-      one = eq-one_of_dvd-one (subst (λ (n : ℕ). d ∣ n) (own_one t tiling own)
-          (gcd_of-greatest d (map (λ q. q.s) t.squares)
-          (divides_sides d t.squares (recursion_from_All (λ (c : ℤ). d ∣ nat_abs c) (map (λ q. pos q.s) t.squares) currents))))
-
   flow : IsPrimitiveFlow (smith_diagram t) (pos t.width) (map (λ q. pos q.s) t.squares)
-  flow = ((smith_flow t).potentials, (sides_are_the_one_flow t tiling).2, primitive)
-
-  -- a wire for each square
-  wires : length (smith_diagram t).wires ≡ length t.squares
-  wires = sym (length-map (smith_diagram t).wires (λ w. potential (smith_flow t) w.0 -ℤ potential (smith_flow t) w.1))
-      ∙ sym (ap length ((sides_are_the_one_flow t tiling).2).flow.differences) ∙ length-map t.squares (λ (q : Square). pos q.s)
+  flow = (
+    (smith_flow t).potentials,
+    (sides_are_the_one_flow t tiling).2,
+    primitive_sides t (own_one t tiling own) (pos t.width) (smith_flow t).potentials,
+  )
 
   bounds : AllByRecursion (λ c. nat_abs c ≤ 2 ^ 34) (pos t.width ∷ map (λ q. pos q.s) t.squares)
   bounds = recursion_from_All (λ (c : ℤ). nat_abs c ≤ 2 ^ 34) (pos t.width ∷ map (λ q. pos q.s) t.squares)
       (small_nets_have_small_flows (smith_diagram t) (pos t.width) (map (λ q. pos q.s) t.squares) (sides_are_the_one_flow t tiling).0
-      (sides_are_the_one_flow t tiling).1 (omega (arith, wires, few)) flow)
+      (sides_are_the_one_flow t tiling).1 (omega (arith, as_many_wires t tiling, few)) flow)
 
   -- the sides and the size of such a tiling are small numbers
   pub small_tiling : IsSmallTiling t

@@ -1,3 +1,4 @@
 -- What the crate says. It has laws alone, so there is no code to keep.
-pub mod Small
+pub mod NetReadBack
 pub mod ReadBack
+pub mod Small

@@ -1,23 +1,23 @@
--- What `list` writes is read again by `check`: each entry as the tiling that was listed, and accepted. Statements alone; each
--- is proved apart.
+-- What `list` writes is read again by `check`: each entry as the tiling that was listed, and accepted. Statements
+-- alone; each is proved apart.
 -- Example (ReadBackExamples): the item of the rectangle 3x2 states the order 3 and the size 3x2.
 use Rattle.std.specs.List.{AllZip, concat}
-use Rattle.std.specs.Prelude.{List, Option, Some, false, ℕ, ◌≡◌, ◌≤◌}
+use Rattle.std.specs.Prelude.{List, Some, false, ℕ, ◌≡◌, ◌≤◌}
 use Rattle.bk_tiling.specs.Tiling.{Tiling, order}
 use Rattle.bk_code.specs.Code.{code_of}
 use Rattle.bk_text.specs.CodeLine.{Item, Line}
-use Rattle.bk_word.specs.Word.{Word}
 use Rattle.bk_word.specs.declared.Class.{Class}
 use Rattle.bk_catalogue.specs.Catalogue.{Entry, IsEntry}
 use Rattle.bk_report.specs.Answers.{IsCheckLine}
 use Rattle.bk_report.specs.Listings.{entry_text}
+use Rattle.bk_report.specs.declared.listing.Last.{Last}
 use Rattle.bk_ports.specs.Lines.{lines_of}
 use Rattle.bk_ports.specs.Reply.{AreReplies, Reply, some_refused, text_of}
 use Rattle.bk_answer.specs.Answer.{AnswersLine}
 use Rattle.bk_answer.specs.Item.{HasItem, IsStatedBy}
-use Rattle.bk_answer.specs.declared.command.CodeCommand.TheVariants.{Check}
-use Rattle.bk_answer.specs.declared.command.Command.TheVariants.{OfCodes}
-use Rattle.bk_list.specs.Listing.{Ending, IsListing}
+use Rattle.bk_answer.specs.declared.command.Command.TheVariants.{Plain}
+use Rattle.bk_answer.specs.declared.plain.PlainCommand.TheVariants.{Check}
+use Rattle.bk_list.specs.Listing.{IsListing, Listing}
 
 -- the item of a tiling: its order, its size and its code, all three stated
 abbrev pub item_of : Tiling → Line
@@ -31,11 +31,12 @@ pub record IsReadAs (bytes : List ℕ) (t : Tiling) : Type 0 where
 
 -- the line of each entry, without its line feed, is read as the member that was listed
 abbrev pub AListedEntryIsRead : Type 0
-AListedEntryIsRead = (n : ℕ) (class : Class) (e : Entry) → n ≤ 16 → IsEntry n class e → IsReadAs (entry_text e.tiling e.word) e.tiling
+AListedEntryIsRead = (n : ℕ) (class : Class) (e : Entry) → n ≤ 16 → IsEntry n class e
+    → IsReadAs (entry_text e.tiling e.word) e.tiling
 
--- the replies of `check` to the lines of a list: none is refused, and what is written is the line of each entry's tiling, in
--- the order of the list. Of the whole list of order 2 and the class imperfect, `2 2x1 [1,1] ; 2e` and its last line, it is
--- `ok 2 2x1 imperfect 1 simple`
+-- the replies of `check` to the lines of a list: none is refused, and what is written is the line of each entry's
+-- tiling, in the order of the list. Of the whole list of order 2 and the class imperfect, `2 2x1 [1,1] ; 2e` and its
+-- last line, it is `ok 2 2x1 imperfect 1 simple`
 pub record AcceptsAll (entries : List Entry) (replies : List Reply) : Type 0 where
   pub none_refused : some_refused replies ≡ false
   pub lines : List (List ℕ)
@@ -44,6 +45,6 @@ pub record AcceptsAll (entries : List Entry) (replies : List Reply) : Type 0 whe
 
 -- where each line of a list has a reply of `check`, all are accepted
 abbrev pub AListIsAccepted : Type 0
-AListIsAccepted = (n : ℕ) (class : Class) (cursor : Word) (limit : Option ℕ) (ending : Ending) (bytes : List ℕ) → n ≤ 16
-    → (list : IsListing n class cursor limit ending bytes) (replies : List Reply)
-    → AreReplies (AnswersLine (OfCodes Check)) (lines_of bytes) replies → AcceptsAll list.entries replies
+AListIsAccepted = (asked : Listing) (last : Last) (bytes : List ℕ) → asked.catalogue.order ≤ 16
+    → (list : IsListing asked last bytes) (replies : List Reply)
+    → AreReplies (AnswersLine (Plain Check)) (lines_of bytes) replies → AcceptsAll list.entries replies

@@ -2,7 +2,7 @@
 -- Example (SmallExamples): the row of two squares of side 1 is a small tiling; a single square of side 2^34 + 1 is not.
 use Rattle.std.specs.List.{AllByRecursion}
 use Rattle.std.specs.Prelude.{ℕ, ◌^◌, ◌≤◌}
-use Rattle.bk_tiling.specs.Kept.{IsKept}
+use Rattle.bk_tiling.specs.KeptTiling.{IsKept}
 use Rattle.bk_tiling.specs.Tiling.{Tiling}
 use Rattle.bk_word.specs.declared.Class.{Class}
 use Rattle.bk_catalogue.specs.Catalogue.{IsMember}
@@ -14,6 +14,7 @@ pub record IsSmallTiling (t : Tiling) : Type 0 where
   pub sides : AllByRecursion (λ q. q.s ≤ 2 ^ 34) t.squares
   pub kept : IsKept t
 
--- a member of at most 16 squares is such a tiling. Of order 2 and the class imperfect it is the row of two squares of side 1
+-- a member of at most 16 squares is such a tiling. Of order 2 and the class imperfect it is the row of two squares of
+-- side 1
 abbrev pub MembersAreSmall : Type 0
 MembersAreSmall = (n : ℕ) (class : Class) (t : Tiling) → n ≤ 16 → IsMember n class t → IsSmallTiling t

@@ -15,6 +15,7 @@ use Rattle.bk_report.specs.EntryLaws.{AWrittenEntryIsRead}
 comment : (word : List ℕ) → LineEnd (32 ∷ (codes ";" ++ 32 ∷ word))
 comment word = (32 ∷ [], codes ";" ++ 32 ∷ word, refl, (inl refl, tt), inr (32 ∷ word, refl))
 
+-- the entry of a tiling is a line that stands for its order, size and code, its word as a comment
 pub a_written_entry_is_read : AWrittenEntryIsRead
 a_written_entry_is_read t w kept =
     written_item (order t) t.width t.height (code_of t) (32 ∷ (codes ";" ++ 32 ∷ word_text w))

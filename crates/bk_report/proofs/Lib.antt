@@ -1,6 +1,5 @@
 pub mod AnswerExamples
 pub mod Spaces
-pub mod NodeSizes
 pub mod Verdicts
 pub mod ListingPieces
 pub mod EntriesRead

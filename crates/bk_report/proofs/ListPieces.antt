@@ -15,28 +15,35 @@ pub open_pieces : (front least greatest : List ℕ)
     → (((front ++ codes "no open ") ++ least) ++ codes " ") ++ greatest ≡ front ++ spaced (codes "no" ∷ codes "open" ∷ least ∷ greatest ∷ [])
 open_pieces front least greatest = simp append_assoc
 
+-- the pieces of a refusal, put together, are the line of its number and its text
 pub refused_pieces : (number text : List ℕ) → (((codes "line " ++ number) ++ 32 ∷ []) ++ text) ++ 10 ∷ [] ≡ line (codes "line" ∷ number ∷ text ∷ [])
 refused_pieces number text = simp append_assoc
 
+-- the pieces of a repeated line, put together, are the line of its number and the first one
 pub repeats_pieces : (number first : List ℕ)
     → (((codes "line " ++ number) ++ codes " repeats ") ++ first) ++ 10 ∷ [] ≡ line (codes "line" ∷ number ∷ codes "repeats" ∷ first ∷ [])
 repeats_pieces number first = simp append_assoc
 
+-- the pieces of a foreign line, put together, are the line of its number
 pub foreign_pieces : (number : List ℕ) → (codes "line " ++ number) ++ codes " foreign\n" ≡ line (codes "line" ∷ number ∷ codes "foreign" ∷ [])
 foreign_pieces number = simp append_assoc
 
+-- two pieces with a space between and a line feed behind make a line of two
 pub two_pieces : (one two : List ℕ) → ((one ++ 32 ∷ []) ++ two) ++ 10 ∷ [] ≡ line (one ∷ two ∷ [])
 two_pieces one two = simp append_assoc
 
+-- two numbers, a size and a code with spaces between make a line of the four
 pub pair_pieces : (first second size code : List ℕ)
     → ((((first ++ 32 ∷ []) ++ second) ++ 32 ∷ []) ++ spaced (size ∷ code ∷ [])) ++ 10 ∷ [] ≡ line (first ∷ second ∷ size ∷ code ∷ [])
 pair_pieces first second size code = simp append_assoc
 
+-- the pieces of the counts of groups, items and refused lines, put together, make one comment line
 pub alike_pieces : (groups items refused : List ℕ)
     → ((((((codes "; groups " ++ groups) ++ codes " items ") ++ items) ++ codes " refused ") ++ refused) ++ 10 ∷ [])
     ≡ line (codes ";" ∷ codes "groups" ∷ groups ∷ codes "items" ∷ items ∷ codes "refused" ∷ refused ∷ [])
 alike_pieces groups items refused = simp append_assoc
 
+-- the pieces of the counts of pairs, items and refused lines, put together, make one comment line
 pub pairs_pieces : (pairs items refused : List ℕ)
     → ((((((codes "; pairs " ++ pairs) ++ codes " items ") ++ items) ++ codes " refused ") ++ refused) ++ 10 ∷ [])
     ≡ line (codes ";" ∷ codes "pairs" ∷ pairs ∷ codes "items" ∷ items ∷ codes "refused" ∷ refused ∷ [])
@@ -52,6 +59,7 @@ to_the_right : (name order members missing foreign repeated refused wide : List 
     ++ ((32 ∷ codes "repeated") ++ ((32 ∷ repeated) ++ ((32 ∷ codes "refused") ++ ((32 ∷ refused) ++ wide)))))))))))))) ++ 10 ∷ []
 to_the_right name order members missing foreign repeated refused wide = simp append_assoc
 
+-- the pieces of a verified list's name, order and counts, put together, make its last line
 pub verified_pieces : (name order members missing foreign repeated refused : List ℕ) (wide : List (List ℕ))
     → ((((((((((((((codes "; " ++ name) ++ codes " order ") ++ order) ++ codes " members ") ++ members) ++ codes " missing ") ++ missing)
     ++ codes " foreign ") ++ foreign)

@@ -5,6 +5,7 @@ use Rattle.std.proofs.lemmas.Grind.{flat_map-append}
 use Rattle.bk_report.proofs.Spaces.{blanks_before}
 use Rattle.bk_report.specs.Answers.{line, spaced}
 
+-- the pieces of an entry are its front, number, size and code, then its word behind a semicolon
 pub entry_pieces : (front number size code word : List ℕ)
     → ((((front ++ number) ++ 32 ∷ []) ++ spaced (size ∷ code ∷ [])) ++ codes " ; ") ++ word
     ≡ front ++ spaced (number ∷ size ∷ code ∷ codes ";" ∷ word ∷ [])
@@ -15,6 +16,7 @@ to_the_right : (name order class listed wide : List ℕ)
     ≡ (codes ";" ++ ((32 ∷ name) ++ ((32 ∷ codes "order") ++ ((32 ∷ order) ++ (class ++ ((32 ∷ codes "listed") ++ ((32 ∷ listed) ++ wide))))))) ++ 10 ∷ []
 to_the_right name order class listed wide = simp append_assoc
 
+-- the pieces of a listing's last line are its name, order, class, number of entries and wide words
 pub last_pieces : (name order listed : List ℕ) (class wide : List (List ℕ))
     → (((((((codes "; " ++ name) ++ codes " order ") ++ order) ++ flat_map (λ l. 32 ∷ l) class) ++ codes " listed ") ++ listed)
     ++ flat_map (λ l. 32 ∷ l) wide) ++ 10 ∷ []

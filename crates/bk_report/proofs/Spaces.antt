@@ -1,9 +1,10 @@
 -- Texts whose pieces have a blank before each.
-use Rattle.std.proofs.Common.{List, [], ap, append_assoc, arith, length, refl, sym, ℕ, ◌++◌, ◌∙◌, ◌∷◌, ◌≡◌, ◌≤◌}
+use Rattle.std.proofs.Common.{List, [], ap, append_assoc, arith, length, sym, ℕ, ◌++◌, ◌∙◌, ◌∷◌, ◌≡◌, ◌≤◌}
 use Rattle.std.specs.Prelude.{codes, decimal, flat_map, map}
 use Rattle.std.proofs.lemmas.Fmt.{length-decimal-le}
 use Rattle.std.proofs.lemmas.Grind.{flat_map-append}
 use Rattle.std.proofs.lemmas.List.{append-nil}
+use Rattle.bk_laws.proofs.ListsOfLists.{flat_map-blanks, flat_map-blanks_then_pieces}
 use Rattle.bk_report.specs.Answers.{line, spaced}
 
 -- the pieces of an answer of check, one after another
@@ -12,16 +13,16 @@ pub verdict_pieces : (front number size perfect simple : List ℕ)
     ≡ front ++ line (codes "ok" ∷ number ∷ size ∷ perfect ∷ simple ∷ [])
 verdict_pieces front number size perfect simple = simp append_assoc
 
--- and of a rectangle that some of the squares form
+-- the pieces of a rectangle that some of the squares form, one after another
 pub compound_pieces : (front x y size : List ℕ)
     → (((((front ++ codes "compound ") ++ x) ++ codes ",") ++ y) ++ 32 ∷ []) ++ size ≡ front ++ spaced (codes "compound" ∷ (x ++ codes "," ++ y) ∷ size ∷ [])
 compound_pieces front x y size = simp append_assoc
 
--- and of a size and a code
+-- the pieces of a size and a code, one after another
 pub tiling_words : (front size code : List ℕ) → ((front ++ size) ++ 32 ∷ []) ++ code ≡ front ++ spaced (size ∷ code ∷ [])
 tiling_words front size code = simp append_assoc
 
--- and of a line about trial codes
+-- the pieces of a line about trial codes, one after another
 pub trial_pieces : (seed count ok perfect simple squares : List ℕ)
     → ((((((((((((([] ++ codes "trial seed ") ++ seed) ++ codes " count ") ++ count) ++ codes " ok ") ++ ok) ++ codes " perfect ") ++ perfect)
     ++ codes " simple ") ++ simple) ++ codes " squares ") ++ squares) ++ 10 ∷ [])
@@ -34,10 +35,6 @@ pub blanks_before : (piece : List ℕ) (pieces : List (List ℕ)) → piece ++ f
 blanks_before piece [] = append-nil piece
 blanks_before piece (next ∷ pieces) = ap (λ (l : List ℕ). piece ++ 32 ∷ l) (blanks_before next pieces)
 
-blanks_map : {A : Type 0} (f : A → List ℕ) (xs : List A) → flat_map (λ x. 32 ∷ f x) xs ≡ flat_map (λ l. 32 ∷ l) (map f xs)
-blanks_map f [] = refl
-blanks_map f (x ∷ xs) = ap (λ (l : List ℕ). 32 ∷ f x ++ l) (blanks_map f xs)
-
 -- a number and pieces, `;`, and a number and pieces again: the pieces of a Smith diagram, one after another
 pub net_pieces : {A B : Type 0} (f : A → List ℕ) (g : B → List ℕ) (nodes width : List ℕ) (xs : List A) (ys : List B)
     → ((((nodes ++ flat_map (λ x. 32 ∷ f x) xs) ++ codes " ; ") ++ width) ++ flat_map (λ y. 32 ∷ g y) ys) ++ 10 ∷ []
@@ -48,21 +45,16 @@ net_pieces f g nodes width xs ys =
     (append_assoc ((nodes ++ flat_map (λ x. 32 ∷ f x) xs) ++ codes " ; ") width (flat_map (λ y. 32 ∷ g y) ys)
     ∙ append_assoc (nodes ++ flat_map (λ x. 32 ∷ f x) xs) (codes " ; ") (width ++ flat_map (λ y. 32 ∷ g y) ys)
     ∙ append_assoc nodes (flat_map (λ x. 32 ∷ f x) xs) (codes " ; " ++ (width ++ flat_map (λ y. 32 ∷ g y) ys))
-    ∙ ap (λ (l : List ℕ). nodes ++ (l ++ (codes " ; " ++ (width ++ flat_map (λ y. 32 ∷ g y) ys)))) (blanks_map f xs)
-    ∙ ap (λ (l : List ℕ). nodes ++ (blanks (map f xs) ++ (codes " ; " ++ (width ++ l)))) (blanks_map g ys)
+    ∙ ap (λ (l : List ℕ). nodes ++ (l ++ (codes " ; " ++ (width ++ flat_map (λ y. 32 ∷ g y) ys)))) (flat_map-blanks f xs)
+    ∙ ap (λ (l : List ℕ). nodes ++ (blanks (map f xs) ++ (codes " ; " ++ (width ++ l)))) (flat_map-blanks g ys)
     ∙ ap (λ (l : List ℕ). nodes ++ l) (sym (flat_map-append (λ (l : List ℕ). 32 ∷ l) (map f xs) (codes ";" ∷ width ∷ map g ys)))
     ∙ blanks_before nodes (map f xs ++ codes ";" ∷ width ∷ map g ys))
 
 -- a number and numbers with a blank before each: the pieces of a flow, one after another
 pub flow_pieces : {A : Type 0} (f : A → List ℕ) (total : List ℕ) (xs : List A)
     → (total ++ flat_map (λ x. 32 ∷ f x) xs) ++ 10 ∷ [] ≡ line (total ∷ map f xs)
-flow_pieces f total xs = ap (λ (l : List ℕ). (total ++ l) ++ 10 ∷ []) (blanks_map f xs) ∙ ap (λ (l : List ℕ). l ++ 10 ∷ []) (blanks_before total (map f xs))
-
--- pieces with a blank before each, and more of them
-then_pieces : {A : Type 0} (f : A → List ℕ) (xs : List A) (more : List (List ℕ))
-    → flat_map (λ x. 32 ∷ f x) xs ++ flat_map (λ l. 32 ∷ l) more ≡ flat_map (λ l. 32 ∷ l) (map f xs ++ more)
-then_pieces f xs more =
-    ap (λ (l : List ℕ). l ++ flat_map (λ l. 32 ∷ l) more) (blanks_map f xs) ∙ sym (flat_map-append (λ (l : List ℕ). 32 ∷ l) (map f xs) more)
+flow_pieces f total xs =
+    ap (λ (l : List ℕ). (total ++ l) ++ 10 ∷ []) (flat_map-blanks f xs) ∙ ap (λ (l : List ℕ). l ++ 10 ∷ []) (blanks_before total (map f xs))
 
 to_the_right : (nodes wires height sides numbers count : List ℕ)
     → ((((((((nodes ++ wires) ++ codes " ; ") ++ height) ++ sides) ++ codes " ;") ++ numbers) ++ codes " ; ") ++ count) ++ 10 ∷ []
@@ -84,9 +76,9 @@ dual_pieces f g h nodes height count xs ys zs =
     to_the_right nodes wires height sides numbers count
     ∙ ap (λ (l : List ℕ). (nodes ++ (wires ++ (codes " ; " ++ (height ++ (sides ++ (codes " ;" ++ (numbers ++ (codes " ; " ++ l)))))))) ++ 10 ∷ [])
     (sym (append-nil count))
-    ∙ ap (λ (l : List ℕ). (nodes ++ (wires ++ (codes " ; " ++ (height ++ (sides ++ (codes " ;" ++ l)))))) ++ 10 ∷ []) (then_pieces h zs last)
-    ∙ ap (λ (l : List ℕ). (nodes ++ (wires ++ (codes " ; " ++ (height ++ l)))) ++ 10 ∷ []) (then_pieces g ys third)
-    ∙ ap (λ (l : List ℕ). (nodes ++ l) ++ 10 ∷ []) (then_pieces f xs second)
+    ∙ ap (λ (l : List ℕ). (nodes ++ (wires ++ (codes " ; " ++ (height ++ (sides ++ (codes " ;" ++ l)))))) ++ 10 ∷ []) (flat_map-blanks_then_pieces h zs last)
+    ∙ ap (λ (l : List ℕ). (nodes ++ (wires ++ (codes " ; " ++ (height ++ l)))) ++ 10 ∷ []) (flat_map-blanks_then_pieces g ys third)
+    ∙ ap (λ (l : List ℕ). (nodes ++ l) ++ 10 ∷ []) (flat_map-blanks_then_pieces f xs second)
     ∙ ap (λ (l : List ℕ). l ++ 10 ∷ []) (blanks_before nodes (map f xs ++ second))
 
 -- the number of a node, or of a square, has at most three digits

@@ -6,7 +6,7 @@ use Rattle.bk_tiling.specs.declared.Square.{Square}
 use Rattle.bk_simple.proofs.PartCorners.{between-one}
 use Rattle.bk_simple.proofs.Parts.{between_corners}
 use Rattle.bk_simple.proofs.Repeats.{imperfect}
-use Rattle.bk_simple.specs.Corners.{IsBetween}
+use Rattle.bk_simple.specs.CornerSquares.{IsBetween}
 use Rattle.bk_simple.specs.Simple.{IsFirstPart, IsLeastRepeated, IsPerfect, IsSimple, bottom_right, top_left}
 use Rattle.bk_report.specs.Answers.{IsCheckLine, verdict_line}
 
@@ -28,6 +28,7 @@ same_corners t r s p q = cases (p.first s q.part) (q.first r p.part)
     cases (inr a) (inl b) = absurd (omega (arith, a.0))
     cases (inr a) (inr b) = (a.0, omega (arith, a.1, b.1))
 
+-- a tiling has at most one first part
 pub one_first_part : (t : Tiling) (r s : Rectangle) → IsTiling t → IsFirstPart t r → IsFirstPart t s → r ≡ s
 one_first_part t r s tiling p q =
     let none : Square = record { x = 0; y = 0; s = 0 } in
@@ -45,6 +46,7 @@ one_part t None (Some s) tiling p q = absurd (p (s, q.part))
 one_part t (Some r) None tiling p q = absurd (q (r, p.part))
 one_part t (Some r) (Some s) tiling p q = ap Some (one_first_part t r s tiling p q)
 
+-- a tiling has at most one check line
 pub one_check_line : (t : Tiling) (line other : List ℕ) → IsTiling t → IsCheckLine t line → IsCheckLine t other → line ≡ other
 one_check_line t line other tiling p q =
     p.text

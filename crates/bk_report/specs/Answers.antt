@@ -12,6 +12,7 @@ use Rattle.bk_dual.specs.Dual.{crossings, dual_diagram, dual_order}
 use Rattle.bk_net.specs.Diagram.{smith_diagram}
 use Rattle.bk_net.specs.Net.{Net}
 use Rattle.bk_flow.specs.FlowNumbers.{FlowNumbers}
+use Rattle.bk_report.specs.AnswerWords.{imperfect_word, ok_word, perfect_word, semicolon, simple_word}
 use Rattle.bk_simple.specs.Simple.{IsFirstPart, IsLeastRepeated, IsPerfect, IsSimple}
 
 -- the pieces, with one blank between each two
@@ -24,12 +25,12 @@ line pieces = spaced pieces ++ 10 ∷ []
 
 -- perfect, or imperfect and the least side that occurs twice
 abbrev pub perfect_text : Option ℕ → List ℕ
-perfect_text None = codes "perfect"
-perfect_text (Some side) = spaced (codes "imperfect" ∷ decimal side ∷ [])
+perfect_text None = perfect_word
+perfect_text (Some side) = spaced (imperfect_word ∷ decimal side ∷ [])
 
 -- simple, or compound and a rectangle that some of the squares form
 abbrev pub simple_text : Option Rectangle → List ℕ
-simple_text None = codes "simple"
+simple_text None = simple_word
 simple_text (Some r) =
     spaced (codes "compound" ∷ (decimal r.x ++ codes "," ++ decimal r.y) ∷ size_text r.width r.height ∷ [])
 
@@ -41,7 +42,7 @@ pub record AreVerdicts (t : Tiling) (repeated : Option ℕ) (part : Option Recta
 
 -- the order, the size and the verdicts of a tiling as a line
 abbrev pub verdict_line : Tiling → Option ℕ → Option Rectangle → List ℕ
-verdict_line t repeated part = line (codes "ok" ∷ decimal (order t) ∷ size_text t.width t.height
+verdict_line t repeated part = line (ok_word ∷ decimal (order t) ∷ size_text t.width t.height
     ∷ perfect_text repeated ∷ simple_text part ∷ [])
 
 -- check: the bytes are that line of a tiling
@@ -69,13 +70,13 @@ side_words t = decimal t.width ∷ map (λ q. decimal q.s) t.squares
 
 -- net: the Smith diagram, and then the width and the sides
 abbrev pub net_line : Tiling → List ℕ
-net_line t = line (net_words (smith_diagram t) ++ codes ";" ∷ side_words t)
+net_line t = line (net_words (smith_diagram t) ++ semicolon ∷ side_words t)
 
--- dual: the dual diagram with the height and the sides in its order, then the number of the square of each wire, and then
--- how many crossings there are
+-- dual: the dual diagram with the height and the sides in its order, then the number of the square of each wire, and
+-- then how many crossings there are
 abbrev pub dual_line : Tiling → List ℕ
-dual_line t = line (net_words (dual_diagram t) ++ (codes ";" ∷ side_words (image Swap t) ++ (codes ";"
-    ∷ map decimal (dual_order t) ++ (codes ";" ∷ decimal (crossings t) ∷ []))))
+dual_line t = line (net_words (dual_diagram t) ++ (semicolon ∷ side_words (image Swap t) ++ (semicolon
+    ∷ map decimal (dual_order t) ++ (semicolon ∷ decimal (crossings t) ∷ []))))
 
 -- flow: the total and the currents
 abbrev pub flow_line : FlowNumbers → List ℕ

@@ -1,8 +1,9 @@
 -- What the crate says. Its code is kept by what proofs/ says alone.
+pub mod AnswerWords
 pub mod Answers
-pub mod AnswerLaws
-pub mod Refusals
-pub mod Listings
+pub mod CheckLineLaw
 pub mod EntryLaws
-pub mod Trial
 pub mod ListLines
+pub mod Listings
+pub mod Refusals
+pub mod Trial

@@ -5,6 +5,7 @@ use Rattle.bk_tiling.specs.Tiling.{Tiling}
 use Rattle.bk_code.specs.Code.{code_of}
 use Rattle.bk_text.specs.CodeText.{code_text, size_text}
 use Rattle.bk_word.specs.Word.{Word}
+use Rattle.bk_report.specs.AnswerWords.{foreign_word, items_word, missing_word, order_word, refused_word, semicolon}
 use Rattle.bk_report.specs.Answers.{line}
 use Rattle.bk_report.specs.Listings.{entry_words, last_name, wide_words}
 use Rattle.bk_report.specs.Refusals.{refusal_text}
@@ -25,22 +26,22 @@ repeats_line number first = about_line number (codes "repeats" ∷ decimal first
 
 -- it has no member of the catalogue
 abbrev pub foreign_line : ℕ → List ℕ
-foreign_line number = about_line number (codes "foreign" ∷ [])
+foreign_line number = about_line number (foreign_word ∷ [])
 
 -- a member of the catalogue that no line has, as an entry
 abbrev pub missing_line : Tiling → Word → List ℕ
-missing_line t w = line (codes "missing" ∷ entry_words t w)
+missing_line t w = line (missing_word ∷ entry_words t w)
 
--- the last line of a list that was held against a catalogue: how that ended, the order, how many members the catalogue has,
--- how many are missing, how many lines are foreign, repeated and refused, and a wide word
+-- the last line of a list that was held against a catalogue: how that ended, the order, how many members the catalogue
+-- has, how many are missing, how many lines are foreign, repeated and refused, and a wide word
 abbrev pub verified_line : Last → ℕ → ℕ → ℕ → ℕ → ℕ → ℕ → Word → List ℕ
-verified_line last n members missing foreign repeated refused w = line (codes ";" ∷ last_name last
-    ∷ codes "order" ∷ decimal n
+verified_line last n members missing foreign repeated refused w = line (semicolon ∷ last_name last
+    ∷ order_word ∷ decimal n
     ∷ codes "members" ∷ decimal members
-    ∷ codes "missing" ∷ decimal missing
-    ∷ codes "foreign" ∷ decimal foreign
+    ∷ missing_word ∷ decimal missing
+    ∷ foreign_word ∷ decimal foreign
     ∷ codes "repeated" ∷ decimal repeated
-    ∷ codes "refused" ∷ decimal refused ∷ wide_words last w)
+    ∷ refused_word ∷ decimal refused ∷ wide_words last w)
 
 -- the size of a group and how many items it has
 abbrev pub group_line : ℕ → ℕ → ℕ → List ℕ
@@ -57,14 +58,14 @@ pair_line first second t =
 
 -- the last line behind groups: how many groups and items there are, and how many lines were refused
 abbrev pub alike_line : ℕ → ℕ → ℕ → List ℕ
-alike_line groups items refused = line (codes ";"
+alike_line groups items refused = line (semicolon
     ∷ codes "groups" ∷ decimal groups
-    ∷ codes "items" ∷ decimal items
-    ∷ codes "refused" ∷ decimal refused ∷ [])
+    ∷ items_word ∷ decimal items
+    ∷ refused_word ∷ decimal refused ∷ [])
 
 -- the last line behind pairs
 abbrev pub pairs_line : ℕ → ℕ → ℕ → List ℕ
-pairs_line pairs items refused = line (codes ";"
+pairs_line pairs items refused = line (semicolon
     ∷ codes "pairs" ∷ decimal pairs
-    ∷ codes "items" ∷ decimal items
-    ∷ codes "refused" ∷ decimal refused ∷ [])
+    ∷ items_word ∷ decimal items
+    ∷ refused_word ∷ decimal refused ∷ [])

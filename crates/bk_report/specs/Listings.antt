@@ -8,6 +8,7 @@ use Rattle.bk_word.specs.Word.{Word}
 use Rattle.bk_word.specs.WordText.{word_text}
 use Rattle.bk_word.specs.declared.Class.{Class}
 use Rattle.bk_word.specs.declared.Class.TheVariants.{Imperfect, Perfect, Simple}
+use Rattle.bk_report.specs.AnswerWords.{imperfect_word, order_word, semicolon, simple_word, wide_word}
 use Rattle.bk_report.specs.Answers.{line, spaced}
 use Rattle.bk_report.specs.declared.listing.Last.{Last}
 use Rattle.bk_report.specs.declared.listing.Last.TheVariants.{End, Limit, Wide}
@@ -19,13 +20,13 @@ word_line w = line (word_text w ∷ [])
 -- an entry: the number of squares, the size, the code, and after a semicolon the word
 abbrev pub entry_words : Tiling → Word → List (List ℕ)
 entry_words t w =
-    decimal (order t) ∷ size_text t.width t.height ∷ code_text (code_of t) ∷ codes ";" ∷ word_text w ∷ []
+    decimal (order t) ∷ size_text t.width t.height ∷ code_text (code_of t) ∷ semicolon ∷ word_text w ∷ []
 
 -- its text, with a blank between each two of these
 abbrev pub entry_text : Tiling → Word → List ℕ
 entry_text t w = spaced (entry_words t w)
 
--- and as a line
+-- the text of an entry as a line
 abbrev pub entry_line : Tiling → Word → List ℕ
 entry_line t w = entry_text t w ++ 10 ∷ []
 
@@ -33,13 +34,13 @@ entry_line t w = entry_text t w ++ 10 ∷ []
 abbrev pub last_name : Last → List ℕ
 last_name End = codes "end"
 last_name Limit = codes "limit"
-last_name Wide = codes "wide"
+last_name Wide = wide_word
 
 -- the class, where it isn't the one that is taken without a name
 abbrev pub class_words : Class → List (List ℕ)
 class_words Perfect = []
-class_words Imperfect = codes "class" ∷ codes "imperfect" ∷ []
-class_words Simple = codes "class" ∷ codes "simple" ∷ []
+class_words Imperfect = codes "class" ∷ imperfect_word ∷ []
+class_words Simple = codes "class" ∷ simple_word ∷ []
 
 -- the word at which a listing ended, where that is a wide one
 abbrev pub wide_words : Last → Word → List (List ℕ)
@@ -49,5 +50,5 @@ wide_words Wide w = codes "at" ∷ word_text w ∷ []
 
 -- the last line of a listing: how it ended, the order, the class, the number of entries, and a wide word
 abbrev pub last_line : Last → ℕ → Class → ℕ → Word → List ℕ
-last_line last n class listed w = line ((codes ";" ∷ last_name last ∷ codes "order" ∷ decimal n ∷ [])
+last_line last n class listed w = line ((semicolon ∷ last_name last ∷ order_word ∷ decimal n ∷ [])
     ++ (class_words class ++ (codes "listed" ∷ decimal listed ∷ wide_words last w)))

@@ -5,7 +5,7 @@ ghost use Rattle.arrayvec.specs.ArrayVec.{array_vec_len};
 ghost use Rattle.bk_code.specs.Code.{code_of};
 ghost use Rattle.bk_simple.specs.Border.{rectangle_of};
 ghost use Rattle.bk_text.specs.CodeText.{code_text, size_text};
-ghost use Rattle.bk_report.specs.AnswerLaws.{ATilingHasOneCheckLine};
+ghost use Rattle.bk_report.specs.CheckLineLaw.{ATilingHasOneCheckLine};
 ghost use Rattle.bk_report.specs.Answers.{IsCheckLine, perfect_text, simple_text, spaced, tiling_line, verdict_line};
 
 use crate::trial::push_named;
@@ -15,8 +15,8 @@ use bk_simple::{SubRect, part, repeated};
 use bk_text::{write_code, write_size};
 use bk_tiling::Tiling;
 
-/// Writes the answer of `check` to an item that has this tiling: `ok`, the order, the size, and whether it is perfect and
-/// simple (Brooks, Smith, Stone and Tutte 1940).
+/// Writes the answer of `check` to an item that has this tiling: `ok`, the order, the size, and whether it is perfect
+/// and simple (Brooks, Smith, Stone and Tutte 1940).
 pub fn write_check(tiling: &Tiling, out: &mut AnswerBuffer)
     ensures { IsCheckLine tiling.now out.new.items }
 {
@@ -37,7 +37,8 @@ pub fn write_tiling(tiling: &Tiling, out: &mut AnswerBuffer)
 pub(crate) fn push_tiling(tiling: &Tiling, code: &Code, out: &mut AnswerBuffer)
     requires code { code.now ≡ code_of tiling.now }
     requires room { array_vec_len out.old ≤ 5000 }
-    ensures text { out.new.items ≡ out.old.items ++ spaced (size_text tiling.now.width tiling.now.height ∷ code_text (code_of tiling.now) ∷ []) }
+    ensures text { out.new.items
+        ≡ out.old.items ++ spaced (size_text tiling.now.width tiling.now.height ∷ code_text (code_of tiling.now) ∷ []) }
     ensures short { array_vec_len out.new ≤ array_vec_len out.old + 3442 }
 {
     write_size(tiling.width(), tiling.height(), out);

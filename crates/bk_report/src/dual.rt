@@ -10,9 +10,9 @@ use bk_grammar::{AnswerBuffer, push_bytes, push_number};
 use bk_sym::{Turn, image};
 use bk_tiling::Tiling;
 
-/// Writes the dual diagram of a tiling (Brooks, Smith, Stone and Tutte 1940): the line that `net` has for the image with
-/// columns and levels exchanged, then ` ; ` and for each wire the number of its square, then ` ; ` and how many crossings
-/// there are. The line has at most 5,700 bytes.
+/// Writes the dual diagram of a tiling (Brooks, Smith, Stone and Tutte 1940): the line that `net` has for the image
+/// with columns and levels exchanged, then ` ; ` and for each wire the number of its square, then ` ; ` and how many
+/// crossings there are. The line has at most 5,700 bytes.
 pub fn write_dual(tiling: &Tiling, out: &mut AnswerBuffer)
     ensures line { out.new.items ≡ dual_line tiling.now }
     ensures short { array_vec_len out.new ≤ 5700 }

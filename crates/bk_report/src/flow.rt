@@ -9,8 +9,8 @@ use bk_flow::Flow;
 use bk_grammar::{AnswerBuffer, push_bytes};
 use itoa::Buffer;
 
-/// Writes a flow (Kirchhoff): the total and the currents in the order of the wires, joined by single blanks, each negative
-/// one with `-` before it.
+/// Writes a flow (Kirchhoff): the total and the currents in the order of the wires, joined by single blanks, each
+/// negative one with `-` before it.
 pub fn write_flow(flow: &Flow, out: &mut AnswerBuffer)
     ensures { out.new.items ≡ flow_line flow.now }
 {

@@ -1,5 +1,5 @@
-//! The texts of answers. A function that writes one clears the buffer, and leaves the line in it with its line feed. Codes
-//! are in Bouwkamp's notation (1946-47); the texts around them are this project's own.
+//! The texts of answers. A function that writes one clears the buffer, and leaves the line in it with its line feed.
+//! Codes are in Bouwkamp's notation (1946-47); the texts around them are this project's own.
 #![tactic(auto)]
 
 mod answer;

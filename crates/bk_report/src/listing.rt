@@ -25,8 +25,8 @@ pub enum Last {
     Wide,
 }
 
-/// Writes the entry of a tiling in a catalogue: the order, the size, the code, and then ` ; ` and the text of the word. The
-/// code is that of the tiling, and the word must have a move.
+/// Writes the entry of a tiling in a catalogue: the order, the size, the code, and then ` ; ` and the text of the word.
+/// The code is that of the tiling, and the word must have a move.
 pub fn write_entry(tiling: &Tiling, code: &Code, word: &Word, out: &mut AnswerBuffer)
     requires code { code.now ≡ code_of tiling.now }
     requires some { 0 < length word.now }
@@ -52,14 +52,14 @@ pub(crate) fn push_entry(tiling: &Tiling, code: &Code, word: &Word, out: &mut An
     write_word(word, out);
 }
 
-/// The entry of a tiling is in the grammar of lines of codes (`bk_text`), and stands for the order, the size and the code of the
-/// tiling. So what is written of an entry is read again.
+/// The entry of a tiling is in the grammar of lines of codes (`bk_text`), and stands for the order, the size and the
+/// code of the tiling. So what is written of an entry is read again.
 pub fn a_written_entry_is_read()
     ensures { AWrittenEntryIsRead }
 {}
 
-/// Writes the last line of a listing: `; end`, `; limit` or `; wide`, the order, the class unless that is the perfect one, how
-/// many entries were listed, and for `wide` the word at which it ended. That word must then have a move.
+/// Writes the last line of a listing: `; end`, `; limit` or `; wide`, the order, the class unless that is the perfect
+/// one, how many entries were listed, and for `wide` the word at which it ended. That word must then have a move.
 pub fn write_last(
     last: Last,
     order: u8,

@@ -1,7 +1,8 @@
 //! The lines about a list that is read.
 
 ghost use Rattle.std.specs.Prelude.{length, slice_index, ◌<◌, ◌≡◌};
-ghost use Rattle.bk_report.specs.ListLines.{alike_line, foreign_line, group_line, member_line, missing_line, pair_line, pairs_line, refused_line};
+ghost use Rattle.bk_report.specs.ListLines.{alike_line, foreign_line, group_line, member_line, missing_line, pair_line};
+ghost use Rattle.bk_report.specs.ListLines.{pairs_line, refused_line};
 ghost use Rattle.bk_code.specs.Code.{code_of};
 ghost use Rattle.bk_report.specs.ListLines.{repeats_line, verified_line};
 
@@ -45,8 +46,8 @@ pub fn write_foreign(line: u64, out: &mut AnswerBuffer)
     push_bytes(b" foreign\n", out);
 }
 
-/// Writes that a list lacks a member of the catalogue: `missing`, and the entry of the tiling. The code is that of the tiling,
-/// and the word must have a move.
+/// Writes that a list lacks a member of the catalogue: `missing`, and the entry of the tiling. The code is that of the
+/// tiling, and the word must have a move.
 pub fn write_missing(tiling: &Tiling, code: &Code, word: &Word, out: &mut AnswerBuffer)
     requires code { code.now ≡ code_of tiling.now }
     requires some { 0 < length word.now }
@@ -58,9 +59,9 @@ pub fn write_missing(tiling: &Tiling, code: &Code, word: &Word, out: &mut Answer
     out.push(b'\n');
 }
 
-/// Writes the last line of a list that was held against a catalogue: how that ended, which is never at a limit, the order,
-/// five counts, and for `wide` the word at which it ended. The counts are how many members there are, how many of them are
-/// missing, and how many lines are foreign, repeated and refused. That word must then have a move.
+/// Writes the last line of a list that was held against a catalogue: how that ended, which is never at a limit, the
+/// order, five counts, and for `wide` the word at which it ended. The counts are how many members there are, how many
+/// of them are missing, and how many lines are foreign, repeated and refused. That word must then have a move.
 pub fn write_verified(last: Last, order: u8, counts: [u64; 5], word: &Word, out: &mut AnswerBuffer)
     requires ended { last ≡ Last.Limit → ⊥ }
     requires some { last ≡ Last.Wide → 0 < length word.now }

@@ -2,15 +2,16 @@
 
 ghost use Rattle.std.specs.Prelude.{decimal, flat_map, length, ◌+◌, ◌++◌, ◌*◌, ◌≡◌, ◌≤◌, ◌∷◌};
 ghost use Rattle.arrayvec.specs.ArrayVec.{array_vec_len};
-ghost use Rattle.bk_tiling.specs.Kept.{IsSide};
+ghost use Rattle.bk_tiling.specs.KeptTiling.{IsSide};
 ghost use Rattle.bk_report.specs.Answers.{net_line, wire_text};
 
 use bk_grammar::{AnswerBuffer, push_bytes, push_number};
 use bk_net::{Net, net_of};
 use bk_tiling::Tiling;
 
-/// Writes the Smith diagram of a tiling (Brooks, Smith, Stone and Tutte 1940): the number of nodes and the wires `A-B`, then
-/// ` ; `, the width and the sides in code order. The width is the total and the sides are the currents of the one flow.
+/// Writes the Smith diagram of a tiling (Brooks, Smith, Stone and Tutte 1940): the number of nodes and the wires `A-B`,
+/// then ` ; `, the width and the sides in code order. The width is the total and the sides are the currents of the one
+/// flow.
 pub fn write_net(tiling: &Tiling, out: &mut AnswerBuffer)
     ensures { out.new.items ≡ net_line tiling.now }
 {
@@ -25,7 +26,8 @@ pub fn write_net(tiling: &Tiling, out: &mut AnswerBuffer)
 // Appends the number of nodes, and the wires with a blank before each.
 pub(crate) fn push_net(net: &Net, out: &mut AnswerBuffer)
     requires { array_vec_len out.old ≤ 6000 }
-    ensures text { out.new.items ≡ out.old.items ++ decimal net.now.nodes ++ flat_map (λ w. 32 ∷ wire_text w) net.now.wires }
+    ensures text { out.new.items
+        ≡ out.old.items ++ decimal net.now.nodes ++ flat_map (λ w. 32 ∷ wire_text w) net.now.wires }
     ensures short { array_vec_len out.new ≤ array_vec_len out.old + 1603 }
 {
     push_node(net.nodes(), out);
@@ -51,7 +53,8 @@ fn push_wire(from: u16, to: u16, out: &mut AnswerBuffer)
 // Appends the width of a tiling, and the sides with a blank before each.
 pub(crate) fn push_sides(tiling: &Tiling, out: &mut AnswerBuffer)
     requires { array_vec_len out.old ≤ 4000 }
-    ensures text { out.new.items ≡ out.old.items ++ decimal tiling.now.width ++ flat_map (λ q. 32 ∷ decimal q.s) tiling.now.squares }
+    ensures text { out.new.items
+        ≡ out.old.items ++ decimal tiling.now.width ++ flat_map (λ q. 32 ∷ decimal q.s) tiling.now.squares }
     ensures short { array_vec_len out.new ≤ array_vec_len out.old + 3220 }
 {
     push_number(tiling.width(), out);

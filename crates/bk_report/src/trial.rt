@@ -6,8 +6,8 @@ ghost use Rattle.bk_report.specs.Trial.{trial_line};
 
 use bk_grammar::{AnswerBuffer, push_bytes, push_number};
 
-/// Writes a line about `count` trial codes of a seed: how many of them were accepted, how many were perfect and how many simple
-/// (Brooks, Smith, Stone and Tutte 1940), and how many squares they had together.
+/// Writes a line about `count` trial codes of a seed: how many of them were accepted, how many were perfect and how
+/// many simple (Brooks, Smith, Stone and Tutte 1940), and how many squares they had together.
 pub fn write_trial(
     seed: u64,
     count: u32,

@@ -9,7 +9,8 @@ use bk_ports::{
 };
 use std::process::Abort;
 
-// A line is answered by its length. One that begins with `!` is refused, and at one that begins with `?` memory is wanting.
+// A line is answered by its length. One that begins with `!` is refused, and at one that begins with `?` memory is
+// wanting.
 struct Lengths;
 
 impl Answerer for Lengths {
@@ -124,7 +125,8 @@ fn a_long_line_ends_at_its_line_feed(rt: HostRuntime) {
     }
 }
 
-// The longest pieces, the reads and the writes that fail, how the run ends, what it writes, and what the source gives then.
+// The longest pieces, the reads and the writes that fail, how the run ends, what it writes, and what the source gives
+// then.
 type Faulty = (
     usize,
     &'static [u64],
@@ -205,7 +207,8 @@ impl Register for Numbers {
     ghost still_ready = { λ _ _ _. tt };
 }
 
-// Whether a numbered run over an input in pieces of at most so many bytes ends so, and what is written and the last number.
+// Whether a numbered run over an input in pieces of at most so many bytes ends so, and what is written and the last
+// number.
 fn numbers_so(input: &[u8], most: usize, ending: Ended, text: &[u8], last: u64) -> bool
     requires { 0 < most }
 {

@@ -133,8 +133,8 @@ fn a_source_answers_an_error_and_reads_on(rt: HostRuntime) {
     }
 }
 
-// A writer that does one thing at each call, as its bytes say: a digit is a write that takes at most so many bytes, `!` one
-// that is interrupted, `f` a flush, and `x` one that fails. Any other call fails, and the writer stays where it is.
+// A writer that does one thing at each call, as its bytes say: a digit is a write that takes at most so many bytes, `!`
+// one that is interrupted, `f` a flush, and `x` one that fails. Any other call fails, and the writer stays where it is.
 #[derive(Drop)]
 struct Script(&'static [u8]);
 

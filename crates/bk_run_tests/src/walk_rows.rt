@@ -40,31 +40,25 @@ fn word_in(rt: &impl Abort, alloc: Global, text: &str) -> Word {
 }
 
 // A walk from the cursor of this text, or from the start.
-fn walk_from(
-    rt: &impl Abort,
-    alloc: Global,
-    order: u8,
-    class: Class,
-    text: Option<&str>,
-) -> UntabledWalk {
+fn walk_from(rt: &impl Abort, alloc: Global, order: u8, class: Class, text: Option<&str>) -> Walk {
     assert!(rt; order >= 2 && usize::from(order) <= INLINE_ORDER);
     match text {
         Some(text) => {
             let word = word_in(rt, alloc, text);
             assert!(rt; word.order() <= INLINE_ORDER);
-            UntabledWalk::new(alloc, order, class, Some(word))
+            Walk::new(alloc, order, class, Some(word))
         }
-        None => UntabledWalk::new(alloc, order, class, None),
+        None => Walk::new(alloc, order, class, None),
     }
 }
 
 // The next member of a walk, if there is one and it isn't wide.
-fn next<L: Ledger>(walk: &mut UntabledWalk, steps: &mut Steps<L>) -> Option<Entry> {
+fn next<L: Ledger>(walk: &mut Walk, steps: &mut Steps<L>) -> Option<Entry> {
     walk.advance(steps)?.ok()
 }
 
 // Whether a walk is at its end.
-fn is_over<L: Ledger>(walk: &mut UntabledWalk, steps: &mut Steps<L>) -> bool {
+fn is_over<L: Ledger>(walk: &mut Walk, steps: &mut Steps<L>) -> bool {
     walk.advance(steps).is_none()
 }
 
@@ -88,12 +82,7 @@ fn is_member(entry: &Entry, sides: &[u64], text: &str) -> bool {
 }
 
 // Whether the next member of a walk has these sides and this word, and the walk is there.
-fn lists_one<L: Ledger>(
-    walk: &mut UntabledWalk,
-    sides: &[u64],
-    text: &str,
-    steps: &mut Steps<L>,
-) -> bool {
+fn lists_one<L: Ledger>(walk: &mut Walk, sides: &[u64], text: &str, steps: &mut Steps<L>) -> bool {
     match next(walk, steps) {
         Some(entry) => is_member(&entry, sides, text) && is_written(walk.cursor(), text),
         None => false,
@@ -101,7 +90,7 @@ fn lists_one<L: Ledger>(
 }
 
 // Goes on with the walk; whether it gives these members and then ends, asked twice.
-fn lists<L: Ledger>(walk: &mut UntabledWalk, members: &[Listed], steps: &mut Steps<L>) -> bool {
+fn lists<L: Ledger>(walk: &mut Walk, members: &[Listed], steps: &mut Steps<L>) -> bool {
     for (sides, text) in members {
         if !lists_one(walk, sides, text, steps) {
             return false;
@@ -220,7 +209,7 @@ fn fits(entry: &Entry, sides: &[u64], text: &str) -> Option<bool> {
 }
 
 // The same of the next member of a walk; none if there is no member.
-fn next_fits<L: Ledger>(walk: &mut UntabledWalk, steps: &mut Steps<L>) -> Option<bool> {
+fn next_fits<L: Ledger>(walk: &mut Walk, steps: &mut Steps<L>) -> Option<bool> {
     let entry = next(walk, steps)?;
     fits(&entry, SIDES_OF_10, ONE_OF_10)
 }
@@ -289,8 +278,8 @@ fn are_few(all: u64, first: u64, second: u64) -> bool {
         && first + second <= all + 16
 }
 
-// A walk that is cut at its first entry and continued pushes at most 16 moves more than a whole one, and a whole one fewer than
-// without the equations between sides.
+// A walk that is cut at its first entry and continued pushes at most 16 moves more than a whole one, and a whole one
+// fewer than without the equations between sides.
 fn parts_of_order_9<L: Ledger>(rt: &impl Abort, alloc: Global, blank: Blank)
     requires name { blank.name ≡ L.name }
     requires parts { blank.parts ≡ L.parts }
@@ -327,11 +316,7 @@ fn are_same(entry: &Entry, same: &Entry) -> bool {
 }
 
 // Goes on with two walks; whether they give the same member.
-fn go_together<L: Ledger>(
-    whole: &mut UntabledWalk,
-    part: &mut UntabledWalk,
-    steps: &mut Steps<L>,
-) -> bool {
+fn go_together<L: Ledger>(whole: &mut Walk, part: &mut Walk, steps: &mut Steps<L>) -> bool {
     let Some(entry) = next(whole, steps) else {
         return false;
     };
@@ -345,7 +330,7 @@ fn go_together<L: Ledger>(
 fn go_along<L: Ledger>(
     rt: &impl Abort,
     alloc: Global,
-    whole: &mut UntabledWalk,
+    whole: &mut Walk,
     from: Option<&str>,
     steps: &mut Steps<L>,
 ) -> bool {
@@ -359,11 +344,7 @@ fn go_along<L: Ledger>(
 }
 
 // Goes on with two walks to the end; whether they give the same members and end together.
-fn end_together<L: Ledger>(
-    whole: &mut UntabledWalk,
-    part: &mut UntabledWalk,
-    steps: &mut Steps<L>,
-) -> bool {
+fn end_together<L: Ledger>(whole: &mut Walk, part: &mut Walk, steps: &mut Steps<L>) -> bool {
     for _ in 0..MOST_MEMBERS {
         match next(whole, steps) {
             Some(entry) => match next(part, steps) {

@@ -1,6 +1,6 @@
 -- What a contract sees of a short list.
--- Example (ShortExamples): where 7, 8, 9 stand in the first of five places, the `part` from place 1 up to 3 has the items 8 and 9. All cells of
--- such a part are copied, also those to spare, and no clause says what stands in these.
+-- Example (ShortExamples): where 7, 8, 9 stand in the first of five places, the `part` from place 1 up to 3 has the
+-- items 8 and 9. All cells of such a part are copied, also those to spare, and no clause says what stands in these.
 use Rattle.std.specs.Coded.{Coded, code_by, coded_list, coded×}
 use Rattle.std.specs.Prelude.{List, refl}
 

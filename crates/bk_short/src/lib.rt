@@ -5,7 +5,7 @@ ghost use Rattle.std.specs.Prelude.{[], length, slice_range, take, ◌+◌, ◌+
 
 use std::marker::Model;
 
-/// A list of at most `N` items. A place to spare holds whatever stood there last. (Own.)
+/// A list of at most `N` items. A place to spare holds whatever stood there last.
 #[derive(Clone, Copy, Drop)]
 pub struct Short<T, const N: usize> {
     cells: [T; N],
@@ -84,19 +84,8 @@ impl<T: Copy, const N: usize> Short<T, N> {
         self.len += 1;
     }
 
-    /// Appends items. There must be room.
-    #[inline]
-    pub fn extend(&mut self, items: &[T])
-        requires { length self.old.items + length items.now ≤ N }
-        ensures { self.new.items ≡ self.old.items ++ items.now }
-    {
-        let end = self.len + items.len();
-        let cells = &mut self.cells[..];
-        cells[self.len..end].copy_from_slice(items);
-        self.len = end;
-    }
-
-    /// Appends the items of another list. There must be room for all its places, which are copied whatever its length is.
+    /// Appends the items of another list. There must be room for all its places, which are copied whatever its length
+    /// is.
     #[inline(always)]
     pub fn append<const W: usize>(&mut self, other: &Short<T, W>)
         requires { length self.old.items + W ≤ N }
@@ -107,8 +96,8 @@ impl<T: Copy, const N: usize> Short<T, N> {
         self.len += other.len;
     }
 
-    /// The items from one place up to another, as a list of their own. So many places as that has must lie behind the first one, since
-    /// all are copied.
+    /// The items from one place up to another, as a list of their own. So many places as that has must lie behind the
+    /// first one, since all are copied.
     #[inline(always)]
     pub fn part<const W: usize>(&self, start: usize, end: usize) -> Short<T, W>
         requires order { start ≤ end }

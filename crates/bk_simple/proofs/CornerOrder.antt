@@ -11,7 +11,7 @@ use Rattle.bk_tiling.specs.declared.Square.{Square}
 use Rattle.bk_simple.proofs.Repeats.{IsTwice, twice_from_count}
 use Rattle.bk_simple.specs.Border.{is_inside}
 use Rattle.bk_simple.specs.Simple.{IsPart, bottom_right, top_left}
-use Rattle.bk_simple.specs.Corners.{IsBetween}
+use Rattle.bk_simple.specs.CornerSquares.{IsBetween}
 use Rattle.bk_simple.proofs.UncutParts.{inside_means, one_over, side_at, within_at}
 use Rattle.bk_simple.proofs.PartCorners.{covers_first}
 use Rattle.bk_simple.proofs.Parts.{across, between_corners, bottom_right_below, count_of_part, top_left_below}

@@ -3,7 +3,7 @@ use Rattle.std.proofs.Common.{arith, get_or, inl, inr, subst, sym, ◌<◌, ◌�
 use Rattle.bk_tiling.specs.declared.Square.{Square}
 use Rattle.bk_simple.proofs.PartCorners.{between-one}
 use Rattle.bk_simple.proofs.Parts.{between_corners}
-use Rattle.bk_simple.specs.Corners.{IsBetween}
+use Rattle.bk_simple.specs.CornerSquares.{IsBetween}
 use Rattle.bk_simple.specs.FirstLaws.{AFirstPartIsOne, ALeastRepeatedSideIsOne}
 use Rattle.bk_simple.specs.Simple.{bottom_right, top_left}
 

@@ -1,22 +1,15 @@
 -- The squares at the corners of a part: where they are found, and that they determine the rectangle.
-use Rattle.std.specs.List.{position_or_len}
-use Rattle.std.specs.Prelude.{Bool, List, get_or, length, true, ℕ, ◌&&◌, ◌+◌, ◌-◌, ◌<◌, ◌==◌, ◌≡◌}
-use Rattle.std.proofs.Common.{arith, inl, inr, sym}
-use Rattle.std.proofs.lemmas.Bool.{and_from, and_parts, both_ways, cases_lt, eq-eqb, eqb-true, false_from_ne_true}
-use Rattle.std.proofs.lemmas.List.Sums.{fails_before_first, position_or_len_is}
+use Rattle.std.specs.Prelude.{get_or, length, true, ℕ, ◌&&◌, ◌+◌, ◌-◌, ◌<◌, ◌==◌, ◌≡◌}
+use Rattle.std.proofs.Common.{arith, sym}
+use Rattle.std.proofs.lemmas.Bool.{false_from_ne_true}
+use Rattle.std.proofs.lemmas.List.Sums.{position_or_len_is}
+use Rattle.bk_laws.proofs.NumberTests.{both_equal-from_test, both_equal-to_test}
 use Rattle.bk_tiling.proofs.Cells.{covers_from}
 use Rattle.bk_tiling.specs.Tiling.{IsTiling, IsWithin, Rectangle, Tiling, covers, whole}
 use Rattle.bk_tiling.specs.declared.Square.{Square}
 use Rattle.bk_simple.specs.Simple.{bottom_right, top_left}
-use Rattle.bk_simple.specs.Corners.{IsBetween}
+use Rattle.bk_simple.specs.CornerSquares.{IsBetween}
 use Rattle.bk_simple.proofs.UncutParts.{one_over, side_at, within_at}
-
--- the first place that passes is no later than one that does
-pub first_below : {X : Type 0} (p : X → Bool) (xs : List X) (k : ℕ) (d : X) → k < length xs → p (get_or xs k d) ≡ true → position_or_len p xs < length xs
-first_below p xs k d few e = elim (cases_lt k (position_or_len p xs)) [
-  | inl h ↦ absurd (both_ways (p (get_or xs k d)) (fails_before_first p xs k d h) e)
-  | inr h ↦ omega arith
-]
 
 -- a square covers the cells at its corners
 pub covers_first : (q : Square) (x y : ℕ) → 0 < q.s → x ≡ q.x → y ≡ q.y → covers x y q ≡ true
@@ -24,13 +17,6 @@ covers_first q x y some ex ey = covers_from x y q (omega arith) (omega arith) (o
 
 covers_last : (q : Square) (x y : ℕ) → 0 < q.s → x ≡ q.x + q.s → y ≡ q.y + q.s → covers (x - 1) (y - 1) q ≡ true
 covers_last q x y some ex ey = covers_from (x - 1) (y - 1) q (omega arith) (omega arith) (omega arith) (omega arith)
-
-both_equal : (a b c d : ℕ) → (a == b) && (c == d) ≡ true → (a ≡ b) × (c ≡ d)
-both_equal a b c d e = let parts = and_parts (a == b) (c == d) e in (eqb-true a b parts.0, eqb-true c d parts.1)
-
--- two pairs of equal numbers pass the test of both
-pub equal_both : (a b c d : ℕ) → a ≡ b → c ≡ d → (a == b) && (c == d) ≡ true
-equal_both a b c d e f = and_from (a == b) (c == d) (eq-eqb a b e) (eq-eqb c d f)
 
 -- two corners determine the rectangle
 pub between-one : (p q : Square) (r s : Rectangle) → IsBetween p q r → IsBetween p q s → r ≡ s
@@ -53,7 +39,7 @@ module _ (t : Tiling) (tiling : IsTiling t) where
   pub top_left_at : (i : ℕ) (d q : Square) (r : Rectangle) → i < length t.squares → IsBetween (get_or t.squares i d) q r → top_left t r ≡ i
   top_left_at i d q r few h =
       position_or_len_is (λ q. (q.x == r.x) && (q.y == r.y)) t.squares i d (omega arith) (λ k below. false_from_ne_true _ (λ e. earlier k below e))
-      (λ _. equal_both (get_or t.squares i d).x r.x (get_or t.squares i d).y r.y (sym h.left) (sym h.top))
+      (λ _. both_equal-to_test (get_or t.squares i d).x r.x (get_or t.squares i d).y r.y (sym h.left) (sym h.top))
     where
       here : IsWithin (whole t) (get_or t.squares i d)
       here = within_at t tiling i d few
@@ -63,16 +49,17 @@ module _ (t : Tiling) (tiling : IsTiling t) where
 
       earlier : (k : ℕ) → k < i → ((get_or t.squares k d).x == r.x) && ((get_or t.squares k d).y == r.y) ≡ true → ⊥
       earlier k below e =
-          let same = both_equal (get_or t.squares k d).x r.x (get_or t.squares k d).y r.y e in
+          let same = both_equal-from_test (get_or t.squares k d).x r.x (get_or t.squares k d).y r.y e in
           one_over t tiling r.x r.y k i d (omega (arith, here.right, h.left, also)) (omega (arith, here.bottom, h.top, also)) below few
           (covers_first (get_or t.squares k d) r.x r.y (side_at t tiling k d (omega arith)) (sym same.0) (sym same.1))
           (covers_first (get_or t.squares i d) r.x r.y also h.left h.top)
 
+  -- the square at whose bottom right corner a rectangle ends is the one at its bottom right
   pub bottom_right_at : (j : ℕ) (d p : Square) (r : Rectangle) → j < length t.squares → IsBetween p (get_or t.squares j d) r → bottom_right t r ≡ j
   bottom_right_at j d p r few h =
       position_or_len_is (λ q. (q.x + q.s == r.x + r.width) && (q.y + q.s == r.y + r.height)) t.squares j d (omega arith)
       (λ k below. false_from_ne_true _ (λ e. earlier k below e))
-      (λ _. equal_both ((get_or t.squares j d).x + (get_or t.squares j d).s) (r.x + r.width) ((get_or t.squares j d).y + (get_or t.squares j d).s)
+      (λ _. both_equal-to_test ((get_or t.squares j d).x + (get_or t.squares j d).s) (r.x + r.width) ((get_or t.squares j d).y + (get_or t.squares j d).s)
       (r.y + r.height) (sym h.right) (sym h.bottom))
     where
       here : IsWithin (whole t) (get_or t.squares j d)
@@ -86,7 +73,7 @@ module _ (t : Tiling) (tiling : IsTiling t) where
           d).s == r.y + r.height) ≡ true → ⊥
       earlier k below e =
           let same =
-          both_equal ((get_or t.squares k d).x + (get_or t.squares k d).s) (r.x + r.width) ((get_or t.squares k d).y + (get_or t.squares k d).s)
+          both_equal-from_test ((get_or t.squares k d).x + (get_or t.squares k d).s) (r.x + r.width) ((get_or t.squares k d).y + (get_or t.squares k d).s)
           (r.y + r.height) e in
           one_over t tiling (r.x + r.width - 1) (r.y + r.height - 1) k j d (omega (arith, here.right, h.right, also))
           (omega (arith, here.bottom, h.bottom, also)) below few

@@ -7,7 +7,7 @@ use Rattle.bk_tiling.specs.Tiling.{IsTiling, IsWithin, Rectangle, Tiling, order}
 use Rattle.bk_tiling.specs.declared.Square.{Square}
 use Rattle.bk_simple.specs.Border.{IsUncut, is_inside}
 use Rattle.bk_simple.specs.Simple.{IsFirstPart, IsPart, IsSimple, bottom_right, top_left}
-use Rattle.bk_simple.specs.Corners.{IsBetween, IsFirstPartFrom, IsHeldBetween, IsPartAt}
+use Rattle.bk_simple.specs.CornerSquares.{IsBetween, IsFirstPartFrom, IsHeldBetween, IsPartAt}
 use Rattle.bk_simple.specs.Reach.{NoneHigher, NoneWider}
 use Rattle.bk_simple.proofs.Parts.{across, between_corners, bottom_right_below, count_of_part, top_left_below, uncut_part}
 use Rattle.bk_simple.proofs.PartCorners.{between-one, bottom_right_at, top_left_at}

@@ -4,17 +4,19 @@ use Rattle.std.proofs.Common.{ap, arith, inl, inr, sym, ◌∙◌}
 use Rattle.std.proofs.lemmas.Bool.{and_parts, both_ways, cases_Bool, eqb-true, false_from_ne_true, or_left, or_right}
 use Rattle.std.proofs.lemmas.List.Elements.{All-from_recursion}
 use Rattle.std.proofs.lemmas.List.Sums.{length-filter, list_all-from_AllPass, passes_at_first}
+use Rattle.bk_laws.proofs.AllOfLists.{all-filter_back}
+use Rattle.bk_laws.proofs.Counts.{count_by-filter_lt}
+use Rattle.bk_laws.proofs.ListItems.{position_or_len-below}
+use Rattle.bk_laws.proofs.NumberTests.{both_equal-to_test}
 use Rattle.bk_tiling.proofs.Cells.{IsOver, covers_from, over_from}
 use Rattle.bk_tiling.proofs.TilingLaws.{cell_once}
 use Rattle.bk_tiling.specs.Tiling.{IsTiling, IsWithin, Rectangle, Tiling, covers, whole}
 use Rattle.bk_tiling.specs.declared.Square.{Square}
-use Rattle.bk_simple.proofs.SimpleLaws.{count_filter-lt}
-use Rattle.bk_simple.proofs.SimpleTest.{all_selected, first_corner, has_cell, last_corner, same_selection, selected_within}
+use Rattle.bk_simple.proofs.SimpleTest.{first_corner, has_cell, last_corner, same_selection, selected_within}
 use Rattle.bk_simple.specs.Border.{IsUncut, is_inside, is_outside}
 use Rattle.bk_simple.specs.Simple.{IsPart, bottom_right, top_left}
-use Rattle.bk_simple.specs.Corners.{IsBetween}
+use Rattle.bk_simple.specs.CornerSquares.{IsBetween}
 use Rattle.bk_simple.proofs.UncutParts.{Meets, inside_from, meets_from, side_at, within_at}
-use Rattle.bk_simple.proofs.PartCorners.{equal_both, first_below}
 
 module _ (t : Tiling) (r : Rectangle) (tiling : IsTiling t) (part : IsPart t r) where
   abbrev none : Square
@@ -36,8 +38,8 @@ module _ (t : Tiling) (r : Rectangle) (tiling : IsTiling t) (part : IsPart t r) 
       let q : Square = at first_place.0 in
       let p : IsWithin r q = selected_within t r tiling part first_place.0 first_place.1 first_place.2 in
       let c : IsOver r.x r.y q = over_from r.x r.y q first_place.3 in
-      first_below (λ q. (q.x == r.x) && (q.y == r.y)) t.squares first_place.0 none first_place.1
-      (equal_both q.x r.x q.y r.y (omega (arith, p.left, c.left)) (omega (arith, p.top, c.top)))
+      position_or_len-below (λ q. (q.x == r.x) && (q.y == r.y)) t.squares first_place.0 none first_place.1
+      (both_equal-to_test q.x r.x q.y r.y (omega (arith, p.left, c.left)) (omega (arith, p.top, c.top)))
 
   -- and one at the bottom right corner
   pub bottom_right_below : bottom_right t r < length t.squares
@@ -46,8 +48,8 @@ module _ (t : Tiling) (r : Rectangle) (tiling : IsTiling t) (part : IsPart t r) 
       let p : IsWithin r q = selected_within t r tiling part last_place.0 last_place.1 last_place.2 in
       let c : IsOver (r.x + r.width - 1) (r.y + r.height - 1) q = over_from (r.x + r.width - 1) (r.y + r.height - 1) q last_place.3 in
       let cell = has_cell t r tiling part in
-      first_below (λ q. (q.x + q.s == r.x + r.width) && (q.y + q.s == r.y + r.height)) t.squares last_place.0 none last_place.1
-      (equal_both (q.x + q.s) (r.x + r.width) (q.y + q.s) (r.y + r.height) (omega (arith, p.right, c.right, cell.0))
+      position_or_len-below (λ q. (q.x + q.s == r.x + r.width) && (q.y + q.s == r.y + r.height)) t.squares last_place.0 none last_place.1
+      (both_equal-to_test (q.x + q.s) (r.x + r.width) (q.y + q.s) (r.y + r.height) (omega (arith, p.right, c.right, cell.0))
       (omega (arith, p.bottom, c.bottom, cell.1)))
 
   -- the part reaches from the corner of the first to that of the second
@@ -79,14 +81,15 @@ module _ (t : Tiling) (r : Rectangle) (tiling : IsTiling t) (part : IsPart t r) 
       let over : covers (max q.x r.x) (max q.y r.y) q ≡ true =
       covers_from (max q.x r.x) (max q.y r.y) q (omega arith) (omega (arith, m.left)) (omega arith) (omega (arith, m.top)) in
       let unpicked : part.pick q ≡ false = false_from_ne_true (part.pick q) (λ e. both_ways (is_inside r q) cut (picked_inside k d few e)) in
-      let fewer = count_filter-lt part.pick (covers (max q.x r.x) (max q.y r.y)) t.squares k d few unpicked over in
+      let fewer = count_by-filter_lt part.pick (covers (max q.x r.x) (max q.y r.y)) t.squares k d few unpicked over in
       let one = part.tiled.once (max q.x r.x) (max q.y r.y) (omega arith) (omega (arith, m.right, cell.0)) (omega arith) (omega (arith, m.bottom, cell.1)) in
       let all = cell_once t tiling (max q.x r.x) (max q.y r.y) (omega (arith, w.right, some, m.left)) (omega (arith, w.bottom, some, m.top)) in
       omega (arith, fewer, one, all)
     where
       picked_inside : (k : ℕ) (d : Square) → k < length t.squares → part.pick (get_or t.squares k d) ≡ true → is_inside r (get_or t.squares k d) ≡ true
       picked_inside k d few e = inside_from r (get_or t.squares k d)
-          (All-from_recursion (λ q. IsTrue (part.pick q) → IsWithin r q) t.squares (all_selected (IsWithin r) part.pick t.squares part.tiled.within) k d few e)
+          (All-from_recursion (λ q. IsTrue (part.pick q) → IsWithin r q) t.squares (all-filter_back (IsWithin r) part.pick t.squares part.tiled.within) k d few
+          e)
 
   -- no square lies across the border of a part
   pub uncut_part : IsUncut r t.squares

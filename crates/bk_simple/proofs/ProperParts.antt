@@ -60,6 +60,7 @@ module _ (t : Tiling) (tiling : IsTiling t) where
     pub below : place < length t.squares
     pub over : covers c j (at place) ≡ true
 
+  -- each cell of the rectangle lies in a square
   pub square_over : (c j : ℕ) → c < t.width → j < t.height → IsAt c j
   square_over c j wide high = from (counted_one (covers c j) t.squares (omega (arith, cell_once t tiling c j wide high)))
     where
@@ -92,6 +93,7 @@ module _ (t : Tiling) (tiling : IsTiling t) where
     pub wide : 0 < r.width
     pub high : 0 < r.height
 
+  -- a part lies within the rectangle and has a cell
   pub bounded : (r : Rectangle) → IsPart t r → IsBounded r
   bounded r part =
       let c = between_corners t r tiling part none in
@@ -106,6 +108,7 @@ module _ (t : Tiling) (tiling : IsTiling t) where
     pub within : IsWithin r (at (top_left t r))
     pub side : 0 < (at (top_left t r)).s
 
+  -- the square at the top left of a part begins at its corner and lies in it
   pub corner : (r : Rectangle) → IsPart t r → IsCorner r
   corner r part =
       let c = between_corners t r tiling part none in

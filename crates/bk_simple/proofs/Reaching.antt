@@ -9,7 +9,7 @@ use Rattle.bk_tiling.specs.declared.Square.{Square}
 use Rattle.bk_simple.proofs.Parts.{between_corners, bottom_right_below, uncut_part}
 use Rattle.bk_simple.proofs.PartTrials.{NoneBelow}
 use Rattle.bk_simple.proofs.UncutParts.{side_at, within_at}
-use Rattle.bk_simple.specs.Corners.{IsBetween}
+use Rattle.bk_simple.specs.CornerSquares.{IsBetween}
 use Rattle.bk_simple.specs.Simple.{IsPart, bottom_right, top_left}
 use Rattle.bk_simple.specs.Reach.{NoneHigher, NoneWider}
 

@@ -68,6 +68,7 @@ module _ (t : Tiling) (sides : List ℕ) (same : IsPermutation (sides_of t) side
       let late : n ≤ w.first + 1 = elim (cases_lt (w.first + 1) n) [ inl h ↦ absurd (none w.first h (omega arith)) | inr h ↦ h ] in
       (w.first, late, omega (arith, w.apart, w.below), one)
 
+  -- a tiling is perfect if no two neighbours among its ascending sides are equal
   pub perfect_from_none : NoneTwice sides (length sides) → IsPerfect t
   perfect_from_none none i j d before below e =
       let side : ℕ = (get_or t.squares i d).s in
@@ -76,6 +77,7 @@ module _ (t : Tiling) (sides : List ℕ) (same : IsPermutation (sides_of t) side
       let row = repeated_in_row side (length sides) twice none (omega arith) in
       omega (arith, row.1, row.2)
 
+  -- the first side that is followed by an equal one is the least that is repeated
   pub least_from_first : (side : ℕ) → IsFirstTwice sides side → IsLeastRepeated t side
   least_from_first side first = (
     omega (
@@ -100,10 +102,12 @@ imperfect t side twice perfect =
 
 -- what the ascending list shows of the tiling
 module _ (t : Tiling) (sides : List ℕ) (same : IsPermutation (sides_of t) sides) (sorted : IsNonDecreasing sides) where
+  -- what is found first among the ascending sides is the least repeated side
   pub least_if_some : (r : Option ℕ) → IfSome r (IsFirstTwice sides) → IfSome r (IsLeastRepeated t)
   least_if_some None first = tt
   least_if_some (Some side) first = least_from_first t sides same sorted side first
 
+  -- nothing is found among the ascending sides exactly if the tiling is perfect
   pub none_if_perfect : (r : Option ℕ) → IfNone r (NoneTwice sides (length sides)) → IfSome r (IsFirstTwice sides) → IsNone r ↔ IsPerfect t
   none_if_perfect None none first = ((λ _. perfect_from_none t sides same sorted none), (λ _. refl))
   none_if_perfect (Some side) none first = ((λ e. cc), (λ perfect. absurd (imperfect t side (least_from_first t sides same sorted side first).0 perfect)))

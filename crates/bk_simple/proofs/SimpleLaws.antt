@@ -1,41 +1,11 @@
 -- In a tiling a rectangle determines the selection that tiles it.
-use Rattle.std.specs.Prelude.{Bool, List, [], cond, count_by, false, filter, get_or, length, suc, true, zero, ℕ, ◌+◌, ◌<◌, ◌∷◌, ◌≡◌, ◌≤◌}
-use Rattle.std.proofs.Common.{ap, arith}
+use Rattle.std.specs.Prelude.{Bool, filter, get_or, length, true, ℕ, ◌+◌, ◌<◌, ◌≡◌}
+use Rattle.std.proofs.Common.{arith}
 use Rattle.std.proofs.lemmas.Bool.{and_from, le-leb, lt-ltb, true_from_ne_false}
 use Rattle.std.proofs.lemmas.List.Elements.{All-from_recursion}
-use Rattle.std.proofs.lemmas.List.Sums.{sum_by-cons}
+use Rattle.bk_laws.proofs.Counts.{count_by-filter_lt}
 use Rattle.bk_tiling.specs.Tiling.{IsTiling, IsWithin, Rectangle, Tiles, Tiling, covers, whole}
 use Rattle.bk_tiling.specs.declared.Square.{Square}
-
--- at most as many of the selected elements pass as of all
-count_filter-le : {X : Type 0} (p c : X → Bool) (xs : List X) → count_by c (filter p xs) ≤ count_by c xs
-count_filter-le p c [] = omega arith
-count_filter-le p c (x ∷ xs) =
-    elim (p x) as (λ b. count_by c (cond b (x ∷ filter p xs) (filter p xs)) ≤ count_by c (x ∷ xs)) [
-      | true ↦ omega (arith, sum_by-cons (λ y. cond (c y) 1 0) x (filter p xs), sum_by-cons (λ y. cond (c y) 1 0) x xs, count_filter-le p c xs)
-      | false ↦ omega (arith, sum_by-cons (λ y. cond (c y) 1 0) x xs, count_filter-le p c xs)
-    ]
-
--- and fewer where one that isn't selected passes
-pub count_filter-lt : {X : Type 0} (p c : X → Bool) (xs : List X) (k : ℕ) (d : X) → k < length xs → p (get_or xs k d) ≡ false → c (get_or xs k d) ≡ true
-    → count_by c (filter p xs) < count_by c xs
-count_filter-lt p c [] k d within out pass = absurd (omega arith)
-count_filter-lt p c (x ∷ xs) zero d within out pass =
-    let value : ◌≡◌ {A = ℕ} (cond (c x) 1 0) 1 = ap (λ b. cond b 1 0) pass in
-    let e : count_by c (cond (p x) (x ∷ filter p xs) (filter p xs)) ≡ count_by c (filter p xs) =
-    ap (λ b. count_by c (cond b (x ∷ filter p xs) (filter p xs))) out in
-    omega (arith, sum_by-cons (λ y. cond (c y) 1 0) x xs, count_filter-le p c xs, value, e)
-count_filter-lt p c (x ∷ xs) (suc k) d within out pass =
-    elim (p x) as (λ b. count_by c (cond b (x ∷ filter p xs) (filter p xs)) < count_by c (x ∷ xs)) [
-      | true ↦
-          omega (
-            arith,
-            sum_by-cons (λ y. cond (c y) 1 0) x (filter p xs),
-            sum_by-cons (λ y. cond (c y) 1 0) x xs,
-            count_filter-lt p c xs k d (omega arith) out pass,
-          )
-      | false ↦ omega (arith, sum_by-cons (λ y. cond (c y) 1 0) x xs, count_filter-lt p c xs k d (omega arith) out pass)
-    ]
 
 -- a square covers the cell at its top left corner
 covers_corner : (q : Square) → 0 < q.s → covers q.x q.y q ≡ true
@@ -50,7 +20,7 @@ picked_within t r pick tiling tiled k d few inside =
     let some : 0 < q.s = All-from_recursion (λ q. 0 < q.s) t.squares tiling.tiles.sides k d few in
     let at : IsWithin (whole t) q = All-from_recursion (IsWithin (whole t)) t.squares tiling.tiles.within k d few in
     true_from_ne_false _ (λ out.
-    let fewer = count_filter-lt pick (covers q.x q.y) t.squares k d few out (covers_corner q some) in
+    let fewer = count_by-filter_lt pick (covers q.x q.y) t.squares k d few out (covers_corner q some) in
     let one = tiled.once q.x q.y inside.left (omega (arith, inside.right, some)) inside.top (omega (arith, inside.bottom, some)) in
     let all = tiling.tiles.once q.x q.y at.left (omega (arith, at.right, some)) at.top (omega (arith, at.bottom, some)) in
     omega (arith, fewer, one, all))

@@ -1,23 +1,20 @@
 -- A test that computes whether a tiling is simple: it tries the rectangles from the top left corner of one square
 -- to the bottom right corner of another.
-use Rattle.std.specs.List.{AllByRecursion, list_all}
+use Rattle.std.specs.List.{list_all}
 use Rattle.std.specs.Prelude.{All, Bool, IsTrue, List, [], cond, count_by, false, filter, get_or, length, nat_le, nat_lt, not, refl, suc, true, zero}
 use Rattle.std.specs.Prelude.{ℕ, ◌&&◌, ◌+◌, ◌-◌, ◌<◌, ◌∷◌, ◌≡◌, ◌≤◌, ◌⊎◌}
-use Rattle.std.proofs.Common.{ap, arith, inl, inr, subst, sym, ◌∙◌}
+use Rattle.std.proofs.Common.{ap, arith, inl, inr, subst, sym}
 use Rattle.std.proofs.lemmas.Bool.{and_from, and_parts, both_ways, cases_Bool, eq-eqb, le-leb, leb-true, lt-ltb, ltb-true, not-true}
 use Rattle.std.proofs.lemmas.List.Elements.{All-from_recursion, recursion_from_All}
 use Rattle.std.proofs.lemmas.List.Sums.{sum_by-cons}
 use mathlib.Core.Bool.{beq}
+use Rattle.bk_laws.proofs.AllOfLists.{all-filter_back, filter-same_test, list_all-from_all, list_all-get_or}
+use Rattle.bk_laws.proofs.Truth.{same_test-of_implications}
 use Rattle.bk_tiling.proofs.TilingTest.{all_between, once_test, tiles_test, within_from_test, within_test}
 use Rattle.bk_tiling.specs.Tiling.{IsTiling, IsWithin, Rectangle, Tiles, Tiling, covers, order}
 use Rattle.bk_tiling.specs.declared.Square.{Square}
 use Rattle.bk_simple.proofs.SimpleLaws.{picked_within}
 use Rattle.bk_simple.specs.Simple.{IsPart, IsSimple}
-
--- the tests find what they test
-test_from_all : {X : Type 0} (P : X → Type 0) (p : X → Bool) → ((x : X) → P x → IsTrue (p x)) → (xs : List X) → AllByRecursion P xs → IsTrue (list_all p xs)
-test_from_all P p shows [] all = refl
-test_from_all P p shows (x ∷ xs) all = and_from (p x) (list_all p xs) (shows x all.0) (test_from_all P p shows xs all.1)
 
 all_from_true : (a n : ℕ) (p : ℕ → Bool) → ((i : ℕ) → a ≤ i → i < a + n → IsTrue (p i)) → IsTrue (all_between a n p)
 all_from_true a zero p holds = refl
@@ -30,35 +27,10 @@ test_from_within r q h = and_from _ _ (and_from _ _ (le-leb _ _ h.left) (le-leb 
 
 test_from_tiles : (r : Rectangle) (squares : List Square) → Tiles r squares → IsTrue (tiles_test r squares)
 test_from_tiles r squares h = and_from _ _
-    (and_from _ _ (lt-ltb 0 (length squares) h.some) (test_from_all (λ q. 0 < q.s) (λ q. nat_lt 0 q.s) (λ q. lt-ltb 0 q.s) squares h.sides))
-    (and_from _ _ (test_from_all (IsWithin r) (within_test r) (test_from_within r) squares h.within)
+    (and_from _ _ (lt-ltb 0 (length squares) h.some) (list_all-from_all (λ q. 0 < q.s) (λ q. nat_lt 0 q.s) (λ q. lt-ltb 0 q.s) squares h.sides))
+    (and_from _ _ (list_all-from_all (IsWithin r) (within_test r) (test_from_within r) squares h.within)
     (all_from_true r.x r.width (λ i. all_between r.y r.height (once_test squares i)) (λ i left right.
     all_from_true r.y r.height (once_test squares i) (λ j top bottom. eq-eqb _ _ (h.once i j left right top bottom)))))
-
--- a fact of the selected elements
-pub all_selected : {X : Type 0} (P : X → Type 0) (p : X → Bool) (xs : List X) → AllByRecursion P (filter p xs) → AllByRecursion (λ x. IsTrue (p x) → P x) xs
-all_selected P p [] all = tt
-all_selected P p (x ∷ xs) all = step (cases_Bool (p x)) (λ rest. all_selected P p xs rest)
-  where
-    step : (p x ≡ true) ⊎ (p x ≡ false) → (AllByRecursion P (filter p xs) → AllByRecursion (λ x. IsTrue (p x) → P x) xs)
-        → AllByRecursion (λ x. IsTrue (p x) → P x) (x ∷ xs)
-    step (inl picked) ih =
-        let both : AllByRecursion P (x ∷ filter p xs) = subst (λ b. AllByRecursion P (cond b (x ∷ filter p xs) (filter p xs))) picked all in
-        ((λ h. both.0), ih both.1)
-    step (inr none) ih =
-        let rest : AllByRecursion P (filter p xs) = subst (λ b. AllByRecursion P (cond b (x ∷ filter p xs) (filter p xs))) none all in
-        ((λ h. absurd (both_ways (p x) none h)), ih rest)
-
--- tests that agree on all elements select the same
-filter-same : {X : Type 0} (p q : X → Bool) (xs : List X) → AllByRecursion (λ x. p x ≡ q x) xs → filter p xs ≡ filter q xs
-filter-same p q [] all = refl
-filter-same p q (x ∷ xs) all =
-    ap (λ b. cond b (x ∷ filter p xs) (filter p xs)) all.0 ∙ ap (λ ys. cond (q x) (x ∷ ys) ys) (filter-same p q xs all.1)
-
-same_Bool : (a b : Bool) → (IsTrue a → IsTrue b) → (IsTrue b → IsTrue a) → a ≡ b
-same_Bool true b f g = sym (f refl)
-same_Bool false true f g = g refl
-same_Bool false false f g = refl
 
 -- a selected element that is counted
 abbrev Found : {X : Type 0} → (X → Bool) → (X → Bool) → List X → X → Type 0
@@ -95,12 +67,6 @@ part_test t r = (nat_le 2 (length (filter (within_test r) t.squares)) && nat_lt 
 abbrev pub simple_test : Tiling → Bool
 simple_test t = list_all (λ p. list_all (λ q. not (part_test t (between p q))) t.squares) t.squares
 
--- a test passes at each place of a list that it passes
-pass_at : {X : Type 0} (p : X → Bool) (xs : List X) (k : ℕ) (d : X) → IsTrue (list_all p xs) → k < length xs → IsTrue (p (get_or xs k d))
-pass_at p [] k d h few = absurd (omega arith)
-pass_at p (x ∷ xs) zero d h few = (and_parts (p x) (list_all p xs) h).0
-pass_at p (x ∷ xs) (suc k) d h few = pass_at p xs k d (and_parts (p x) (list_all p xs) h).1 (omega arith)
-
 -- the cell lies in a square that is covered
 covers_cell : (q : Square) (i j : ℕ) → IsTrue (covers i j q) → (q.x ≤ i) × (i < q.x + q.s) × (q.y ≤ j) × (j < q.y + q.s)
 covers_cell q i j h =
@@ -120,15 +86,16 @@ module _ (t : Tiling) (r : Rectangle) (tiling : IsTiling t) (part : IsPart t r) 
   pub selected_within : (k : ℕ) → k < length t.squares → IsTrue (part.pick (at k)) → IsWithin r (at k)
   selected_within k few picked =
       All-from_recursion (λ q. IsTrue (part.pick q) → IsWithin r q) t.squares
-      (all_selected (IsWithin r) part.pick t.squares part.tiled.within) k none few picked
+      (all-filter_back (IsWithin r) part.pick t.squares part.tiled.within) k none few picked
 
+  -- the squares of a part are those within its rectangle
   pub same_selection : filter part.pick t.squares ≡ filter (within_test r) t.squares
-  same_selection = filter-same part.pick (within_test r) t.squares (recursion_from_All _ t.squares agree)
+  same_selection = filter-same_test part.pick (within_test r) t.squares (recursion_from_All _ t.squares agree)
     where
       agree : All (λ q. part.pick q ≡ within_test r q) t.squares
-      agree k d few = same_Bool (part.pick (get_or t.squares k d)) (within_test r (get_or t.squares k d))
+      agree k d few = same_test-of_implications (part.pick (get_or t.squares k d)) (within_test r (get_or t.squares k d))
           (λ picked. test_from_within r _ (All-from_recursion (λ q. IsTrue (part.pick q) → IsWithin r q) t.squares
-          (all_selected (IsWithin r) part.pick t.squares part.tiled.within) k d few picked))
+          (all-filter_back (IsWithin r) part.pick t.squares part.tiled.within) k d few picked))
           (λ inside. picked_within t r part.pick tiling part.tiled k d few (within_from_test r _ inside))
 
   -- the rectangle has a cell
@@ -147,6 +114,7 @@ module _ (t : Tiling) (r : Rectangle) (tiling : IsTiling t) (part : IsPart t r) 
   first_corner = found_selected part.pick (covers r.x r.y) t.squares none
       (let one = part.tiled.once r.x r.y (omega arith) (omega (arith, has_cell.0)) (omega arith) (omega (arith, has_cell.1)) in omega (arith, one))
 
+  -- a square of a part lies over the last cell of its rectangle
   pub last_corner : Found part.pick (covers (r.x + r.width - 1) (r.y + r.height - 1)) t.squares none
   last_corner = found_selected part.pick (covers (r.x + r.width - 1) (r.y + r.height - 1)) t.squares none
       (let one = part.tiled.once (r.x + r.width - 1) (r.y + r.height - 1) (omega (arith, has_cell.0)) (omega (arith, has_cell.0))
@@ -163,8 +131,8 @@ module _ (t : Tiling) (r : Rectangle) (tiling : IsTiling t) (part : IsPart t r) 
 
   no_part : IsTrue (simple_test t) → ⊥
   no_part test =
-      let outer = pass_at (λ p. list_all (λ q. not (part_test t (between p q))) t.squares) t.squares first_corner.0 none test first_corner.1 in
-      let inner = pass_at (λ q. not (part_test t (between (at first_corner.0) q))) t.squares last_corner.0 none outer last_corner.1 in
+      let outer = list_all-get_or (λ p. list_all (λ q. not (part_test t (between p q))) t.squares) t.squares first_corner.0 none test first_corner.1 in
+      let inner = list_all-get_or (λ q. not (part_test t (between (at first_corner.0) q))) t.squares last_corner.0 none outer last_corner.1 in
       let fails : part_test t r ≡ false = subst (λ s. part_test t s ≡ false) corners (not-true _ inner) in
       both_ways (part_test t r) fails part_passes
 

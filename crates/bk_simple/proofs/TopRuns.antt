@@ -6,7 +6,7 @@ use Rattle.bk_tiling.proofs.Places.{later_place}
 use Rattle.bk_tiling.specs.CodeOrder.{comes_before}
 use Rattle.bk_tiling.specs.Tiling.{IsTiling, IsWithin, Rectangle, Tiling}
 use Rattle.bk_tiling.specs.declared.Square.{Square}
-use Rattle.bk_simple.specs.Corners.{IsBetween}
+use Rattle.bk_simple.specs.CornerSquares.{IsBetween}
 use Rattle.bk_simple.specs.Simple.{IsPart, bottom_right, top_left}
 use Rattle.bk_simple.proofs.Parts.{between_corners, bottom_right_below, uncut_part}
 use Rattle.bk_simple.proofs.Seams.{IsRunTo, none_wider}

@@ -1,14 +1,13 @@
 -- A rectangle whose border cuts no square of a tiling is a part of it, where at least two squares and not all lie in it.
-use Rattle.std.specs.List.{AllByRecursion}
-use Rattle.std.specs.Prelude.{Bool, List, [], cond, count_by, false, filter, get_or, length, refl, true, ℕ, ◌+◌, ◌<◌}
-use Rattle.std.specs.Prelude.{◌||◌, ◌∷◌, ◌≡◌, ◌≤◌, ◌⊎◌}
-use Rattle.std.proofs.Common.{ap, arith, inl, inr, subst, sym, ◌∙◌}
-use Rattle.std.proofs.lemmas.Bool.{and_from, and_parts, both_ways, cases_Bool, le-leb}
+use Rattle.std.specs.Prelude.{count_by, false, get_or, length, true, ℕ, ◌+◌, ◌<◌}
+use Rattle.std.specs.Prelude.{◌||◌, ◌≡◌, ◌≤◌, ◌⊎◌}
+use Rattle.std.proofs.Common.{arith, inl, inr, ◌∙◌}
+use Rattle.std.proofs.lemmas.Bool.{and_from, and_parts, le-leb}
 use Rattle.std.proofs.lemmas.Bool.{leb-false, leb-true, or_cases, or_parts}
 use Rattle.std.proofs.lemmas.List.Elements.{All-from_recursion, recursion_from_All}
 use Rattle.std.proofs.lemmas.List.Sums.{AllPass-from_list_all, length-filter}
-use Rattle.std.proofs.lemmas.List.Sums.{sum_by-cons}
-use Rattle.bk_laws.proofs.Counts.{count_two}
+use Rattle.bk_laws.proofs.Counts.{count_by-filter_same, count_two}
+use Rattle.bk_laws.proofs.AllOfLists.{all-filter}
 use Rattle.bk_tiling.proofs.Cells.{IsOver, over_from}
 use Rattle.bk_tiling.proofs.TilingLaws.{cell_once}
 use Rattle.bk_tiling.specs.Tiling.{IsTiling, IsWithin, Rectangle, Tiling, covers, order, whole}
@@ -47,31 +46,6 @@ over_cell r q i j over left right top bottom e = cases (over_from i j q over) (o
     cases o (inr (inl h)) = omega (arith, o.bottom)
     cases o (inr (inr h)) = omega (arith, o.top)
 
--- where all that are counted are selected, the selection counts as many
-count_filter-same : {X : Type 0} (p c : X → Bool) (xs : List X) → AllByRecursion (λ x. c x ≡ true → p x ≡ true) xs → count_by c (filter p xs) ≡ count_by c xs
-count_filter-same p c [] all = refl
-count_filter-same p c (x ∷ xs) all = step (cases_Bool (p x)) (cases_Bool (c x)) (count_filter-same p c xs all.1)
-  where
-    step : (p x ≡ true) ⊎ (p x ≡ false) → (c x ≡ true) ⊎ (c x ≡ false) → count_by c (filter p xs) ≡ count_by c xs
-        → count_by c (filter p (x ∷ xs)) ≡ count_by c (x ∷ xs)
-    step (inl yes_p) counted ih =
-        let e : count_by c (filter p (x ∷ xs)) ≡ count_by c (x ∷ filter p xs) = ap (λ b. count_by c (cond b (x ∷ filter p xs) (filter p xs))) yes_p in
-        omega (arith, e, ih, sum_by-cons (λ y. cond (c y) 1 0) x xs, sum_by-cons (λ y. cond (c y) 1 0) x (filter p xs))
-    step (inr no_p) (inl counted) ih = absurd (both_ways (p x) no_p (all.0 counted))
-    step (inr no_p) (inr uncounted) ih =
-        let e : count_by c (filter p (x ∷ xs)) ≡ count_by c (filter p xs) = ap (λ b. count_by c (cond b (x ∷ filter p xs) (filter p xs))) no_p in
-        let zero_here : ◌≡◌ {A = ℕ} (cond (c x) 1 0) 0 = ap (λ b. cond b 1 0) uncounted in
-        omega (arith, e, ih, zero_here, sum_by-cons (λ y. cond (c y) 1 0) x xs)
-
--- a fact of all elements is one of the selected
-all_filter : {X : Type 0} (P : X → Type 0) (p : X → Bool) (xs : List X) → AllByRecursion (λ x. p x ≡ true → P x) xs → AllByRecursion P (filter p xs)
-all_filter P p [] all = tt
-all_filter P p (x ∷ xs) all = step (cases_Bool (p x)) (all_filter P p xs all.1)
-  where
-    step : (p x ≡ true) ⊎ (p x ≡ false) → AllByRecursion P (filter p xs) → AllByRecursion P (cond (p x) (x ∷ filter p xs) (filter p xs))
-    step (inl yes_p) rest = subst (λ b. AllByRecursion P (cond b (x ∷ filter p xs) (filter p xs))) (sym yes_p) (all.0 yes_p, rest)
-    step (inr no_p) rest = subst (λ b. AllByRecursion P (cond b (x ∷ filter p xs) (filter p xs))) (sym no_p) rest
-
 -- a square and a rectangle that are not outside each other share a cell
 pub record Meets (r : Rectangle) (q : Square) : Type 0 where
   pub left : r.x < q.x + q.s
@@ -88,9 +62,11 @@ meets_from r q e =
     record { left = leb-false _ _ across.0; right = leb-false _ _ across.1; top = leb-false _ _ along.0; bottom = leb-false _ _ along.1 }
 
 module _ (t : Tiling) (tiling : IsTiling t) where
+  -- the square at a place of a tiling lies within the rectangle
   pub within_at : (k : ℕ) (d : Square) → k < length t.squares → IsWithin (whole t) (get_or t.squares k d)
   within_at k d few = All-from_recursion (IsWithin (whole t)) t.squares tiling.tiles.within k d few
 
+  -- the square at a place of a tiling has a side
   pub side_at : (k : ℕ) (d : Square) → k < length t.squares → 0 < (get_or t.squares k d).s
   side_at k d few = All-from_recursion (λ q. 0 < q.s) t.squares tiling.tiles.sides k d few
 
@@ -109,9 +85,9 @@ module _ (t : Tiling) (tiling : IsTiling t) where
     not_all = omega (arith, not_all, length-filter (is_inside r) t.squares);
     tiled = record {
       some = omega (arith, several, length-filter (is_inside r) t.squares);
-      sides = all_filter (λ q. 0 < q.s) (is_inside r) t.squares (recursion_from_All _ t.squares (λ k d few picked. side_at k d few));
-      within = all_filter (IsWithin r) (is_inside r) t.squares (recursion_from_All _ t.squares (λ k d few picked. inside_means r _ picked));
-      once = λ i j left wide top high. count_filter-same (is_inside r) (covers i j) t.squares
+      sides = all-filter (λ q. 0 < q.s) (is_inside r) t.squares (recursion_from_All _ t.squares (λ k d few picked. side_at k d few));
+      within = all-filter (IsWithin r) (is_inside r) t.squares (recursion_from_All _ t.squares (λ k d few picked. inside_means r _ picked));
+      once = λ i j left wide top high. count_by-filter_same (is_inside r) (covers i j) t.squares
           (recursion_from_All _ t.squares (λ k d few over. picked i j left wide top high k d few over))
           ∙ cell_once t tiling i j (omega arith) (omega arith);
     };

@@ -1,5 +1,6 @@
 -- Where a square lies at a rectangle: inside it, outside it, or across its border.
--- Example (SimpleExamples): of the squares of [2,1][1] the first lies outside the rectangle at 2,0 of 1 by 2, the others inside.
+-- Example (SimpleExamples): of the squares of [2,1][1] the first lies outside the rectangle at 2,0 of 1 by 2, the
+-- others inside.
 use Rattle.std.specs.List.{list_all}
 use Rattle.std.specs.Prelude.{Bool, IsTrue, List, nat_le, ◌&&◌, ◌+◌, ◌||◌}
 use Rattle.bk_tiling.specs.Tiling.{Rectangle}

@@ -1,4 +1,6 @@
 -- How far a rectangle can reach from its top left corner, where its border cuts no square.
+-- Example (SimpleExamples): in [2,1][1] no rectangle from the top left corner of the second square goes past column 3,
+-- the width.
 use Rattle.std.specs.Prelude.{List, slice_index_or, ℕ, ◌+◌, ◌≡◌, ◌≤◌}
 use Rattle.bk_tiling.specs.Tiling.{Rectangle, Tiling}
 use Rattle.bk_tiling.specs.declared.Square.{Square}
@@ -8,11 +10,13 @@ use Rattle.bk_simple.specs.Border.{IsUncut}
 abbrev pub square_of : Tiling → ℕ → Square
 square_of t k = slice_index_or t.squares k (record { x = 0; y = 0; s = 0 })
 
--- each rectangle from the top left corner of p that ends at column `most` or before, and cuts none of the squares, ends at
--- column `end` or before
+-- each rectangle from the top left corner of p that ends at column `most` or before, and cuts none of the squares, ends
+-- at column `end` or before
 abbrev pub NoneWider : List Square → Square → ℕ → ℕ → Type 0
-NoneWider squares p most end = (r : Rectangle) → r.x ≡ p.x → r.y ≡ p.y → IsUncut r squares → r.x + r.width ≤ most → r.x + r.width ≤ end
+NoneWider squares p most end =
+    (r : Rectangle) → r.x ≡ p.x → r.y ≡ p.y → IsUncut r squares → r.x + r.width ≤ most → r.x + r.width ≤ end
 
 -- and each that ends at level `most` or above ends at level `end` or above
 abbrev pub NoneHigher : List Square → Square → ℕ → ℕ → Type 0
-NoneHigher squares p most end = (r : Rectangle) → r.x ≡ p.x → r.y ≡ p.y → IsUncut r squares → r.y + r.height ≤ most → r.y + r.height ≤ end
+NoneHigher squares p most end =
+    (r : Rectangle) → r.x ≡ p.x → r.y ≡ p.y → IsUncut r squares → r.y + r.height ≤ most → r.y + r.height ≤ end

@@ -4,16 +4,16 @@
 ghost use Rattle.std.specs.List.{All};
 ghost use Rattle.std.specs.List.Sorted.{IsNonDecreasing, IsPermutation};
 ghost use Rattle.std.specs.Prelude.{AllPairs, IfNone, IfSome, IsNone, IsSome, IsTrue, count_by, false, length, nat_le};
-ghost use Rattle.std.specs.Prelude.{◌&&◌, ◌+◌, ◌<◌, ◌^◌, ◌||◌, ◌↔◌, ◌≡◌, ◌≢◌, ◌≤◌, ◌⊎◌};
+ghost use Rattle.std.specs.Prelude.{◌&&◌, ◌+◌, ◌++◌, ◌<◌, ◌^◌, ◌||◌, ◌↔◌, ◌≡◌, ◌≢◌, ◌≤◌, ◌⊎◌};
 ghost use Rattle.bk_simple.specs.Border.{IsUncut, is_inside, is_outside, rectangle_of};
 ghost use Rattle.bk_simple.specs.FirstLaws.{AFirstPartIsOne, ALeastRepeatedSideIsOne};
 ghost use Rattle.bk_simple.specs.Neighbours.{IsFirstTwice, NoneTwice};
 ghost use Rattle.bk_simple.specs.Simple.{IsFirstPart, IsLeastRepeated, IsPart, IsPerfect, IsSimple, top_left};
-ghost use Rattle.bk_simple.specs.Corners.{IsFirstPartFrom, IsHeldBetween, IsPartAt};
+ghost use Rattle.bk_simple.specs.CornerSquares.{IsFirstPartFrom, IsHeldBetween, IsPartAt};
 ghost use Rattle.bk_simple.specs.LargeParts.{HasNoLargePart, HasNoneUnder, HasNoneWider};
 ghost use Rattle.bk_simple.specs.Reach.{NoneHigher, NoneWider, square_of};
 ghost use Rattle.bk_tiling.specs.Sharing.{EdgesFit};
-ghost use Rattle.bk_tiling.specs.Tiling.{IsTiling, Rectangle, sides_of};
+ghost use Rattle.bk_tiling.specs.Tiling.{IsTiling, Rectangle, order, sides_of};
 
 use arrayvec::ArrayVec;
 use bk_tiling::{MOST_SQUARES, Square, Tiling};
@@ -50,7 +50,7 @@ pub fn is_perfect(tiling: &Tiling) -> bool
 
 // Whether the sides of a few squares differ.
 fn have_different_sides(squares: &[Square]) -> bool
-    requires { length squares.now ≤ 20 }
+    requires { length squares.now ≤ FEW_SQUARES }
     ensures { IsTrue result ↔ AllPairs (λ p q. p.s ≢ q.s) squares.now }
 {
     let mut sides: ArrayVec<u64, FEW_SQUARES> = ArrayVec::new();
@@ -60,7 +60,7 @@ fn have_different_sides(squares: &[Square]) -> bool
     are_different(sides.as_slice())
 }
 
-/// Whether no two of the numbers are equal. (Own.)
+/// Whether no two of the numbers are equal.
 pub fn are_different(numbers: &[u64]) -> bool
     ensures { IsTrue result ↔ AllPairs ◌≢◌ numbers.now }
 {
@@ -92,11 +92,20 @@ fn sorted_sides(tiling: &Tiling) -> ArrayVec<u64, MOST_SQUARES>
     ensures sorted { IsNonDecreasing result.items }
 {
     let mut sides = ArrayVec::new();
+    let _few = tiling.order();
+    push_sides(tiling, &mut sides);
+    sides.sort_unstable();
+    sides
+}
+
+/// Appends the sides of a tiling, in code order. There must be room for them.
+pub fn push_sides(tiling: &Tiling, sides: &mut ArrayVec<u64, MOST_SQUARES>)
+    requires room { length sides.old.items + order tiling.now ≤ MOST_SQUARES }
+    ensures { sides.new.items ≡ sides.old.items ++ sides_of tiling.now }
+{
     for q in tiling.squares() {
         sides.push(q.s);
     }
-    sides.sort_unstable();
-    sides
 }
 
 /// The first number that is followed by an equal one.
@@ -134,8 +143,8 @@ pub fn is_perfect_simple(tiling: &Tiling) -> bool
     is_perfect(tiling) && (has_no_large_part(tiling) || part(tiling).is_none())
 }
 
-// Whether it is quickly seen that no part is wider and higher than the square at its top left corner. A perfect tiling with a part has one
-// that is.
+// Whether it is quickly seen that no part is wider and higher than the square at its top left corner. A perfect tiling
+// with a part has one that is.
 fn has_no_large_part(tiling: &Tiling) -> bool
     ensures none { IsTrue result → HasNoLargePart tiling.now }
     ensures tiling { IsTiling tiling.now }
@@ -169,8 +178,8 @@ fn has_none_past(tiling: &Tiling, i: usize) -> bool
     true
 }
 
-// Whether this is seen of the parts with the squares from place i to place `last` along their top: going down both sides, a square reaches across one
-// of them before squares at both end at one level.
+// Whether this is seen of the parts with the squares from place i to place `last` along their top: going down both
+// sides, a square reaches across one of them before squares at both end at one level.
 fn has_none_under(tiling: &Tiling, i: usize, last: usize) -> bool
     requires places { (i < last) × (last < length tiling.now.squares) }
     requires level { (square_of tiling.now last).y ≡ (square_of tiling.now i).y }
@@ -227,8 +236,8 @@ fn part_from(tiling: &Tiling, i: usize) -> Option<SubRect>
     None
 }
 
-// The column where the squares end that stand side by side from the square at place i on: no rectangle goes past it that begins at
-// the top left corner of this square, and whose border cuts no square.
+// The column where the squares end that stand side by side from the square at place i on: no rectangle goes past it
+// that begins at the top left corner of this square, and whose border cuts no square.
 fn right_end(tiling: &Tiling, i: usize) -> u64
     requires { i < length tiling.now.squares }
     ensures { NoneWider tiling.now.squares (square_of tiling.now i) tiling.now.width result }
@@ -252,8 +261,8 @@ fn crosses(a: u64, n: u64, over: u64) -> bool
     a < over && over - a < n
 }
 
-// The part from the top left corner of the square at place i to the bottom right corner of the square at place j. None from there
-// goes past these ends.
+// The part from the top left corner of the square at place i to the bottom right corner of the square at place j. None
+// from there goes past these ends.
 fn part_at(tiling: &Tiling, i: usize, j: usize, ends: (u64, u64)) -> Option<SubRect>
     requires first { i < length tiling.now.squares }
     requires last { j < length tiling.now.squares }
@@ -272,8 +281,8 @@ fn part_at(tiling: &Tiling, i: usize, j: usize, ends: (u64, u64)) -> Option<SubR
     }
 }
 
-// The rectangle from the top left corner of p to the bottom right corner of q, where both lie in it and it goes past none of
-// these ends.
+// The rectangle from the top left corner of p to the bottom right corner of q, where both lie in it and it goes past
+// none of these ends.
 fn between(p: Square, q: Square, ends: (u64, u64)) -> Option<SubRect>
     requires p_fits { (p.x + p.s < 2 ^ 64) × (p.y + p.s < 2 ^ 64) }
     requires q_fits { (q.x + q.s < 2 ^ 64) × (q.y + q.s < 2 ^ 64) }
@@ -292,7 +301,8 @@ fn between(p: Square, q: Square, ends: (u64, u64)) -> Option<SubRect>
     })
 }
 
-// Whether a span of numbers, given by its first and how many they are, begins and ends no earlier than another, and goes past no end.
+// Whether a span of numbers, given by its first and how many they are, begins and ends no earlier than another, and
+// goes past no end.
 fn goes_on(p: (u64, u64), q: (u64, u64), end: u64) -> bool
     requires fits { (p.0 + p.1 < 2 ^ 64) × (q.0 + q.1 < 2 ^ 64) }
     ensures { IsTrue result ↔ ((p.0 ≤ q.0) × (p.0 + p.1 ≤ q.0 + q.1) × (q.0 + q.1 ≤ end)) }
@@ -300,8 +310,8 @@ fn goes_on(p: (u64, u64), q: (u64, u64), end: u64) -> bool
     p.0 <= q.0 && q.0 + q.1 <= end && p.0 + p.1 <= q.0 + q.1
 }
 
-// How many squares lie in the rectangle, where none lies across its border. Those from place `first` on are gone through before the
-// others: the first square that lies across the border is mostly one of them.
+// How many squares lie in the rectangle, where none lies across its border. Those from place `first` on are gone
+// through before the others: the first square that lies across the border is mostly one of them.
 fn count_inside(tiling: &Tiling, first: usize, r: &SubRect) -> Option<usize>
     requires place { first ≤ length tiling.now.squares }
     requires fits { (r.now.x + r.now.width < 2 ^ 64) × (r.now.y + r.now.height < 2 ^ 64) }

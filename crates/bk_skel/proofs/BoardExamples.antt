@@ -8,7 +8,7 @@ use Rattle.bk_word.proofs.WordExamples.{staircase}
 use Rattle.bk_word.specs.Play.{outline_of}
 use Rattle.bk_word.specs.declared.Sign.TheVariants.{Even}
 use Rattle.bk_lay.proofs.WordTest.{by_tests, passes_as_valley}
-use Rattle.bk_word_net.specs.LaidOutline.{IsGap, IsTurn, back_of, bottom_at, front_of, square_at}
+use Rattle.bk_word_net.specs.LaidOutline.{FillsValley, StandsOver, back_of, bottom_at, front_of, square_at}
 use Rattle.bk_skel.specs.Board.{columns_of}
 
 abbrev laid : List Square
@@ -36,11 +36,11 @@ back = refl
 abbrev gap : Segment
 gap = record { x = 7; width = 1; level = 4 }
 
-gap_4 : IsGap 8 laid (4 ∷ []) gap
+gap_4 : StandsOver 8 laid (4 ∷ []) gap
 gap_4 = inl (record { x = 7; y = 3; s = 1 }, (3, refl, refl), refl, refl, refl)
 
 -- a square of the side 1 fills it, and its bottom is even with that of square 3; one of the side 2 is too wide
-last_turn : IsTurn 8 laid (record { count = 1; signs = Even ∷ [] }) (1 ∷ []) gap
+last_turn : FillsValley 8 laid (record { count = 1; signs = Even ∷ [] }) (1 ∷ []) gap
 last_turn = record {
   found = passes_as_valley _ _ _ (by_tests _ _ _ refl refl refl refl refl refl);
   count = refl;
@@ -50,5 +50,5 @@ last_turn = record {
   signs = refl;
 }
 
-too_wide : ¬ (IsTurn 8 laid (record { count = 1; signs = Even ∷ [] }) (2 ∷ []) gap)
+too_wide : ¬ (FillsValley 8 laid (record { count = 1; signs = Even ∷ [] }) (2 ∷ []) gap)
 too_wide t = absurd (omega (arith, t.fills))

@@ -15,7 +15,7 @@ use Rattle.bk_skel.proofs.PlacingNumbers.{Window}
 use Rattle.bk_skel.proofs.PlacingTurn.{gap, order, within, fits, only, turn, signs_as, fitting_as}
 use Rattle.bk_skel.proofs.NumbersAfter.{room, few_after, low_as}
 use Rattle.bk_skel.proofs.PlacingWindow.{window_inside, window_as}
-use Rattle.bk_word_net.specs.LaidOutline.{IsNumber, IsTurn, bottom_at}
+use Rattle.bk_word_net.specs.LaidOutline.{FillsValley, IsNumber, bottom_at}
 
 -- what a move that can be laid has: the gap that it fills, and what stands there after it, under the names that the code has
 -- for the lists
@@ -27,12 +27,12 @@ pub record LaysMove (width : ℕ) (laid : List Square) (numbers : List ℕ) (fir
   pub fits : sum new ≡ valley.width → valley.x + sum new < 2 ^ 63
   pub fitting : (seen_laid : List Square) (seen_numbers : List ℕ) → seen_laid ≡ laid → seen_numbers ≡ numbers
       → IsFittingGap width seen_laid (take (end - first) (drop first seen_numbers)) valley
-  pub only : (v : Segment) → IsTurn width laid (record { count = length new; signs = signs }) new v → v ≡ valley
+  pub only : (v : Segment) → FillsValley width laid (record { count = length new; signs = signs }) new v → v ≡ valley
   pub turn : sum new ≡ valley.width
       → signs ≡ signs_between (depth_before laid valley.x ++ map (λ q. q.y + q.s) (laid_group valley.x valley.level new)
       ++ depth_from width laid (valley.x + valley.width))
-      → IsTurn width laid (record { count = length new; signs = signs }) new valley
-  pub signs_are : (v : Segment) → IsTurn width laid (record { count = length new; signs = signs }) new v
+      → FillsValley width laid (record { count = length new; signs = signs }) new valley
+  pub signs_are : (v : Segment) → FillsValley width laid (record { count = length new; signs = signs }) new v
       → signs ≡ signs_between (depth_before laid valley.x ++ map (λ q. q.y + q.s) (laid_group valley.x valley.level new)
       ++ depth_from width laid (valley.x + valley.width))
   pub few : length ((take first numbers ++ numbers_from (length laid + 1) (length new)) ++ drop end numbers) ≤ length laid + length new

@@ -7,7 +7,7 @@ use Rattle.bk_laws.proofs.AllOfLists.{all_append, all_left, all_right}
 use Rattle.bk_laws.proofs.ListPlaces.{get_some}
 use Rattle.bk_tiling.proofs.Cells.{from_append}
 use Rattle.bk_tiling.proofs.Group.{group_top, length_group}
-use Rattle.bk_tiling.specs.Kept.{IsSide}
+use Rattle.bk_tiling.specs.KeptTiling.{IsSide}
 use Rattle.bk_tiling.specs.SquareGroups.{laid_group}
 use Rattle.bk_tiling.specs.Tiling.{IsOneOf}
 use Rattle.bk_tiling.specs.declared.Segment.{Segment}
@@ -17,8 +17,8 @@ use Rattle.bk_word.specs.Outline.{Outline, valley_of}
 use Rattle.bk_word.specs.Play.{after_move, numbers_from}
 use Rattle.bk_word.specs.declared.Sign.{Sign}
 use Rattle.bk_lay.proofs.LaidRuns.{one_of}
-use Rattle.bk_word_net.proofs.NumberedSquares.{numbered_square}
-use Rattle.bk_word_net.proofs.NumberedValley.{open_after, sees}
+use Rattle.bk_word_net.proofs.Outlines.NumberedSquares.{numbered_square}
+use Rattle.bk_word_net.proofs.Outlines.NumberedValley.{open_after, sees}
 use Rattle.bk_skel.specs.Board.{CanLay}
 use Rattle.bk_skel.proofs.PlacingNumbers.{all_known_more, known_new}
 use Rattle.bk_word_net.specs.LaidOutline.{IsNumber, back_of, bottom_at, front_of}
@@ -115,6 +115,6 @@ module _ (width : ℕ) (laid : List Square) (numbers : List ℕ) (first end : �
         ap (λ (r : Square). r.y + r.s) (numbered_square (laid ++ laid_group gap.x gap.level new) n q (n - 1, omega (arith, h.0), e)),
       )
 
-  -- the same for the list under the name that the code has for it
+  -- each bottom is a number that the code can hold, for the list as the code names it
   pub low_as : (new_laid : List Square) → new_laid ≡ laid ++ laid_group gap.x gap.level new → (n : ℕ) → IsNumber new_laid n → bottom_at new_laid n < 2 ^ 63
   low_as new_laid e n h = subst (λ (ls : List Square). bottom_at ls n < 2 ^ 63) (sym e) (bottom_low n (subst (λ (ls : List Square). IsNumber ls n) e h))

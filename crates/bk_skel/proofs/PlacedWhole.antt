@@ -6,7 +6,7 @@ use Rattle.bk_tiling.proofs.PuttingInOrder.{in_order}
 use Rattle.bk_tiling.proofs.Rows.{laid_sides}
 use Rattle.bk_tiling.specs.Column.{depth}
 use Rattle.bk_tiling.specs.CodeOrder.{in_code_order}
-use Rattle.bk_tiling.specs.Kept.{IsSide}
+use Rattle.bk_tiling.specs.KeptTiling.{IsSide}
 use Rattle.bk_tiling.specs.Tiling.{IsTiling, Tiling}
 use Rattle.bk_tiling.specs.declared.Square.{Square}
 use Rattle.bk_word.proofs.StoredBytes.{order_more}
@@ -15,7 +15,7 @@ use Rattle.bk_word.specs.Play.{IsComplete, IsLegal, after_moves, outline_of}
 use Rattle.bk_word.specs.Word.{Word, order_of}
 use Rattle.bk_lay.specs.TilingWord.{MovesFollow}
 use Rattle.bk_word_net.specs.WordFlow.{LaidAlong}
-use Rattle.bk_word_net.proofs.TilingOfTurns.{Turns, all_deep, built, follow_turns, is_tiling}
+use Rattle.bk_word_net.proofs.TilingWords.TilingOfTurns.{Turns, all_deep, built, follow_turns, is_tiling}
 use Rattle.bk_word_net.specs.LaidTiling.{IsLaidWith}
 use Rattle.bk_skel.specs.Board.{IsBoard, IsClosed}
 use Rattle.bk_skel.proofs.PlacingLoop.{first_width, IsPlacedTo}
@@ -76,7 +76,7 @@ module _ (given : List ℕ) (all_sides : AllByRecursion IsSide given) (few : len
   turns : Turns (first_width w given) [] w laid
   turns = s.turns laid (subst (λ (v : Word). Turns (first_width w given) laid v laid) (sym (drop_all i w done)) refl)
 
-  -- and they are a tiling that has the word with these sides
+  -- past the last move the squares are a tiling that has the word with these sides
   pub placed_end : IsLaidWith w given (record { width = first_width w given; height = depth laid 0; squares = in_code_order laid })
   placed_end = record {
     tiling = tiling;

@@ -8,21 +8,23 @@ use Rattle.bk_tiling.proofs.OneRefusal.{tiles_apart}
 use Rattle.bk_tiling.proofs.OrderLaws.{in_code_order-all, in_code_order-length}
 use Rattle.bk_tiling.specs.CodeOrder.{in_code_order}
 use Rattle.bk_tiling.specs.Column.{AreRuns, depth}
-use Rattle.bk_tiling.specs.Kept.{IsKept, IsSide}
+use Rattle.bk_tiling.specs.KeptTiling.{IsKept, IsSide}
 use Rattle.bk_tiling.specs.Refusal.{HaveSides, ShareNoCell}
 use Rattle.bk_tiling.specs.declared.Segment.{Segment}
 use Rattle.bk_tiling.specs.declared.Square.{Square}
 use Rattle.bk_word.specs.Outline.{Outline, start}
 use Rattle.bk_lay.specs.Depiction.{IsSegment, Span}
-use Rattle.bk_word_net.proofs.TilingOfTurns.{is_tiling, tiles}
-use Rattle.bk_word_net.proofs.NumberedSquares.{numbered_bottom, segment_span}
+use Rattle.bk_word_net.proofs.TilingWords.TilingOfTurns.{is_tiling, tiles}
+use Rattle.bk_word_net.proofs.Outlines.NumberedSquares.{numbered_bottom, segment_span}
 use Rattle.bk_skel.specs.Board.{IsClosed}
 use Rattle.bk_word_net.specs.LaidOutline.{IsNumber, bottom_at}
 
 module _ (width : ℕ) (laid : List Square) (numbers : List ℕ) (o : Outline) (c : IsClosed width laid numbers o) where
+  -- each laid square has a side
   pub sides : HaveSides laid
   sides = All-from_recursion (λ q. IsSide q.s) laid c.sides
 
+  -- no two laid squares share a cell
   pub apart : ShareNoCell laid
   apart = tiles_apart width (depth laid 0) laid (tiles width (c.board).some laid o (c.board).shows c.one c.some)
 
@@ -34,6 +36,7 @@ module _ (width : ℕ) (laid : List Square) (numbers : List ℕ) (o : Outline) (
       cases (inr h) = h
       cases (inl h) = let q = depth_comes_from laid 0 (999_999_999_999_999 * length laid) h in absurd (omega (arith, (c.board).low q.0 q.1, q.3))
 
+  -- the laid squares, in code order, make a tiling that may be kept
   pub kept : IsKept (record { width = width; height = depth laid 0; squares = in_code_order laid })
   kept = record {
     tiling = is_tiling width (c.board).some laid o (c.board).shows c.one c.some;
@@ -72,9 +75,11 @@ module _ (width : ℕ) (laid : List Square) (numbers : List ℕ) (o : Outline) (
           first [] span = absurd (omega (arith, some, span))
           first (n ∷ u) span = (omega arith, numbered_bottom laid n span.0 span.1 ∙ span.3 ∙ sym level)
 
+  -- the bottom of the first open square is below 2^63
   pub bottom_fits : bottom_at laid (slice_index_or numbers 0 0) < 2 ^ 63
   bottom_fits = let f = first_open in omega (arith, f.1, low, c.few)
 
+  -- the first open square's number is that of a laid square
   pub first_known : IsNumber laid (slice_index_or numbers 0 0)
   first_known = from numbers first_open.0 (c.board).known
     where
@@ -82,15 +87,17 @@ module _ (width : ℕ) (laid : List Square) (numbers : List ℕ) (o : Outline) (
       from [] h a = absurd (omega arith)
       from (n ∷ ns) h a = a.0
 
-  -- the same for what the code has
+  -- a height and squares as the code has them make a tiling that may be kept
   pub kept_as : (height : ℕ) (squares : List Square) → height ≡ depth laid 0 → squares ≡ in_code_order laid
       → IsKept (record { width = width; height = height; squares = squares })
   kept_as height squares e f = subst (λ (h : ℕ). IsKept (record { width = width; height = h; squares = squares })) (sym e)
       (subst (λ (qs : List Square). IsKept (record { width = width; height = depth laid 0; squares = qs })) (sym f) kept)
 
+  -- a height that is the first open square's bottom is the depth of the laid squares
   pub height_as : (seen : List Square) (height : ℕ) → seen ≡ laid → height ≡ bottom_at seen (slice_index_or numbers 0 0) → height ≡ depth laid 0
   height_as seen height e f = f ∙ ap (λ (l : List Square). bottom_at l (slice_index_or numbers 0 0)) e ∙ first_open.1
 
+  -- the first open square's number is known and its bottom is below 2^63, of equal laid squares too
   pub known_as : (seen : List Square) → seen ≡ laid → IsNumber seen (slice_index_or numbers 0 0) × (bottom_at seen (slice_index_or numbers 0 0) < 2 ^ 63)
   known_as seen e = subst (λ (l : List Square). IsNumber l (slice_index_or numbers 0 0)
       × (bottom_at l (slice_index_or numbers 0 0) < 2 ^ 63)) (sym e) (first_known, bottom_fits)

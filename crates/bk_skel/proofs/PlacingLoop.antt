@@ -4,20 +4,21 @@ use Rattle.std.specs.List.{AllByRecursion}
 use Rattle.std.proofs.Common.{List, [], arith, drop, length, refl, subst, sum, sym, take, ℕ, ◌*◌, ◌++◌, ◌+◌, ◌<◌, ◌∷◌, ◌≡◌, ◌≤◌}
 use Rattle.std.proofs.lemmas.List.{length-take-le, take-append-drop}
 use Rattle.bk_laws.proofs.Totals.{sum_is_total, total}
+use Rattle.bk_laws.proofs.AllOfLists.{all-take}
 use Rattle.bk_tiling.proofs.Rows.{laid_sides}
-use Rattle.bk_tiling.specs.Kept.{IsSide}
+use Rattle.bk_tiling.specs.KeptTiling.{IsSide}
 use Rattle.bk_tiling.specs.Tiling.{Tiling}
 use Rattle.bk_tiling.specs.declared.Square.{Square}
 use Rattle.bk_word.proofs.StoredBytes.{order_more}
 use Rattle.bk_word.specs.Outline.{start}
 use Rattle.bk_word.specs.Play.{IsComplete, after_moves}
 use Rattle.bk_word.specs.Word.{Move, Word, order_of}
-use Rattle.bk_word_net.proofs.RunsAfterTurn.{shows_start}
-use Rattle.bk_word_net.proofs.TurnsOfTiling.{AgreesAt, agrees_start}
-use Rattle.bk_word_net.proofs.TilingOfTurns.{Turns}
+use Rattle.bk_word_net.proofs.Outlines.RunsAfterTurn.{shows_start}
+use Rattle.bk_word_net.proofs.TilingWords.TurnsOfTiling.{AgreesAt, agrees_start}
+use Rattle.bk_word_net.proofs.TilingWords.TilingOfTurns.{Turns}
 use Rattle.bk_word_net.specs.LaidTiling.{IsLaidWith}
 use Rattle.bk_skel.specs.Board.{IsBoard}
-use Rattle.bk_skel.proofs.SideCuts.{all_take, sum_bounds}
+use Rattle.bk_skel.proofs.SideCuts.{sum_bounds}
 
 -- the width: what the sides of the first move sum to
 abbrev pub first_width : Word → List ℕ → ℕ
@@ -63,7 +64,7 @@ module _ (given : List ℕ) (all_sides : AllByRecursion IsSide given) (few : len
       long = length-take-le m.count given fits
 
       bounds : (length (take m.count given) ≤ sum (take m.count given)) × (sum (take m.count given) ≤ 999_999_999_999_999 * length (take m.count given))
-      bounds = sum_bounds (take m.count given) (all_take IsSide m.count given all_sides)
+      bounds = sum_bounds (take m.count given) (all-take IsSide m.count given all_sides)
 
       wide : 0 < sum (take m.count given)
       wide = omega (arith, bounds.0, long, some)

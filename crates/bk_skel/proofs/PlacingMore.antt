@@ -2,8 +2,9 @@
 use Rattle.std.specs.List.{AllByRecursion, concat}
 use Rattle.std.proofs.Common.{List, Some, ap, arith, drop, length, slice_get, subst, sym, take, ℕ, ◌*◌, ◌++◌, ◌+◌, ◌∙◌, ◌∷◌, ◌≡◌, ◌≤◌}
 use Rattle.std.proofs.lemmas.List.{length-append, length-map, length-take-le, take-append-drop}
+use Rattle.bk_laws.proofs.AllOfLists.{all-drop, all-take}
 use Rattle.bk_tiling.proofs.Rows.{laid_sides}
-use Rattle.bk_tiling.specs.Kept.{IsSide}
+use Rattle.bk_tiling.specs.KeptTiling.{IsSide}
 use Rattle.bk_tiling.specs.SquareGroups.{laid_group}
 use Rattle.bk_tiling.specs.Tiling.{IsOneOf, Tiling}
 use Rattle.bk_tiling.specs.declared.Segment.{Segment}
@@ -14,15 +15,14 @@ use Rattle.bk_word.specs.Play.{IsLegal, after_move, after_moves, numbers_from}
 use Rattle.bk_word.specs.Word.{Move, Word, order_of}
 use Rattle.bk_word.proofs.WordCuts.{legal_at, outline_more, split_at}
 use Rattle.bk_lay.proofs.Valleys.{one_leftmost_valley}
-use Rattle.bk_word_net.proofs.TurnsOfTiling.{AgreesAt, AgreesOn, agrees_on}
-use Rattle.bk_word_net.proofs.TilingOfTurns.{Turns}
-use Rattle.bk_word_net.proofs.NumberedValley.{shows_turn}
+use Rattle.bk_word_net.proofs.TilingWords.TurnsOfTiling.{AgreesAt, AgreesOn, agrees_on}
+use Rattle.bk_word_net.proofs.TilingWords.TilingOfTurns.{Turns}
+use Rattle.bk_word_net.proofs.Outlines.NumberedValley.{shows_turn}
 use Rattle.bk_skel.proofs.NumbersAfter.{few_after, known_after, low_after, numbers_after}
 use Rattle.bk_skel.proofs.PlacingTurn.{gap, only}
 use Rattle.bk_word_net.specs.LaidTiling.{IsLaidWith}
 use Rattle.bk_skel.specs.Board.{CanLay, IsBoard}
-use Rattle.bk_word_net.specs.LaidOutline.{IsNumber, IsTurn, front_of}
-use Rattle.bk_skel.proofs.SideCuts.{all_take, all_drop}
+use Rattle.bk_word_net.specs.LaidOutline.{FillsValley, IsNumber, front_of}
 use Rattle.bk_skel.proofs.LaidSides.{laid_long, further, sides_next}
 use Rattle.bk_skel.proofs.PlacingLoop.{first_width, IsPlacedTo}
 
@@ -63,7 +63,7 @@ module _ (given : List ℕ) (all_sides : AllByRecursion IsSide given) (few : len
       legal = subst (IsLegalMove (after_moves start (take i w))) same_move legal_here;
       first_is = first_is;
       end_is = end_is;
-      sides = all_take IsSide m.count (drop (length laid) given) (all_drop IsSide (length laid) given all_sides);
+      sides = all-take IsSide m.count (drop (length laid) given) (all-drop IsSide (length laid) given all_sides);
       room = omega (arith, long, new_fits, few);
     }
 
@@ -80,16 +80,16 @@ module _ (given : List ℕ) (all_sides : AllByRecursion IsSide given) (few : len
         (subst (AgreesAt (first_width w given) t laid (after_moves start (take i w)) (drop i w)) parted (s.agrees t l)))
 
     -- where there is no turn, no tiling has the word with these sides
-    pub placed_none : ((v : Segment) → IsTurn (first_width w given) laid
+    pub placed_none : ((v : Segment) → FillsValley (first_width w given) laid
         (record { count = length (take m.count (drop (length laid) given)); signs = m.signs }) (take m.count (drop (length laid) given)) v → ⊥)
         → (t : Tiling) → IsLaidWith w given t → ⊥
     placed_none never t l = let a = agree t l in
-        never a.valley (subst (λ (n : Move). IsTurn (first_width w given) laid n (take m.count (drop (length laid) given)) a.valley) same_move a.turn)
+        never a.valley (subst (λ (n : Move). FillsValley (first_width w given) laid n (take m.count (drop (length laid) given)) a.valley) same_move a.turn)
 
-    module _ (v : Segment) (turn : IsTurn (first_width w given) laid
+    module _ (v : Segment) (turn : FillsValley (first_width w given) laid
         (record { count = length (take m.count (drop (length laid) given)); signs = m.signs }) (take m.count (drop (length laid) given)) v) where
-      own_turn : IsTurn (first_width w given) laid m (take m.count (drop (length laid) given)) v
-      own_turn = subst (λ (n : Move). IsTurn (first_width w given) laid n (take m.count (drop (length laid) given)) v) (sym same_move) turn
+      own_turn : FillsValley (first_width w given) laid m (take m.count (drop (length laid) given)) v
+      own_turn = subst (λ (n : Move). FillsValley (first_width w given) laid n (take m.count (drop (length laid) given)) v) (sym same_move) turn
 
       board_next : IsBoard (first_width w given) (laid ++ laid_group v.x v.level (take m.count (drop (length laid) given)))
           ((take first numbers ++ numbers_from (length laid + 1) (length (take m.count (drop (length laid) given)))) ++ drop end numbers)

@@ -1,14 +1,14 @@
 -- Numbers of squares beside a valley: what they name when more is laid, and how they are cut there.
 use Rattle.std.specs.List.{AllByRecursion}
-use Rattle.std.proofs.Common.{List, Some, [], ap, arith, drop, inl, inr, length, map, refl, slice_get, suc, sym}
-use Rattle.std.proofs.Common.{take, zero, ℕ, ◌++◌, ◌+◌, ◌-◌, ◌<◌, ◌∙◌, ◌∷◌, ◌≡◌, ◌≤◌, ◌⊎◌}
-use Rattle.std.proofs.lemmas.List.{append_assoc, drop_at, length-append, take_at}
+use Rattle.std.proofs.Common.{List, Some, [], ap, arith, inl, inr, length, map, refl, slice_get, suc, sym}
+use Rattle.std.proofs.Common.{zero, ℕ, ◌++◌, ◌+◌, ◌-◌, ◌<◌, ◌∙◌, ◌∷◌, ◌≡◌, ◌≤◌, ◌⊎◌}
+use Rattle.std.proofs.lemmas.List.{append_assoc, length-append}
 use Rattle.bk_laws.proofs.ListPlaces.{get_append, get_last, get_some}
 use Rattle.bk_tiling.specs.declared.Square.{Square}
 use Rattle.bk_word.specs.Play.{numbers_from}
 use Rattle.bk_word.specs.declared.Sign.{Sign}
-use Rattle.bk_word_net.proofs.NumberedSquares.{numbered_square}
-use Rattle.bk_word_net.proofs.NumberedValley.{SeesLeft, SeesRight}
+use Rattle.bk_word_net.proofs.Outlines.NumberedSquares.{numbered_square}
+use Rattle.bk_word_net.proofs.Outlines.NumberedValley.{SeesLeft, SeesRight}
 use Rattle.bk_word_net.specs.LaidOutline.{IsNumber, bottom_at, square_at}
 
 -- numbers of laid squares stay so, with the same squares
@@ -50,10 +50,6 @@ all_known_more laid more (n ∷ numbers) a = (known_more laid more n a.0, all_kn
 pub known_new : (squares : List Square) (n k : ℕ) → 0 < n → n + k ≤ length squares + 1 → AllByRecursion (IsNumber squares) (numbers_from n k)
 known_new squares n zero h e = tt
 known_new squares n (suc k) h e = ((h, omega arith), known_new squares (n + 1) k (omega arith) (omega arith))
-
--- the part of a list in the middle
-pub middle : (xs ys zs : List ℕ) (a k : ℕ) → a ≡ length xs → k ≡ length ys → take k (drop a (xs ++ (ys ++ zs))) ≡ ys
-middle xs ys zs a k e f = ap (take k) (drop_at xs (ys ++ zs) a (sym e)) ∙ take_at ys zs k (sym f)
 
 -- how the numbers at one side of the valley are cut: those beside it and the others
 pub record CutLeft (laid : List Square) (front depths : List ℕ) : Type 0 where

@@ -5,7 +5,7 @@ use Rattle.std.proofs.lemmas.List.{length-take-le}
 use Rattle.bk_laws.proofs.ListPlaces.{get_some}
 use Rattle.bk_tiling.specs.CodeOrder.{in_code_order}
 use Rattle.bk_tiling.specs.Column.{depth}
-use Rattle.bk_tiling.specs.Kept.{IsSide}
+use Rattle.bk_tiling.specs.KeptTiling.{IsSide}
 use Rattle.bk_tiling.specs.SquareGroups.{laid_group}
 use Rattle.bk_tiling.specs.Tiling.{Tiling}
 use Rattle.bk_tiling.specs.declared.Segment.{Segment}
@@ -19,7 +19,7 @@ use Rattle.bk_skel.proofs.PlacingMore.{can_lay, new_fits, placed_more, placed_no
 use Rattle.bk_skel.proofs.PlacedWhole.{placed_closed, placed_end}
 use Rattle.bk_word_net.specs.LaidTiling.{IsLaidWith}
 use Rattle.bk_skel.specs.Board.{CanLay, IsClosed}
-use Rattle.bk_word_net.specs.LaidOutline.{IsTurn, front_of}
+use Rattle.bk_word_net.specs.LaidOutline.{FillsValley, front_of}
 use Rattle.bk_play.specs.TurnRecord.{SaysWhere}
 use Rattle.bk_play.specs.declared.turns.MoveRecord.{MoveRecord}
 
@@ -66,42 +66,42 @@ module _ (w : Word) (legal : IsLegal w) (given : List ℕ) (all_sides : AllByRec
           (can_lay given all_sides few w legal i laid numbers s (get_some w i below).0 at first (first + closed) place end))),
     )
 
-    turn_as : (v : Segment) → IsTurn width laid (record { count = length new; signs = signs }) new v
-        → IsTurn (first_width w given) laid (record {
+    turn_as : (v : Segment) → FillsValley width laid (record { count = length new; signs = signs }) new v
+        → FillsValley (first_width w given) laid (record {
           count = length (take (get_some w i below).0.count (drop (length laid) given));
           signs =
               (get_some w i below).0.signs;
         }) (take (get_some w i below).0.count (drop (length laid) given)) v
-    turn_as v t = subst (λ (n : ℕ). IsTurn n laid
+    turn_as v t = subst (λ (n : ℕ). FillsValley n laid
         (record { count = length (take (get_some w i below).0.count (drop (length laid) given)); signs = (get_some w i below).0.signs })
         (take (get_some w i below).0.count (drop (length laid) given)) v) width_is
-        (subst (λ (gs : List Sign). IsTurn width laid
+        (subst (λ (gs : List Sign). FillsValley width laid
         (record { count = length (take (get_some w i below).0.count (drop (length laid) given)); signs = gs })
         (take (get_some w i below).0.count (drop (length laid) given)) v) (sym own_signs)
-        (subst (λ (ns : List ℕ). IsTurn width laid (record { count = length ns; signs = signs }) ns v) taken t))
+        (subst (λ (ns : List ℕ). FillsValley width laid (record { count = length ns; signs = signs }) ns v) taken t))
 
-    turn_back : (v : Segment) → IsTurn (first_width w given) laid
+    turn_back : (v : Segment) → FillsValley (first_width w given) laid
         (record { count = length (take (get_some w i below).0.count (drop (length laid) given)); signs = (get_some w i below).0.signs })
         (take (get_some w i below).0.count (drop (length laid) given)) v
-        → IsTurn width laid (record { count = length new; signs = signs }) new v
-    turn_back v t = subst (λ (ns : List ℕ). IsTurn width laid (record { count = length ns; signs = signs }) ns v) (sym taken)
-        (subst (λ (gs : List Sign). IsTurn width laid
+        → FillsValley width laid (record { count = length new; signs = signs }) new v
+    turn_back v t = subst (λ (ns : List ℕ). FillsValley width laid (record { count = length ns; signs = signs }) ns v) (sym taken)
+        (subst (λ (gs : List Sign). FillsValley width laid
         (record { count = length (take (get_some w i below).0.count (drop (length laid) given)); signs = gs })
         (take (get_some w i below).0.count (drop (length laid) given)) v) own_signs
-        (subst (λ (n : ℕ). IsTurn n laid (record {
+        (subst (λ (n : ℕ). FillsValley n laid (record {
           count = length (take (get_some w i below).0.count (drop (length laid) given));
           signs =
               (get_some w i below).0.signs;
         }) (take (get_some w i below).0.count (drop (length laid) given)) v) (sym width_is) t))
 
     -- where it has no turn, no tiling has the word with these sides
-    pub step_none : ((v : Segment) → IsTurn width laid (record { count = length new; signs = signs }) new v → ⊥) → (t : Tiling) → IsLaidWith w given t → ⊥
+    pub step_none : ((v : Segment) → FillsValley width laid (record { count = length new; signs = signs }) new v → ⊥) → (t : Tiling) → IsLaidWith w given t → ⊥
     step_none never = placed_none given all_sides few w legal i laid numbers s (get_some w i below).0 at first (first + closed) place end
         (λ v t. never v (turn_back v t))
 
     -- with it laid, the placing has come one move further
     pub step_more : (next : List Square) (next_numbers : List ℕ) → (v : Segment)
-        × (IsTurn width laid (record { count = length new; signs = signs }) new v × (next ≡ laid ++ laid_group v.x v.level new))
+        × (FillsValley width laid (record { count = length new; signs = signs }) new v × (next ≡ laid ++ laid_group v.x v.level new))
         → next_numbers ≡ (take first numbers ++ numbers_from (length laid + 1) (length new)) ++ drop (first + closed) numbers
         → IsPlacedTo w given (i + 1) next next_numbers
     step_more next next_numbers (v, (t, e)) f =
@@ -144,7 +144,7 @@ module _ (w : Word) (complete : IsComplete w) (given : List ℕ) (all_sides : Al
         (placed_closed given all_sides few w complete count i done laid numbers s)),
   )
 
-  -- and the tiling that they make has the word with these sides
+  -- past the last move the laid squares are a tiling that has the word with these sides
   pub end_is : (t : Tiling) → t ≡ record { width = width; height = depth laid 0; squares = in_code_order laid } → IsLaidWith w given t
   end_is t e = subst (IsLaidWith w given) (sym
       (e ∙ ap (λ (n : ℕ). record { width = n; height = depth laid 0; squares = in_code_order laid }) width_is))

@@ -1,12 +1,12 @@
 -- One move of the placing, seen in the lists that the code keeps: the numbers of the valley's squares, and the gap over which they stand.
 use Rattle.std.specs.List.{AllByRecursion}
-use Rattle.std.proofs.Common.{List, [], ap, arith, drop, false, inl, inr, length, map, refl, slice_index_or, subst, sum, sym, take, ℕ, ◌*◌, ◌++◌, ◌+◌, ◌-◌, ◌<◌}
-use Rattle.std.proofs.Common.{◌==◌, ◌^◌, ◌∙◌, ◌∷◌, ◌≡◌, ◌≤◌}
-use Rattle.std.proofs.lemmas.Bool.Decides.{nat_tests}
+use Rattle.std.proofs.Common.{List, [], ap, arith, drop, inl, inr, length, map, refl, slice_index_or, subst, sum, sym, take, ℕ, ◌*◌, ◌++◌, ◌+◌, ◌-◌, ◌<◌}
+use Rattle.std.proofs.Common.{◌^◌, ◌∙◌, ◌∷◌, ◌≡◌, ◌≤◌}
 use Rattle.std.proofs.lemmas.List.Sums.{sum_by-cons}
 use Rattle.std.proofs.lemmas.List.{append_assoc, drop_at, length-append, take_at}
 use Rattle.bk_laws.proofs.AllOfLists.{all_left, all_right}
-use Rattle.bk_tiling.specs.Kept.{IsSide}
+use Rattle.bk_laws.proofs.ListParts.{take-drop_middle}
+use Rattle.bk_tiling.specs.KeptTiling.{IsSide}
 use Rattle.bk_tiling.specs.SquareGroups.{laid_group}
 use Rattle.bk_tiling.specs.declared.Segment.{Segment}
 use Rattle.bk_tiling.specs.declared.Square.{Square}
@@ -16,11 +16,10 @@ use Rattle.bk_lay.proofs.LaidRuns.{one_of}
 use Rattle.bk_lay.proofs.Valleys.{one_leftmost_valley}
 use Rattle.bk_lay.specs.Depiction.{Span}
 use Rattle.bk_lay.specs.TilingWord.{depth_before, depth_from, signs_between}
-use Rattle.bk_word_net.proofs.NumberedSquares.{numbered_square}
-use Rattle.bk_word_net.proofs.NumberedValley.{Sees, open_parts, sees}
+use Rattle.bk_word_net.proofs.Outlines.NumberedSquares.{numbered_square}
+use Rattle.bk_word_net.proofs.Outlines.NumberedValley.{Sees, open_parts, sees}
 use Rattle.bk_skel.specs.Board.{CanLay, IsFittingGap, columns_of}
-use Rattle.bk_skel.proofs.PlacingNumbers.{middle}
-use Rattle.bk_word_net.specs.LaidOutline.{IsGap, IsNumber, IsTurn, back_of, bottom_at, front_of, square_at}
+use Rattle.bk_word_net.specs.LaidOutline.{FillsValley, IsNumber, StandsOver, back_of, bottom_at, front_of, square_at}
 
 -- a span is as wide as the sides of its squares sum to
 pub span_columns : (laid : List Square) (level x : ℕ) (numbers : List ℕ) (end : ℕ) → Span laid level x numbers end → x + columns_of laid numbers ≡ end
@@ -33,10 +32,6 @@ span_columns laid level x (n ∷ numbers) end s =
       ap (λ (q : Square). q.s) (numbered_square laid n s.0 s.1),
     )
 
--- a number that the test finds not to be 0 is positive
-pub some_from : (n : ℕ) → false ≡ (n == 0) → 0 < n
-some_from n e = grind (arith, nat_tests)
-
 -- squares over the gap: the first begins at its left edge, they are as wide together as the gap, and end at its level
 pub gap_some : (width : ℕ) (laid : List Square) (numbers : List ℕ) (v : Segment) → 0 < length numbers → IsFittingGap width laid numbers v
     → ((square_at laid (slice_index_or numbers 0 0)).x ≡ v.x) × (columns_of laid numbers ≡ v.width) × (bottom_at laid (slice_index_or numbers 0 0) ≡ v.level)
@@ -46,7 +41,7 @@ gap_some width laid (n ∷ numbers) v h f = cases f.gap
     not_nil : n ∷ numbers ≡ [] → ⊥
     not_nil e = cc
 
-    cases : IsGap width laid (n ∷ numbers) v → ((square_at laid n).x ≡ v.x) × (columns_of laid (n ∷ numbers) ≡ v.width) × (bottom_at laid n ≡ v.level)
+    cases : StandsOver width laid (n ∷ numbers) v → ((square_at laid n).x ≡ v.x) × (columns_of laid (n ∷ numbers) ≡ v.width) × (bottom_at laid n ≡ v.level)
     cases (inl s) = (
       ap (λ (q : Square). q.x) (numbered_square laid n s.0 s.1) ∙ s.2,
       omega (arith, span_columns laid v.level v.x (n ∷ numbers) (v.x + v.width) s),
@@ -75,20 +70,20 @@ module _ (width : ℕ) (laid : List Square) (numbers : List ℕ) (first end : �
   pub order : first ≤ end
   order = omega (arith, c.first_is, c.end_is)
 
-  -- and within the numbers
+  -- the valley ends within the numbers
   pub within : end ≤ length numbers
   within = omega (arith, c.end_is, ap length parts, length-append (front_of o) (valley_of o ++ back_of o), length-append (valley_of o) (back_of o))
 
   -- it is cut out between them
   pub valley_is : take (end - first) (drop first numbers) ≡ valley_of o
   valley_is = ap (λ (ns : List ℕ). take (end - first) (drop first ns)) parts
-      ∙ middle (front_of o) (valley_of o) (back_of o) first (end - first) c.first_is (omega (arith, c.first_is, c.end_is))
+      ∙ take-drop_middle (front_of o) (valley_of o) (back_of o) first (end - first) c.first_is (omega (arith, c.first_is, c.end_is))
 
   -- what stands in front of it
   pub front_is : take first numbers ≡ front_of o
   front_is = ap (take first) parts ∙ take_at (front_of o) (valley_of o ++ back_of o) first (sym c.first_is)
 
-  -- and behind it
+  -- what stands behind the valley
   pub back_is : drop end numbers ≡ back_of o
   back_is = ap (drop end) (parts ∙ sym (append_assoc (front_of o) (valley_of o) (back_of o)))
       ∙ drop_at (front_of o ++ valley_of o) (back_of o) end (omega (arith, c.end_is, length-append (front_of o) (valley_of o)))
@@ -100,7 +95,7 @@ module _ (width : ℕ) (laid : List Square) (numbers : List ℕ) (first end : �
   some_width = (((seen.found).valley).flat).some
 
   -- the gap is no deeper than so many squares reach
-  pub low_level : (ns : List ℕ) → IsGap width laid ns gap → gap.level ≤ 999_999_999_999_999 * length laid
+  pub low_level : (ns : List ℕ) → StandsOver width laid ns gap → gap.level ≤ 999_999_999_999_999 * length laid
   low_level ns (inr top) = omega (arith, ap (λ (v : Segment). v.level) top.1)
   low_level [] (inl s) = absurd (omega (arith, s, some_width))
   low_level (n ∷ ns) (inl s) = omega (arith, s.3, (c.board).low s.0 (one_of laid (s.1).0 s.0 (s.1).2))
@@ -121,12 +116,12 @@ module _ (width : ℕ) (laid : List Square) (numbers : List ℕ) (first end : �
     low = omega (arith, level_small);
   })
 
-  -- and the new sides fit into the gap
+  -- the new sides fit into the gap
   pub fits : sum new ≡ gap.width → gap.x + sum new < 2 ^ 63
   fits e = omega (arith, e, flat_within, (c.board).narrow)
 
   -- there is no turn but one that fills this gap
-  pub only : (v : Segment) → IsTurn width laid (record { count = length new; signs = signs }) new v → v ≡ gap
+  pub only : (v : Segment) → FillsValley width laid (record { count = length new; signs = signs }) new v → v ≡ gap
   only v turn = one_leftmost_valley width laid v gap turn.found seen.found
 
   positive : (sides : List ℕ) → AllByRecursion IsSide sides → AllByRecursion (λ s. 0 < s) sides
@@ -136,16 +131,16 @@ module _ (width : ℕ) (laid : List Square) (numbers : List ℕ) (first end : �
   -- the move is a turn where it fills the gap, and its signs compare the bottoms
   pub turn : sum new ≡ gap.width → signs ≡ signs_between
       (depth_before laid gap.x ++ map (λ q. q.y + q.s) (laid_group gap.x gap.level new) ++ depth_from width laid (gap.x + gap.width))
-      → IsTurn width laid (record { count = length new; signs = signs }) new gap
+      → FillsValley width laid (record { count = length new; signs = signs }) new gap
   turn e f = record { found = seen.found; count = refl; some = (c.legal).some; positive = positive new c.sides; fills = e; signs = f }
 
   -- the signs of each turn do
-  pub signs_as : (v : Segment) → IsTurn width laid (record { count = length new; signs = signs }) new v
+  pub signs_as : (v : Segment) → FillsValley width laid (record { count = length new; signs = signs }) new v
       → signs ≡ signs_between (depth_before laid gap.x ++ map (λ q. q.y + q.s) (laid_group gap.x gap.level new) ++ depth_from width laid (gap.x + gap.width))
   signs_as v t = t.signs ∙ ap (λ (w : Segment). signs_between
       (depth_before laid w.x ++ map (λ q. q.y + q.s) (laid_group w.x w.level new) ++ depth_from width laid (w.x + w.width))) (only v t)
 
-  -- the same for lists and numbers under the names that the code has for them
+  -- the gap fits the numbers of the valley, for lists as the code names them
   pub fitting_as : (seen_laid : List Square) (seen_numbers : List ℕ) → seen_laid ≡ laid → seen_numbers ≡ numbers
       → IsFittingGap width seen_laid (take (end - first) (drop first seen_numbers)) gap
   fitting_as seen_laid seen_numbers e f = subst (λ (l : List Square). IsFittingGap width l (take (end - first) (drop first seen_numbers)) gap) (sym e)

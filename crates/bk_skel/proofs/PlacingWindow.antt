@@ -3,6 +3,7 @@ use Rattle.std.specs.List.{AllByRecursion}
 use Rattle.std.proofs.Common.{List, ap, arith, drop, length, map, refl, subst, sym, take, ℕ, ◌++◌, ◌+◌, ◌-◌, ◌∙◌, ◌≡◌, ◌≤◌}
 use Rattle.std.proofs.lemmas.List.{append_assoc, length-append, length-map, map-append}
 use Rattle.bk_laws.proofs.AllOfLists.{all_append, all_left, all_right}
+use Rattle.bk_laws.proofs.ListParts.{take-drop_middle}
 use Rattle.bk_tiling.specs.SquareGroups.{laid_group}
 use Rattle.bk_tiling.specs.declared.Segment.{Segment}
 use Rattle.bk_tiling.specs.declared.Square.{Square}
@@ -11,9 +12,9 @@ use Rattle.bk_word.specs.Outline.{Outline, valley_of}
 use Rattle.bk_word.specs.Play.{numbers_from}
 use Rattle.bk_word.specs.declared.Sign.{Sign}
 use Rattle.bk_lay.specs.TilingWord.{depth_before, depth_from}
-use Rattle.bk_word_net.proofs.NumberedValley.{Sees, sees}
+use Rattle.bk_word_net.proofs.Outlines.NumberedValley.{Sees, sees}
 use Rattle.bk_skel.specs.Board.{CanLay}
-use Rattle.bk_skel.proofs.PlacingNumbers.{bottoms_more, bottoms_new, all_known_more, known_new, middle, CutLeft, cut_left, CutRight, cut_right, Window}
+use Rattle.bk_skel.proofs.PlacingNumbers.{bottoms_more, bottoms_new, all_known_more, known_new, CutLeft, cut_left, CutRight, cut_right, Window}
 use Rattle.bk_word_net.specs.LaidOutline.{IsNumber, back_of, bottom_at, front_of}
 use Rattle.bk_skel.proofs.PlacingTurn.{known, front_is, back_is}
 use Rattle.bk_skel.proofs.NumbersAfter.{group_long, long}
@@ -70,7 +71,7 @@ module _ (width : ℕ) (laid : List Square) (numbers : List ℕ) (first end : �
         ((take first numbers ++ numbers_from (length laid + 1) (length new)) ++ drop end numbers))
         ≡ (l.beside ++ numbers_from (length laid + 1) (length new)) ++ r.beside
     window_is = ap (λ (ns : List ℕ). take (length signs + 1) (drop (first - 1) ns)) row
-        ∙ middle l.others ((l.beside ++ numbers_from (length laid + 1) (length new)) ++ r.beside) r.others (first - 1) (length signs + 1)
+        ∙ take-drop_middle l.others ((l.beside ++ numbers_from (length laid + 1) (length new)) ++ r.beside) r.others (first - 1) (length signs + 1)
         (omega (arith, l.place, c.first_is)) count
 
     left_known : AllByRecursion (IsNumber laid) l.beside
@@ -133,7 +134,7 @@ module _ (width : ℕ) (laid : List Square) (numbers : List ℕ) (first end : �
   window_inside = inside (cut_left laid (front_of o) (depth_before laid gap.x) seen.left)
       (cut_right laid (back_of o) (depth_from width laid (gap.x + gap.width)) seen.right)
 
-  -- the same for lists and numbers under the names that the code has for them
+  -- the window lies within the numbers, for lists as the code names them
   pub window_as : (new_laid : List Square) (new_numbers : List ℕ) (left many : ℕ) → new_laid ≡ laid ++ laid_group gap.x gap.level new
       → new_numbers ≡ (take first numbers ++ numbers_from (length laid + 1) (length new)) ++ drop end numbers → left ≡ first - 1 → many ≡ length signs + 1
       → Window new_laid (take many (drop left new_numbers)) signs

@@ -41,12 +41,15 @@ module _ (w : Word) (i : ℕ) (skel : Word) (p : IsPlayedTo w i skel) (m : Move)
   more : skel ++ m ∷ [] ≡ take (i + 1) w
   more = ap (λ (v : Word). v ++ m ∷ []) p.moves ∙ sym (take_more w i m at)
 
+  -- a legal next move of a word, played, makes one move more of it played
   pub played_more : IsLegalMove (outline_of skel) m → (next : Word) → next ≡ skel ++ m ∷ [] → IsPlayedTo w (i + 1) next
   played_more legal next e = record { moves = e ∙ more; legal = subst IsLegal (sym e) (legal-snoc start skel m p.legal legal) }
 
+  -- moves played from a word with the next one hang at most as many squares as the word
   pub played_few : order_of skel + m.count ≤ order_of w
   played_few = omega (arith, order_fits w i m at, ap order_of p.moves)
 
+  -- a next move that isn't legal is the first illegal one of its word
   pub first_illegal : i < length w → (IsLegalMove (outline_of skel) m → ⊥) → IsFirstIllegal w (i + 1)
   first_illegal below never = record {
     some = omega arith;

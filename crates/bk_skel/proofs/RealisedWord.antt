@@ -3,32 +3,29 @@ use Rattle.std.specs.Prelude.{All, List, nat_abs, ℤ}
 use Rattle.std.proofs.Common.{ap, arith, false, get_or, inl, inr, length, subst, suc, sym, true, ℕ, ◌<◌, ◌^◌, ◌≡◌, ◌≤◌, ◌⊎◌}
 use Rattle.bk_net.specs.Net.{HasNoLoose, Net}
 use Rattle.bk_flow.specs.FlowNumbers.{FlowNumbers, IsNarrowFlow}
-use Rattle.bk_flow.specs.Refusal.{IsRefusedFor}
+use Rattle.bk_flow.specs.RefusedNet.{IsRefusedFor}
 use Rattle.bk_flow.specs.Wide.{IsWide}
 use Rattle.bk_flow.specs.declared.FlowFault.TheVariants.{Loose, NoMemory, Wide}
 use Rattle.bk_flow.specs.declared.FlowFault.{FlowFault}
 use Rattle.bk_word.specs.Outline.{start}
 use Rattle.bk_word.specs.Play.{IsComplete, IsLegal, outline_of}
 use Rattle.bk_word.specs.Word.{Word, order_of}
-use Rattle.bk_word_net.proofs.NoLoose.{a_word_net_has_no_loose}
-use Rattle.bk_word_net.proofs.WordTilings.{wires_many}
-use Rattle.bk_word_net.proofs.Shape.{Shaped, shaped_moves, shaped_start}
+use Rattle.bk_word_net.proofs.WordFlows.NoLoose.{a_word_net_has_no_loose}
+use Rattle.bk_word_net.proofs.PlacedSquares.WordTilings.{wires_many}
+use Rattle.bk_word_net.proofs.Outlines.Shape.{Shaped, shaped_moves, shaped_start}
 use Rattle.bk_skel.specs.WideWord.{HasLargeCurrent, IsWideWord}
 use Rattle.bk_word_net.specs.WordNet.{net_of_word}
 
 module _ (w : Word) (net : Net) (is : net ≡ net_of_word w) where
+  -- the net of a word of at most 16 squares has at most 16 wires
   pub net_few : order_of w ≤ 16 → length net.wires ≤ 16
   net_few few = omega (arith, ap (λ (n : Net). length n.wires) is, wires_many w, few)
 
+  -- each node of the net of a complete word is joined to the last
   pub net_joined : IsComplete w → HasNoLoose net
   net_joined complete = subst HasNoLoose (sym is) (a_word_net_has_no_loose w complete).1
 
-  pub narrow_net : (IsWide net → false ≡ true) → IsWide (net_of_word w) → ⊥
-  narrow_net never wide = impossible (never (subst IsWide (sym is) wide))
-    where
-      impossible : false ≡ true → ⊥
-      impossible e = cc
-
+  -- a word whose net is wide is a wide word
   pub wide_net : IsWide net → IsWideWord w
   wide_net wide = inl (subst IsWide is wide)
 
@@ -53,29 +50,23 @@ open_end skel w same some legal never = (legal, cases (three (length (outline_of
     cases (inr (inl e)) = absurd (never (subst IsComplete (sym same) (record { legal = legal; some = some; one = e })))
     cases (inr (inr h)) = h
 
--- where the net isn't wide, the word is wide by its currents
-pub wide_by_currents : {E : Type 0} → (w : Word) → (IsWide (net_of_word w) → ⊥) → (E → HasLargeCurrent (net_of_word w))
-    × (HasLargeCurrent (net_of_word w) → E) → (E → IsWideWord w) × (IsWideWord w → E)
-wide_by_currents {E} w never both = (λ e. inr (both.0 e), λ wide. from wide)
-  where
-    from : IsWideWord w → E
-    from (inl wide) = absurd (never wide)
-    from (inr large) = both.1 large
-
 module _ (skel w : Word) (same : skel ≡ w) (complete : IsComplete skel) (net : Net) (is : net ≡ net_of_word skel) (fault : FlowFault)
     (refused : IsRefusedFor fault net) where
+  -- the fault that memory is wanting means a complete word of more than 16 squares
   pub memory_fault : fault ≡ NoMemory → IsComplete w × (16 < order_of w)
   memory_fault e = (subst IsComplete same complete, from (subst (λ (f : FlowFault). IsRefusedFor f net) e refused))
     where
       from : HasNoLoose net × (16 < length net.wires) → 16 < order_of w
       from r = omega (arith, r.1, ap (λ (n : Net). length n.wires) is, wires_many skel, ap order_of same)
 
+  -- the fault that a net is wide means a complete word that is wide
   pub wide_fault : fault ≡ Wide → IsComplete w × IsWideWord w
   wide_fault e = (subst IsComplete same complete, subst IsWideWord same (from (subst (λ (f : FlowFault). IsRefusedFor f net) e refused)))
     where
       from : HasNoLoose net × IsWide net → IsWideWord skel
       from r = wide_net skel net is r.1
 
+  -- no loose node is ever a fault
   pub loose_fault : (node : ℕ) → fault ≡ Loose node → ⊥
   loose_fault node e = from (subst (λ (f : FlowFault). IsRefusedFor f net) e refused)
     where
@@ -86,7 +77,7 @@ module _ (skel w : Word) (same : skel ≡ w) (complete : IsComplete skel) (net :
 pub large_word : (skel w : Word) → skel ≡ w → IsComplete skel → HasLargeCurrent (net_of_word skel) → IsComplete w × IsWideWord w
 large_word skel w same complete large = (subst IsComplete same complete, subst IsWideWord same (inr large))
 
--- and one whose net is neither wide nor has such a current isn't
+-- a complete word whose net is neither wide nor has a current that is too large is not wide
 pub not_wide : (skel w : Word) (net : Net) → skel ≡ w → net ≡ net_of_word skel → (IsWide net → ⊥)
     → (HasLargeCurrent (net_of_word skel) → false ≡ true) → IsWideWord w → ⊥
 not_wide skel w net same is never small wide = from (subst IsWideWord (sym same) wide)

@@ -17,6 +17,6 @@ module _ (w : Word) (total : ℤ) (currents : List ℤ) (p : IsPrimitiveFlow (ne
   pub large_by : (seen : List ℤ) → seen ≡ currents → Any (λ c. 10 ^ 15 ≤ nat_abs c) seen → HasLargeCurrent (net_of_word w)
   large_by seen a large = (total, currents, p, subst (Any (λ c. 10 ^ 15 ≤ nat_abs c)) a large)
 
-  -- and only that
+  -- only a large current makes the word wide
   pub large_from : (seen : List ℤ) → seen ≡ currents → HasLargeCurrent (net_of_word w) → Any (λ c. 10 ^ 15 ≤ nat_abs c) seen
   large_from seen a h = subst (Any (λ c. 10 ^ 15 ≤ nat_abs c)) (sym a) (large_in w total currents p h)

@@ -1,20 +1,20 @@
--- Squares placed move by move, from sides in the order of laying: the squares laid so far, and the numbers of those that
--- are open, from left to right. Squares are numbered from 1 in the order of laying.
+-- Squares placed move by move, from sides in the order of laying: the squares laid so far, and the numbers of those
+-- that are open, from left to right. Squares are numbered from 1 in the order of laying.
 -- Example (BoardExamples): 2u.2eu lays the sides 5, 3, 2, 1 in the width 8; square 3 has its bottom at 5, and square 4
 -- stands alone over the leftmost valley, of width 1, which a square of the side 1 fills.
 use Rattle.std.specs.List.{AllByRecursion, concat}
 use Rattle.std.specs.Prelude.{List, length, sum_by, ℕ, ◌*◌, ◌+◌, ◌<◌, ◌^◌, ◌≡◌, ◌≤◌}
-use Rattle.bk_tiling.specs.Kept.{IsSide}
+use Rattle.bk_tiling.specs.KeptTiling.{IsSide}
 use Rattle.bk_tiling.specs.Tiling.{IsOneOf}
 use Rattle.bk_tiling.specs.declared.Segment.{Segment}
 use Rattle.bk_tiling.specs.declared.Square.{Square}
 use Rattle.bk_word.specs.Outline.{IsLegalMove, Outline, valley_of}
 use Rattle.bk_word.specs.declared.Sign.{Sign}
-use Rattle.bk_word_net.specs.LaidOutline.{IsGap, IsNumber, ShowsLaid, front_of, square_at}
+use Rattle.bk_word_net.specs.LaidOutline.{IsNumber, ShowsLaid, StandsOver, front_of, square_at}
 
 -- where all fits the types of the code
 pub record IsFittingGap (width : ℕ) (laid : List Square) (numbers : List ℕ) (v : Segment) : Type 0 where
-  pub gap : IsGap width laid numbers v
+  pub gap : StandsOver width laid numbers v
   pub some : 0 < v.width
   pub known : AllByRecursion (IsNumber laid) numbers
   pub fits : v.x + v.width < 2 ^ 63
@@ -34,8 +34,10 @@ pub record IsBoard (width : ℕ) (laid : List Square) (numbers : List ℕ) (o : 
   pub few : length numbers ≤ length laid
   pub low : (q : Square) → IsOneOf q laid → q.y + q.s ≤ 999_999_999_999_999 * length laid
 
--- the move of these signs, of as many squares as sides, is legal, and its valley's numbers stand from `first` up to `end`
-pub record CanLay (width : ℕ) (laid : List Square) (numbers : List ℕ) (first end : ℕ) (signs : List Sign) (new : List ℕ) (o : Outline) : Type 0 where
+-- the move of these signs, of as many squares as sides, is legal, and its valley's numbers stand from `first` up to
+-- `end`
+pub record CanLay (width : ℕ) (laid : List Square) (numbers : List ℕ) (first end : ℕ) (signs : List Sign)
+    (new : List ℕ) (o : Outline) : Type 0 where
   pub board : IsBoard width laid numbers o
   pub legal : IsLegalMove o (record { count = length new; signs = signs })
   pub first_is : first ≡ length (front_of o)

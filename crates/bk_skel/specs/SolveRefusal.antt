@@ -1,6 +1,6 @@
 -- Why a word has no answer: which words are refused, and where.
--- Examples (RealisedExamples): 2u.2e.1 is refused for its second move, which wants two signs; 2u leaves two segments, and 2e, which leaves
--- one, is not refused for that.
+-- Examples (RealisedExamples): 2u.2e.1 is refused for its second move, which wants two signs; 2u leaves two segments,
+-- and 2e, which leaves one, is not refused for that.
 use Rattle.std.specs.Prelude.{length, take, ℕ, ◌-◌, ◌<◌, ◌≤◌}
 use Rattle.bk_word.specs.Play.{IsComplete, IsLegal, outline_of}
 use Rattle.bk_word.specs.Word.{Word, order_of}

@@ -1,10 +1,11 @@
 //! Squares placed along the moves of a complete word, from their sides.
 
 ghost use Rattle.std.specs.List.{AllByRecursion};
-ghost use Rattle.std.specs.Prelude.{IfSome, IsSomeAnd, IsTrue, drop, false, length, map, take, true, ℕ, ◌+◌, ◌++◌, ◌<◌, ◌^◌, ◌↔◌, ◌≡◌};
+ghost use Rattle.std.specs.Prelude.{IfSome, IsSomeAnd, IsTrue, drop, false, length, map, take, true, ℕ, ◌+◌, ◌++◌, ◌<◌};
+ghost use Rattle.std.specs.Prelude.{◌^◌, ◌↔◌, ◌≡◌};
 ghost use Rattle.bk_tiling.specs.CodeOrder.{in_code_order};
 ghost use Rattle.bk_tiling.specs.Column.{depth};
-ghost use Rattle.bk_tiling.specs.Kept.{IsSide};
+ghost use Rattle.bk_tiling.specs.KeptTiling.{IsSide};
 ghost use Rattle.bk_tiling.specs.SquareGroups.{laid_group};
 ghost use Rattle.bk_tiling.specs.Tiling.{Tiling as Tiled};
 ghost use Rattle.bk_tiling.specs.declared.Segment.{Segment as Gap};
@@ -15,7 +16,7 @@ ghost use Rattle.bk_lay.specs.TilingWord.{signs_between};
 ghost use Rattle.bk_word_net.specs.LaidTiling.{IsLaidWith};
 ghost use Rattle.bk_skel.specs.RealisedIn.{tiling_found};
 ghost use Rattle.bk_skel.specs.Board.{CanLay, IsClosed, IsFittingGap, columns_of};
-ghost use Rattle.bk_word_net.specs.LaidOutline.{IsNumber, IsTurn, bottom_at, square_at};
+ghost use Rattle.bk_word_net.specs.LaidOutline.{FillsValley, IsNumber, bottom_at, square_at};
 
 use arrayvec::ArrayVec;
 use bk_lay::sign_between;
@@ -23,7 +24,8 @@ use bk_play::{Skel, splice_numbers};
 use bk_tiling::{MOST_SQUARES, Segment, Square, Tiling, push_group, put_in_order, sum_of};
 use bk_word::Sign;
 
-// The numbers of the laid squares that are open, from left to right. Squares are numbered from 1 in the order of laying.
+// The numbers of the laid squares that are open, from left to right. Squares are numbered from 1 in the order of
+// laying.
 pub(crate) type Numbers = ArrayVec<u8, MOST_SQUARES>;
 
 /// What is found of a word that is laid in room that is there.
@@ -35,9 +37,9 @@ pub enum Realised {
     Nothing,
 }
 
-/// The tiling of a closed skeleton's word whose squares have these sides, in the order in which the word lays them; each is
-/// 1 to 999,999,999,999,999. It is the only one. `None` comes exactly where no tiling of the word has them: where the
-/// squares of a move don't fill its valley, or their bottoms don't compare as its signs say (own).
+/// The tiling of a closed skeleton's word whose squares have these sides, in the order in which the word lays them;
+/// each is 1 to 999,999,999,999,999. It is the only one. `None` comes exactly where no tiling of the word has them:
+/// where the squares of a move don't fill its valley, or their bottoms don't compare as its signs say (own).
 pub fn placed(skel: &Skel, sides: &[u64]) -> Option<Tiling>
     requires closed { IsComplete skel.now }
     requires count { length sides.now ≡ order_of skel.now }
@@ -53,7 +55,7 @@ pub fn placed(skel: &Skel, sides: &[u64]) -> Option<Tiling>
     }
 }
 
-// The same in room that is there: for the squares that are laid, and for the tiling.
+// What `placed` answers, in room that is there: for the squares that are laid, and for the tiling.
 pub(crate) fn place(
     skel: &Skel,
     sides: &[u64],
@@ -64,7 +66,8 @@ pub(crate) fn place(
     requires count { length sides.now ≡ order_of skel.now }
     requires sides { AllByRecursion IsSide sides.now }
     ensures placed { IfSome (tiling_found result tiling.new) (IsLaidWith skel.now sides.now) }
-    ensures only { (u : Tiled) → IsLaidWith skel.now sides.now u → IsSomeAnd (tiling_found result tiling.new) (λ t. t ≡ u) }
+    ensures only { (u : Tiled) → IsLaidWith skel.now sides.now u
+        → IsSomeAnd (tiling_found result tiling.new) (λ t. t ≡ u) }
 {
     let moves = skel.moves();
     let width = sum_of(&sides[..usize::from(skel.turn(0).count)]);
@@ -97,11 +100,15 @@ pub(crate) fn lay_move(
     new: &[u64],
 ) -> bool
     requires { (o : Outline) × CanLay width laid.old.items numbers.old.items first end signs.now new.now o }
-    ensures turn { result ≡ true → (v : Gap) × (IsTurn width laid.old.items (record { count = length new.now; signs = signs.now }) new.now v
+    ensures turn { result ≡ true
+        → (v : Gap) × (FillsValley width laid.old.items (record { count = length new.now; signs = signs.now }) new.now v
         × (laid.new.items ≡ laid.old.items ++ laid_group v.x v.level new.now)) }
-    ensures numbers { result ≡ true → numbers.new.items ≡ (take first numbers.old.items ++ numbers_from (length laid.old.items + 1) (length new.now))
+    ensures numbers { result ≡ true
+        → numbers.new.items ≡
+        (take first numbers.old.items ++ numbers_from (length laid.old.items + 1) (length new.now))
         ++ drop end numbers.old.items }
-    ensures none { result ≡ false → (v : Gap) → ¬ (IsTurn width laid.old.items (record { count = length new.now; signs = signs.now }) new.now v) }
+    ensures none { result ≡ false → (v : Gap)
+        → ¬ (FillsValley width laid.old.items (record { count = length new.now; signs = signs.now }) new.now v) }
 {
     let gap = gap_under(laid, &numbers[first..end], width);
     if sum_of(new) != gap.width {
@@ -117,7 +124,8 @@ pub(crate) fn lay_move(
 // Makes the tiling of all squares that are laid, whose bottoms lie at one level, and puts these in its order.
 fn close(laid: &mut ArrayVec<Square, MOST_SQUARES>, numbers: &[u8], width: u64, tiling: &mut Tiling)
     requires { (o : Outline) × IsClosed width laid.old.items numbers.now o }
-    ensures { tiling.new ≡ record { width = width; height = depth laid.old.items 0; squares = in_code_order laid.old.items } }
+    ensures { tiling.new
+        ≡ record { width = width; height = depth laid.old.items 0; squares = in_code_order laid.old.items } }
 {
     let height = bottom_of(laid, numbers[0]);
     put_in_order(laid);

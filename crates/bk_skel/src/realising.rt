@@ -1,10 +1,11 @@
 //! The primitive tiling of a word, from the flow of its net.
 
 ghost use Rattle.std.specs.List.{AllByRecursion};
-ghost use Rattle.std.specs.Prelude.{All, Any, IfErr, IfNone, IfOk, IfSome, IsErr, IsOk, IsTrue, OnOk, length, map, nat_abs, pos};
+ghost use Rattle.std.specs.Prelude.{All, Any, IfErr, IfNone, IfOk, IfSome, IsErr, IsOk, IsTrue, OnOk, length, map};
+ghost use Rattle.std.specs.Prelude.{nat_abs, pos};
 ghost use Rattle.std.specs.Prelude.{◌<◌, ◌^◌, ◌↔◌, ◌≡◌, ◌≤◌, ◌≤ℤ◌};
 ghost use Rattle.bk_net.specs.Flow.{IsPrimitiveFlow};
-ghost use Rattle.bk_tiling.specs.Kept.{IsSide};
+ghost use Rattle.bk_tiling.specs.KeptTiling.{IsSide};
 ghost use Rattle.bk_word.specs.Play.{IsComplete, IsLegal};
 ghost use Rattle.bk_word.specs.Word.{order_of};
 ghost use Rattle.bk_skel.specs.RealisedIn.{tiling_found};
@@ -36,9 +37,10 @@ pub enum SolveFault {
     NoMemory,
 }
 
-/// The primitive tiling whose word is the list of moves of a closed skeleton of at most 16 squares: no other has this word
-/// (Brooks, Smith, Stone and Tutte 1940). `None` comes exactly where the word isn't wide and no tiling has it. `Wide` comes
-/// exactly where the word is wide (own), which no such word is (`no_small_word_is_wide`). It takes no memory.
+/// The primitive tiling whose word is the list of moves of a closed skeleton of at most 16 squares: no other has this
+/// word (Brooks, Smith, Stone and Tutte 1940). `None` comes exactly where the word isn't wide and no tiling has it.
+/// `Wide` comes exactly where the word is wide (own), which no such word is (`no_small_word_is_wide`). It takes no
+/// memory.
 pub fn realise_small(skel: &Skel) -> Result<Option<Tiling>, Wide>
     requires closed { IsComplete skel.now }
     requires few { order_of skel.now ≤ 16 }
@@ -49,8 +51,8 @@ pub fn realise_small(skel: &Skel) -> Result<Option<Tiling>, Wide>
     Ok(realise_by(skel, &flow_of(skel)))
 }
 
-/// The primitive flow of the net of a closed skeleton's word of at most 16 squares. It takes no memory, and no room for a
-/// tiling. (Own.)
+/// The primitive flow of the net of a closed skeleton's word of at most 16 squares. It takes no memory, and no room for
+/// a tiling.
 pub fn flow_of(skel: &Skel) -> NarrowFlow
     requires closed { IsComplete skel.now }
     requires few { order_of skel.now ≤ 16 }
@@ -59,8 +61,8 @@ pub fn flow_of(skel: &Skel) -> NarrowFlow
     narrow_flow(&skel.net())
 }
 
-/// What `realise_small` answers, from the flow that `flow_of` gives: the primitive tiling of the word, or `None` where no
-/// tiling has it. (Own.)
+/// What `realise_small` answers, from the flow that `flow_of` gives: the primitive tiling of the word, or `None` where
+/// no tiling has it.
 pub fn realise_by(skel: &Skel, flow: &NarrowFlow) -> Option<Tiling>
     requires closed { IsComplete skel.now }
     requires flow { IsPrimitiveFlow (net_of_word skel.now) flow.now.total flow.now.currents }
@@ -74,9 +76,9 @@ pub fn realise_by(skel: &Skel, flow: &NarrowFlow) -> Option<Tiling>
     }
 }
 
-/// The same in room that is there: for the squares that are laid, and for the tiling. `Found` comes exactly where there is a
-/// tiling, which stands in `tiling` then; with `Nothing` that is left as it is or not. What stands in `laid`, before or after,
-/// says nothing. (Own.)
+/// What `realise_by` answers, in room that is there: for the squares that are laid, and for the tiling. `Found` comes
+/// exactly where there is a tiling, which stands in `tiling` then; with `Nothing` that is left as it is or not. What
+/// stands in `laid`, before or after, says nothing.
 pub fn realise_by_in(
     skel: &Skel,
     flow: &NarrowFlow,
@@ -93,7 +95,7 @@ pub fn realise_by_in(
     }
 }
 
-/// Room in which words are realised one after another. What stands in it after a word says nothing. (Own.)
+/// Room in which words are realised one after another. What stands in it after a word says nothing.
 #[derive(Drop)]
 pub struct Room {
     skel: Skel,
@@ -110,10 +112,10 @@ impl Room {
     }
 }
 
-/// The primitive tiling that has a word of at least one move; no other has it (Brooks, Smith, Stone and Tutte 1940). It is
-/// refused with the first of these that holds: a move is illegal; more than one segment is left; there is no memory, never
-/// at 16 squares or fewer; the word is wide. `None` comes exactly where the word is complete and not wide, and no tiling
-/// has it (own).
+/// The primitive tiling that has a word of at least one move; no other has it (Brooks, Smith, Stone and Tutte 1940). It
+/// is refused with the first of these that holds: a move is illegal; more than one segment is left; there is no memory,
+/// never at 16 squares or fewer; the word is wide. `None` comes exactly where the word is complete and not wide, and no
+/// tiling has it (own).
 pub fn realise(alloc: Global, word: &Word) -> Result<Option<Tiling>, SolveFault>
     requires { 0 < length word.now }
     ensures complete { OnOk result (IsComplete word.now) }
@@ -130,7 +132,8 @@ pub fn realise(alloc: Global, word: &Word) -> Result<Option<Tiling>, SolveFault>
     }
 }
 
-/// The same in room that is there: where a tiling is found it stands in `tiling`, which else is left as it is or not. (Own.)
+/// What `realise` answers, in room that is there: where a tiling is found it stands in `tiling`, which else is left as
+/// it is or not.
 pub fn realise_in(
     alloc: Global,
     word: &Word,
@@ -155,8 +158,8 @@ pub fn realise_in(
     Ok(realise_few(&room.skel, &mut room.laid, tiling))
 }
 
-/// The skeleton of a word: its moves, played one after the other. Where they are not all legal, the number of the first that isn't,
-/// from 1. (Own.)
+/// The skeleton of a word: its moves, played one after the other. Where they are not all legal, the number of the first
+/// that isn't, from 1.
 pub fn skeleton_of(word: &Word) -> Result<Skel, usize>
     ensures skeleton { IfOk result (λ skel. skel ≡ word.now) }
     ensures legal { OnOk result (IsLegal word.now) }
@@ -199,7 +202,7 @@ fn realise_few(
     realise_by_in(skel, &flow_of(skel), laid, tiling)
 }
 
-// The same of any closed skeleton, whose net is solved in memory where it has more than 16 squares.
+// What a closed skeleton is realised as, whose net is solved in memory where it has more than 16 squares.
 fn realise_in_memory(
     alloc: Global,
     skel: &Skel,

@@ -1,12 +1,8 @@
 -- A tiling has at most one canonical tiling; and where it is its own, it is in lowest terms.
-use Rattle.std.specs.Cmp.Lexicographic.{nat_list_cmp_total, slice_cmp}
 use Rattle.std.specs.List.{AllByRecursion}
-use Rattle.std.specs.Ordering.{is_le, nat_cmp, ordering_reverse, ordering_then}
-use Rattle.std.specs.declared.cmp.Ordering.{Ordering}
-use Rattle.std.specs.declared.cmp.Ordering.TheVariants.{Equal, Greater, Less}
 use Rattle.std.proofs.Common.{Bool, List, [], ap, arith, cond, false, inl, inr, length, map, refl, subst, sym, true, ℕ, ◌*◌, ◌+◌, ◌<◌, ◌∙◌, ◌∷◌, ◌≡◌, ◌≤◌, ◌⊎◌}
-use Rattle.std.proofs.lemmas.Bool.Decides.{nat_tests}
 use Rattle.bk_laws.proofs.Products.{mul_one}
+use Rattle.bk_laws.proofs.Orderings.{slice_cmp-antisymmetric}
 use Rattle.bk_tiling.proofs.EnlargedTilings.{enlarged-once}
 use Rattle.bk_tiling.specs.CodeOrder.{comes_before, in_code_order, with_square}
 use Rattle.bk_tiling.specs.Scale.{enlarged, enlarged_square}
@@ -22,44 +18,6 @@ use Rattle.bk_sym.specs.Image.{image, image_square}
 use Rattle.bk_sym.specs.ImageLaws.{ACanonicalTilingIsOne}
 use Rattle.bk_sym.specs.declared.Turn.{Turn}
 use Rattle.bk_sym.specs.declared.Turn.TheVariants.{FlipX, FlipY, Half, Same, Swap, SwapFlipX, SwapFlipY, SwapHalf}
-
--- lists of numbers that compare as equal are equal
-pub cmp_equal : (xs ys : List ℕ) → slice_cmp nat_cmp xs ys ≡ Equal → xs ≡ ys
-cmp_equal [] [] e = refl
-cmp_equal [] (y ∷ ys) e = absurd (impossible e)
-  where
-    impossible : Less ≡ Equal → ⊥
-    impossible f = cc
-cmp_equal (x ∷ xs) [] e = absurd (impossible e)
-  where
-    impossible : Greater ≡ Equal → ⊥
-    impossible f = cc
-cmp_equal (x ∷ xs) (y ∷ ys) e = cases (nat_cmp x y) refl (cmp_equal xs ys)
-  where
-    equal : (x y : ℕ) → nat_cmp x y ≡ Equal → x ≡ y
-    equal x y f = grind (arith, nat_tests)
-
-    less : Less ≡ Equal → ⊥
-    less f = cc
-
-    greater : Greater ≡ Equal → ⊥
-    greater f = cc
-
-    cases : (r : Ordering) → nat_cmp x y ≡ r → (slice_cmp nat_cmp xs ys ≡ Equal → xs ≡ ys) → x ∷ xs ≡ y ∷ ys
-    cases Less f rest = absurd (less (sym (ap (λ (o : Ordering). ordering_then o (slice_cmp nat_cmp xs ys)) f) ∙ e))
-    cases Greater f rest = absurd (greater (sym (ap (λ (o : Ordering). ordering_then o (slice_cmp nat_cmp xs ys)) f) ∙ e))
-    cases Equal f rest = λ i. equal x y f i ∷ rest (sym (ap (λ (o : Ordering). ordering_then o (slice_cmp nat_cmp xs ys)) f) ∙ e) i
-
-clash : false ≡ true → ⊥
-clash e = cc
-
-not_both_less : (xs ys : List ℕ) → is_le (slice_cmp nat_cmp xs ys) ≡ true → is_le (slice_cmp nat_cmp ys xs) ≡ true → xs ≡ ys
-not_both_less xs ys a b = cases (slice_cmp nat_cmp xs ys) refl
-  where
-    cases : (r : Ordering) → slice_cmp nat_cmp xs ys ≡ r → xs ≡ ys
-    cases Less e = absurd (clash (sym (ap is_le (nat_list_cmp_total.antisymm ys xs ∙ ap ordering_reverse e)) ∙ b))
-    cases Equal e = cmp_equal xs ys e
-    cases Greater e = absurd (clash (sym (ap is_le e) ∙ a))
 
 abbrev SameSize : Tiling → Tiling → Type 0
 SameSize s i = ((i.width ≡ s.width) × (i.height ≡ s.height)) ⊎ ((i.width ≡ s.height) × (i.height ≡ s.width))
@@ -87,7 +45,7 @@ a_canonical_tiling_is_one t u v tiling a b = (
   a_flat_list_fixes_a_tiling u v u_is v_is
       (same_width (scaled_down_tiling t) u v (subst (SameSize (scaled_down_tiling t)) (sym a.image_of) (size (scaled_down_tiling t) a.turn))
       (subst (SameSize (scaled_down_tiling t)) (sym b.image_of) (size (scaled_down_tiling t) b.turn)) a.lying b.lying)
-      (not_both_less (flat (code_of u)) (flat (code_of v)) u_least v_least),
+      (slice_cmp-antisymmetric (flat (code_of u)) (flat (code_of v)) u_least v_least),
 )
   where
     u_is : IsTiling u

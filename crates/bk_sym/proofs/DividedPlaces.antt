@@ -109,6 +109,7 @@ module _ (t : Tiling) (tiling : IsTiling t) (g : ℕ) (sides : (q : Square) → 
   high_enough : 0 < t.height
   high_enough = omega (arith, (within_of t tiling first.0 first.1).bottom, side_of t tiling first.0 first.1)
 
+  -- a common divisor of the sides divides the width
   pub width_divides : g ∣ t.width
   width_divides = from (over (t.width - 1) 0 (omega (arith, wide_enough t tiling)) high_enough)
     where
@@ -116,6 +117,7 @@ module _ (t : Tiling) (tiling : IsTiling t) (g : ℕ) (sides : (q : Square) → 
       from (r, k, e) = subst (λ (m : ℕ). g ∣ m) (omega (arith, (within_of t tiling r k).right, (over_from (t.width - 1) 0 r e).right))
           (dvd-add g (column (suc r.x) r k (omega arith)) (sides r k))
 
+  -- a common divisor of the sides divides the height
   pub height_divides : g ∣ t.height
   height_divides = from (over 0 (t.height - 1) (wide_enough t tiling) (omega (arith, high_enough)))
     where
@@ -123,12 +125,15 @@ module _ (t : Tiling) (tiling : IsTiling t) (g : ℕ) (sides : (q : Square) → 
       from (r, k, e) = subst (λ (m : ℕ). g ∣ m) (omega (arith, (within_of t tiling r k).bottom, (over_from 0 (t.height - 1) r e).bottom))
           (dvd-add g (level (suc r.y) r k (omega arith)) (sides r k))
 
+  -- a common divisor of the sides divides the column of each square
   pub x_divides : (q : Square) → IsOneOf q t.squares → g ∣ q.x
   x_divides q h = column (suc q.x) q h (omega arith)
 
+  -- a common divisor of the sides divides the level of each square
   pub y_divides : (q : Square) → IsOneOf q t.squares → g ∣ q.y
   y_divides q h = level (suc q.y) q h (omega arith)
 
+  -- a common divisor of the sides is not 0
   pub positive : 0 < g
   positive = cases (cases_lt 0 g)
     where

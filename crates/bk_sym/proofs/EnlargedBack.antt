@@ -1,10 +1,10 @@
 -- What a tiling is an enlargement of is a tiling.
 use Rattle.std.specs.List.{AllByRecursion}
-use Rattle.std.proofs.Common.{List, [], arith, inl, inr, map, sym, true, ℕ, ◌*◌, ◌+◌, ◌<◌, ◌∙◌, ◌∷◌, ◌≡◌, ◌≤◌, ◌⊎◌}
+use Rattle.std.proofs.Common.{List, [], arith, inl, inr, map, sym, true, ℕ, ◌*◌, ◌+◌, ◌<◌, ◌∙◌, ◌∷◌, ◌≡◌, ◌⊎◌}
 use Rattle.std.proofs.Math.Nat.{mul-le-mul_left}
-use Rattle.std.proofs.lemmas.Bool.{cases_lt}
 use Rattle.std.proofs.lemmas.List.{length-map}
 use Rattle.bk_laws.proofs.Products.{mul_below, mul_not_below, mul_one}
+use Rattle.bk_laws.proofs.Multiples.{lt-of_mul_lt}
 use Rattle.bk_tiling.proofs.Cells.{all_from}
 use Rattle.bk_tiling.proofs.Scaling.{before_cases, before_from, in_enlarged}
 use Rattle.bk_tiling.proofs.TilingLaws.{cell_once, side_of, within_of}
@@ -14,20 +14,13 @@ use Rattle.bk_tiling.specs.Tiling.{IsTiling, IsWithin, Tiling, covers, whole}
 use Rattle.bk_tiling.specs.declared.Square.{Square}
 use Rattle.bk_sym.proofs.Images.{count_same, same_cover}
 
-mul_below_back : (k a b : ℕ) → k * a < k * b → a < b
-mul_below_back k a b h = cases (cases_lt a b)
-  where
-    cases : (a < b) ⊎ (b ≤ a) → a < b
-    cases (inl l) = l
-    cases (inr l) = absurd (omega (arith, h, mul-le-mul_left k l))
-
 -- what a tiling is an enlargement of is a tiling
 pub scaled_down_is : (k : ℕ) (t : Tiling) → 0 < k → IsTiling (enlarged k t) → IsTiling t
 scaled_down_is k t h tiling = record {
   tiles = record {
     some = omega (arith, (tiling.tiles).some, length-map t.squares (enlarged_square k));
     sides = all_from (λ q. 0 < q.s) t.squares
-        (λ q m. mul_below_back k 0 q.s (omega (arith, side_of (enlarged k t) tiling (enlarged_square k q) (in_enlarged k t.squares q m))));
+        (λ q m. lt-of_mul_lt k 0 q.s (omega (arith, side_of (enlarged k t) tiling (enlarged_square k q) (in_enlarged k t.squares q m))));
     within = all_from (IsWithin (whole t)) t.squares (λ q m. let w = within_of (enlarged k t) tiling (enlarged_square k q) (in_enlarged k t.squares q m) in
         record {
           left = omega arith;
@@ -45,9 +38,9 @@ scaled_down_is k t h tiling = record {
     cell i j q = same_cover (k * i) (k * j) i j (enlarged_square k q) q
         (λ o. record {
           left = mul_not_below k q.x i o.left h;
-          right = mul_below_back k i (q.x + q.s) (omega (arith, o.right));
+          right = lt-of_mul_lt k i (q.x + q.s) (omega (arith, o.right));
           top = mul_not_below k q.y j o.top h;
-          bottom = mul_below_back k j (q.y + q.s) (omega (arith, o.bottom));
+          bottom = lt-of_mul_lt k j (q.y + q.s) (omega (arith, o.bottom));
         })
         (λ o. record {
           left = mul-le-mul_left k o.left;
@@ -60,8 +53,8 @@ scaled_down_is k t h tiling = record {
     before q r e = before_from q r (cases (before_cases (enlarged_square k q) (enlarged_square k r) e))
       where
         cases : (k * q.y < k * r.y) ⊎ ((k * q.y ≡ k * r.y) × (k * q.x < k * r.x)) → (q.y < r.y) ⊎ ((q.y ≡ r.y) × (q.x < r.x))
-        cases (inl l) = inl (mul_below_back k q.y r.y l)
-        cases (inr l) = inr (mul_one k q.y r.y h l.0, mul_below_back k q.x r.x l.1)
+        cases (inl l) = inl (lt-of_mul_lt k q.y r.y l)
+        cases (inr l) = inr (mul_one k q.y r.y h l.0, lt-of_mul_lt k q.x r.x l.1)
 
     before_each : (q : Square) (squares : List Square)
         → AllByRecursion (λ r. comes_before (enlarged_square k q) r ≡ true) (map (enlarged_square k) squares)

@@ -3,12 +3,12 @@ use Rattle.std.specs.Cmp.Lexicographic.{nat_list_cmp_total, slice_cmp}
 use Rattle.std.specs.Ordering.{is_le, nat_cmp, ordering_reverse}
 use Rattle.std.specs.declared.cmp.Ordering.{Ordering}
 use Rattle.std.specs.declared.cmp.Ordering.TheVariants.{Equal, Greater, Less}
-use Rattle.std.proofs.Common.{List, ap, arith, drop, false, get_or, inl, inr, refl, subst, sym, true, ℕ, ◌+◌, ◌<◌, ◌∙◌, ◌≡◌, ◌≤◌, ◌⊎◌}
+use Rattle.std.proofs.Common.{List, ap, arith, drop, get_or, inl, inr, refl, subst, sym, ℕ, ◌+◌, ◌<◌, ◌∙◌, ◌≡◌, ◌≤◌, ◌⊎◌}
 use Rattle.std.proofs.lemmas.Bool.{cases_lt}
 use Rattle.std.proofs.lemmas.Cmp.{tied_itself}
+use Rattle.bk_laws.proofs.Orderings.{slice_cmp-transitive}
 use Rattle.bk_code.specs.Code.{code_of, flat}
 use Rattle.bk_tiling.specs.Tiling.{IsTiling, Tiling}
-use Rattle.bk_sym.proofs.CanonicalLaws.{cmp_equal}
 use Rattle.bk_sym.proofs.Composing.{image-Same}
 use Rattle.bk_sym.specs.Canonical.{IsAtMost, IsCanonicalOf, IsGreatestImage, IsGreatestOf, Lies, scaled_down_tiling}
 use Rattle.bk_sym.specs.Image.{image}
@@ -20,9 +20,6 @@ use Rattle.bk_sym.specs.declared.Turn.TheVariants.{FlipX, FlipY, Half, Same, Swa
 pub at_most-refl : (t : Tiling) → IsAtMost t t
 at_most-refl t = ap is_le (tied_itself nat_list_cmp_total (flat (code_of t)))
 
-clash : false ≡ true → ⊥
-clash e = cc
-
 -- of two tilings one is at most the other
 pub at_most-total : (t u : Tiling) → ¬ (IsAtMost t u) → IsAtMost u t
 at_most-total t u later = cases (slice_cmp nat_cmp (flat (code_of t)) (flat (code_of u))) refl
@@ -32,19 +29,9 @@ at_most-total t u later = cases (slice_cmp nat_cmp (flat (code_of t)) (flat (cod
     cases Equal e = absurd (later (ap is_le e))
     cases Greater e = ap is_le (nat_list_cmp_total.antisymm (flat (code_of u)) (flat (code_of t)) ∙ ap ordering_reverse e)
 
-at_most_lists : (xs ys zs : List ℕ) → is_le (slice_cmp nat_cmp xs ys) ≡ true → is_le (slice_cmp nat_cmp ys zs) ≡ true → is_le (slice_cmp nat_cmp xs zs) ≡ true
-at_most_lists xs ys zs a b = cases (slice_cmp nat_cmp xs ys) refl (slice_cmp nat_cmp ys zs) refl
-  where
-    cases : (r : Ordering) → slice_cmp nat_cmp xs ys ≡ r → (q : Ordering) → slice_cmp nat_cmp ys zs ≡ q → is_le (slice_cmp nat_cmp xs zs) ≡ true
-    cases Greater e q f = absurd (clash (sym (ap is_le e) ∙ a))
-    cases Equal e q f = subst (λ (list : List ℕ). is_le (slice_cmp nat_cmp list zs) ≡ true) (sym (cmp_equal xs ys e)) b
-    cases Less e Greater f = absurd (clash (sym (ap is_le f) ∙ b))
-    cases Less e Equal f = subst (λ (list : List ℕ). is_le (slice_cmp nat_cmp xs list) ≡ true) (cmp_equal ys zs f) a
-    cases Less e Less f = ap is_le (nat_list_cmp_total.trans xs ys zs e f)
-
--- and so along three
+-- of three tilings in order the first is at most the third
 pub at_most-trans : (t u v : Tiling) → IsAtMost t u → IsAtMost u v → IsAtMost t v
-at_most-trans t u v = at_most_lists (flat (code_of t)) (flat (code_of u)) (flat (code_of v))
+at_most-trans t u v = slice_cmp-transitive (flat (code_of t)) (flat (code_of u)) (flat (code_of v))
 
 -- no image by one of the first k turns has a greater flat list than c
 abbrev pub NoneGreater : Tiling → List Turn → ℕ → Tiling → Type 0
@@ -146,5 +133,6 @@ canonical_of t s c small g = record {
   greatest = subst (λ (u : Tiling). IsGreatestImage u c) small g.greatest;
 }
 
+-- the greatest of all images of a tiling in lowest terms is its canonical tiling
 pub canonical_from : (t s c : Tiling) (first : Turn) → s ≡ scaled_down_tiling t → IsGreatestSoFar s first turns 8 c → IsCanonicalOf t c
 canonical_from t s c first small far = canonical_of t s c small (greatest_of s c first far)

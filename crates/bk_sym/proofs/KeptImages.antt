@@ -4,11 +4,15 @@ use Rattle.std.specs.Prelude.{◌/◌, ◌^◌}
 use Rattle.std.proofs.Common.{List, [], ap, arith, length, map, refl, subst, sym, take, ℕ, ◌<◌, ◌∙◌, ◌∷◌, ◌≡◌, ◌≤◌}
 use Rattle.std.proofs.Math.Nat.{div-le_self}
 use Rattle.std.proofs.lemmas.List.{length-map, take_all}
+use Rattle.std.proofs.lemmas.List.Elements.{All-from_recursion}
 use Rattle.bk_tiling.proofs.Cells.{all_from, in_all}
-use Rattle.bk_tiling.proofs.OrderLaws.{in_code_order-length}
-use Rattle.bk_tiling.proofs.PuttingInOrder.{from_order}
-use Rattle.bk_tiling.specs.Kept.{IsKept, IsSide}
-use Rattle.bk_tiling.specs.Tiling.{IsOneOf, Tiling}
+use Rattle.bk_tiling.proofs.OneRefusal.{tiles_apart}
+use Rattle.bk_tiling.proofs.OrderLaws.{in_code_order-count, in_code_order-length}
+use Rattle.bk_tiling.proofs.PuttingInOrder.{from_order, in_order}
+use Rattle.bk_tiling.specs.CodeOrder.{in_code_order}
+use Rattle.bk_tiling.specs.KeptTiling.{IsKept, IsSide}
+use Rattle.bk_tiling.specs.Refusal.{HaveSides, ShareNoCell, sized}
+use Rattle.bk_tiling.specs.Tiling.{IsOneOf, IsWithin, Rectangle, Tiles, Tiling, covers}
 use Rattle.bk_tiling.specs.declared.Square.{Square}
 use Rattle.bk_tiling.specs.declared.TheConstants.{MOST_SQUARES}
 use Rattle.bk_sym.proofs.Images.{from_map, images_are_tilings}
@@ -60,6 +64,29 @@ kept_image turn t kept = record {
   width_fits = (size_fits turn t.width t.height (2 ^ 64) kept.width_fits kept.height_fits).0;
   height_fits = (size_fits turn t.width t.height (2 ^ 64) kept.width_fits kept.height_fits).1;
 }
+
+-- squares that tile a rectangle in code order tile it in any order
+tiles_in_any_order : (r : Rectangle) (squares : List Square) → Tiles r (in_code_order squares) → Tiles r squares
+tiles_in_any_order r squares tiles = record {
+  some = omega (arith, tiles.some, in_code_order-length squares);
+  sides = all_from (λ q. 0 < q.s) squares (λ q h. in_all (λ q. 0 < q.s) (in_code_order squares) tiles.sides q (in_order squares q h));
+  within = all_from (IsWithin r) squares (λ q h. in_all (IsWithin r) (in_code_order squares) tiles.within q (in_order squares q h));
+  once = λ i j a b c d. sym (in_code_order-count (covers i j) squares) ∙ tiles.once i j a b c d;
+}
+
+-- the turned squares of a tiling, before they are put in order, have sides that squares may have
+pub turned_sides : (turn : Turn) (t : Tiling) → IsKept t → HaveSides (map (image_square turn t.width t.height) t.squares)
+turned_sides turn t kept =
+    let turned : List Square = map (image_square turn t.width t.height) t.squares in
+    All-from_recursion (λ (q : Square). IsSide q.s) turned (all_from (λ q. IsSide q.s) turned
+    (λ q h. in_all (λ q. IsSide q.s) (in_code_order turned) (kept_image turn t kept).sides q (in_order turned q h)))
+
+-- the turned squares of a tiling, before they are put in order, share no cell
+pub turned_apart : (turn : Turn) (t : Tiling) → IsKept t → ShareNoCell (map (image_square turn t.width t.height) t.squares)
+turned_apart turn t kept =
+    let size : ℕ × ℕ = image_size turn t.width t.height in
+    let turned : List Square = map (image_square turn t.width t.height) t.squares in
+    tiles_apart size.0 size.1 turned (tiles_in_any_order (sized size.0 size.1) turned (kept_image turn t kept).tiling.tiles)
 
 sides_divided : (g : ℕ) (squares : List Square) → AllByRecursion (λ q. IsSide q.s) squares
     → AllByRecursion (λ (q : Square). 0 < q.s) (map (λ q. record { x = q.x / g; y = q.y / g; s = q.s / g }) squares)

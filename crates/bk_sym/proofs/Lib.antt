@@ -4,7 +4,6 @@ pub mod EnlargedBack
 pub mod DividedPlaces
 pub mod ScaledDown
 pub mod CanonicalLaws
-pub mod SortedSquares
 pub mod Composing
 pub mod Multiples
 pub mod Comparing

@@ -1,8 +1,9 @@
 -- Tilings enlarged: their divisors, and their images.
-use Rattle.std.proofs.Common.{Bool, List, [], ap, arith, cond, false, inl, inr, map, refl, sym, true, ℕ, ◌*◌, ◌+◌, ◌-◌, ◌<◌, ◌∙◌, ◌∷◌, ◌≡◌, ◌≤◌, ◌⊎◌}
+use Rattle.std.proofs.Common.{Bool, List, [], ap, arith, cond, false, inl, inr, map, refl, sym, true, ℕ, ◌*◌, ◌+◌, ◌<◌, ◌∙◌, ◌∷◌, ◌≡◌, ◌≤◌, ◌⊎◌}
 use Rattle.std.proofs.Math.Nat.{mul-le-mul_left}
 use Rattle.std.proofs.lemmas.Bool.{both_ways, cases_Bool, cases_lt}
 use Rattle.bk_laws.proofs.Products.{mul_below, mul_one}
+use Rattle.bk_laws.proofs.Multiples.{mul-far_side}
 use Rattle.bk_frac.specs.Divisor.{gcd, gcd_of}
 use Rattle.bk_tiling.proofs.Scaling.{before_cases, before_from}
 use Rattle.bk_tiling.proofs.TilingLaws.{within_of}
@@ -72,23 +73,16 @@ order_enlarged : (k : ℕ) (squares : List Square) → 0 < k → in_code_order (
 order_enlarged k [] some = refl
 order_enlarged k (q ∷ squares) some = ap (with_square (enlarged_square k q)) (order_enlarged k squares some) ∙ with_enlarged k q (in_code_order squares) some
 
--- an image of an enlarged square is the image enlarged
-far_side : (k w x s : ℕ) → x + s ≤ w → k * w - k * x - k * s ≡ k * (w - x - s)
-far_side k w x s h =
-    let rest : w ≡ x + s + (w - x - s) = omega arith in
-    let all : k * w ≡ k * x + k * s + k * (w - x - s) = ap (λ n. k * n) rest ∙ omega arith in
-    omega (arith, all)
-
 image_square-enlarged : (turn : Turn) (k w h : ℕ) (q : Square) → q.x + q.s ≤ w → q.y + q.s ≤ h
     → image_square turn (k * w) (k * h) (enlarged_square k q) ≡ enlarged_square k (image_square turn w h q)
 image_square-enlarged Same k w h q right bottom = refl
-image_square-enlarged FlipX k w h q right bottom = square_same _ _ (far_side k w q.x q.s right) refl refl
-image_square-enlarged FlipY k w h q right bottom = square_same _ _ refl (far_side k h q.y q.s bottom) refl
-image_square-enlarged Half k w h q right bottom = square_same _ _ (far_side k w q.x q.s right) (far_side k h q.y q.s bottom) refl
+image_square-enlarged FlipX k w h q right bottom = square_same _ _ (mul-far_side k w q.x q.s right) refl refl
+image_square-enlarged FlipY k w h q right bottom = square_same _ _ refl (mul-far_side k h q.y q.s bottom) refl
+image_square-enlarged Half k w h q right bottom = square_same _ _ (mul-far_side k w q.x q.s right) (mul-far_side k h q.y q.s bottom) refl
 image_square-enlarged Swap k w h q right bottom = refl
-image_square-enlarged SwapFlipX k w h q right bottom = square_same _ _ (far_side k h q.y q.s bottom) refl refl
-image_square-enlarged SwapFlipY k w h q right bottom = square_same _ _ refl (far_side k w q.x q.s right) refl
-image_square-enlarged SwapHalf k w h q right bottom = square_same _ _ (far_side k h q.y q.s bottom) (far_side k w q.x q.s right) refl
+image_square-enlarged SwapFlipX k w h q right bottom = square_same _ _ (mul-far_side k h q.y q.s bottom) refl refl
+image_square-enlarged SwapFlipY k w h q right bottom = square_same _ _ refl (mul-far_side k w q.x q.s right) refl
+image_square-enlarged SwapHalf k w h q right bottom = square_same _ _ (mul-far_side k h q.y q.s bottom) (mul-far_side k w q.x q.s right) refl
 
 size-enlarged : (turn : Turn) (k w h : ℕ) → image_size turn (k * w) (k * h) ≡ (k * (image_size turn w h).0, k * (image_size turn w h).1)
 size-enlarged Same k w h = refl

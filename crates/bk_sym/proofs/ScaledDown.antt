@@ -18,6 +18,7 @@ abbrev pub side_divisor : Tiling → ℕ
 side_divisor t = gcd_of (map (λ q. q.s) t.squares)
 
 module _ (t : Tiling) (tiling : IsTiling t) where
+  -- the greatest common divisor of the sides divides each of them
   pub side_divides : (q : Square) → IsOneOf q t.squares → side_divisor t ∣ q.s
   side_divides q h = of t.squares (gcd_of-divides (map (λ q. q.s) t.squares)) h
     where
@@ -26,6 +27,7 @@ module _ (t : Tiling) (tiling : IsTiling t) where
       of (r ∷ squares) all (inl e) = subst (λ (n : ℕ). side_divisor t ∣ n) (ap (λ (s : Square). s.s) (sym e)) all.0
       of (r ∷ squares) all (inr k) = of squares all.1 k
 
+  -- the greatest common divisor of the sides is not 0
   pub some_divisor : 0 < side_divisor t
   some_divisor = positive t tiling (side_divisor t) side_divides
 

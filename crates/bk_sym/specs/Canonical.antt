@@ -1,5 +1,6 @@
 -- The tiling in lowest terms, and the canonical tiling.
--- Example (ImageExamples): the rectangle 69x61 is canonical; of 33x32 enlarged twofold, with columns and levels exchanged, it is 33x32.
+-- Example (ImageExamples): the rectangle 69x61 is canonical; of 33x32 enlarged twofold, with columns and levels
+-- exchanged, it is 33x32.
 use Rattle.std.specs.Cmp.Lexicographic.{slice_cmp}
 use Rattle.std.specs.Ordering.{is_le, nat_cmp}
 use Rattle.std.specs.Prelude.{IsTrue, map, slice_index_or, ℕ, ◌/◌, ◌≡◌, ◌≤◌}
@@ -10,7 +11,9 @@ use Rattle.bk_frac.specs.Divisor.{gcd_of}
 use Rattle.bk_sym.specs.Image.{image}
 use Rattle.bk_sym.specs.declared.Turn.{Turn}
 
--- the tiling with all places and sides divided by the greatest common divisor of the sides
+-- the tiling in lowest terms: its size, places and sides divided by the greatest common divisor of the sides. That
+-- divides the size and the places too: enlarged by it, this is the tiling again (`whole_again` in
+-- proofs/ScaledDown.antt)
 abbrev pub scaled_down_tiling : Tiling → Tiling
 scaled_down_tiling t =
     let g = gcd_of (map (λ q. q.s) t.squares) in record {
@@ -43,7 +46,8 @@ abbrev pub BeginsWith : Tiling → ℕ → Type 0
 BeginsWith t side = (d : Square) → (slice_index_or t.squares 0 d).s ≡ side
 
 -- c is canonical for t: among the images of t in lowest terms that are at least as wide as high, it is
--- the one with the greatest flat list. A width and a flat list fix a tiling, so there is only one
+-- the one with the greatest flat list. A width and a flat list fix a tiling, so there is only
+-- one (`a_canonical_tiling_is_one`)
 pub record IsCanonicalOf (t c : Tiling) : Type 0 where
   pub turn : Turn
   pub image_of : c ≡ image turn (scaled_down_tiling t)

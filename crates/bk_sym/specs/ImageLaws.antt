@@ -29,11 +29,12 @@ abbrev pub ACanonicalTilingIsOne : Type 0
 ACanonicalTilingIsOne =
     (t u v : Tiling) → IsTiling t → IsCanonicalOf t u → IsCanonicalOf t v → IsTiling u × (u ≡ v)
 
--- tilings that are images of each other, up to scale, have the same canonical tiling: so all images and all multiples of
--- a tiling have
+-- tilings that are images of each other, up to scale, have the same canonical tiling: so all images and all multiples
+-- of a tiling have
 abbrev pub AlikeTilingsHaveOneCanonical : Type 0
 AlikeTilingsHaveOneCanonical =
-    (t u c d : Tiling) (turn : Turn) → IsTiling t → IsTiling u → AreAlike (image turn t) u → IsCanonicalOf t c → IsCanonicalOf u d
+    (t u c d : Tiling) (turn : Turn) → IsTiling t → IsTiling u → AreAlike (image turn t) u → IsCanonicalOf t c
+    → IsCanonicalOf u d
     → c ≡ d
 
 -- and only those: of two tilings with the same canonical tiling each is an image of the other, up to scale

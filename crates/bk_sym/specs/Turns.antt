@@ -1,5 +1,6 @@
 -- Turns one after the other.
--- Example (ImageExamples): two quarter turns one way are a half turn, and a quarter turn is undone by one the other way.
+-- Example (ImageExamples): two quarter turns one way are a half turn, and a quarter turn is undone by one the other
+-- way.
 use Rattle.std.specs.Prelude.{List, [], ◌∷◌}
 use Rattle.bk_sym.specs.declared.Turn.{Turn}
 use Rattle.bk_sym.specs.declared.Turn.TheVariants.{FlipX, FlipY, Half, Same, Swap, SwapFlipX, SwapFlipY, SwapHalf}

@@ -4,18 +4,20 @@
 ghost use Rattle.std.specs.Prelude.{IfSome, IsTrue, false, ◌+◌, ◌<◌, ◌↔◌, ◌≡◌, ◌≤◌, ◌⊎◌};
 ghost use Rattle.bk_code.specs.Code.{code_cmp, code_of};
 ghost use Rattle.bk_frac.specs.Divisor.{gcd as common_divisor, gcd_of};
-ghost use Rattle.bk_sym.specs.Canonical.{BeginsWith, IsAtMost, IsCanonical, IsCanonicalOf, IsGreatestImage, IsGreatestOf, Lies, scaled_down_tiling};
+ghost use Rattle.bk_sym.specs.Canonical.{BeginsWith, IsAtMost, IsCanonical, IsCanonicalOf, IsGreatestImage};
+ghost use Rattle.bk_sym.specs.Canonical.{IsGreatestOf, Lies, scaled_down_tiling};
 ghost use Rattle.bk_sym.specs.Image.{image, image_size, image_square};
-ghost use Rattle.bk_sym.specs.ImageLaws.{ACanonicalTilingIsItsOwn, ACanonicalTilingIsOne, AlikeTilingsHaveOneCanonical, ImagesAreTilings};
-ghost use Rattle.bk_sym.specs.ImageLaws.{EveryTilingHasACanonical, ImagesAreUndone, ImagesOfImages, OneCanonicalMeansAlike};
-ghost use Rattle.bk_tiling.specs.CodeOrder.{InCodeOrder, in_code_order};
-ghost use Rattle.bk_tiling.specs.Kept.{IsKept};
+ghost use Rattle.bk_sym.specs.ImageLaws.{ACanonicalTilingIsItsOwn, ACanonicalTilingIsOne, AlikeTilingsHaveOneCanonical};
+ghost use Rattle.bk_sym.specs.ImageLaws.{ImagesAreTilings};
+ghost use Rattle.bk_sym.specs.ImageLaws.{EveryTilingHasACanonical, ImagesAreUndone, ImagesOfImages};
+ghost use Rattle.bk_sym.specs.ImageLaws.{OneCanonicalMeansAlike};
+ghost use Rattle.bk_tiling.specs.KeptTiling.{IsKept};
 ghost use Rattle.bk_tiling.specs.Scale.{IsPrimitiveTiling, enlarged};
 ghost use Rattle.bk_tiling.specs.Tiling.{sides_of};
 
 use arrayvec::ArrayVec;
 use bk_frac::gcd;
-use bk_tiling::{MOST_SQUARES, Square, Tiling};
+use bk_tiling::{Square, Tiling, put_in_order};
 use std::cmp::Ordering;
 
 /// A turn or a mirror of a rectangle.
@@ -99,16 +101,8 @@ fn turned_size(which: Turn, width: u64, height: u64) -> (u64, u64)
     }
 }
 
-// Sorts squares, of which no two begin at one place, into code order.
-fn put_in_order(squares: &mut ArrayVec<Square, MOST_SQUARES>)
-    requires { InCodeOrder (in_code_order squares.old.items) }
-    ensures { squares.new.items ≡ in_code_order squares.old.items }
-{
-    squares.sort_unstable_by_key(|q| (q.y, q.x));
-}
-
-/// The tiling in lowest terms: all places and sides divided by the greatest common divisor of the sides. The division is
-/// exact, and only 1 divides all sides of what it gives.
+/// The tiling in lowest terms: all places and sides divided by the greatest common divisor of the sides. The division
+/// is exact, and only 1 divides all sides of what it gives.
 pub fn scale_down(tiling: &Tiling) -> Tiling
     ensures value { result ≡ scaled_down_tiling tiling.now }
     ensures exact { tiling.now ≡ enlarged (gcd_of (sides_of tiling.now)) result }
@@ -151,8 +145,8 @@ fn common(a: u64, b: u64) -> u64
     gcd(u128::from(a), u128::from(b)) as u64
 }
 
-/// The canonical tiling: of the images in lowest terms that are at least as wide as high, the one whose flat list of sides
-/// is lexicographically greatest. This choice is our own; all images and all multiples of a tiling have the same.
+/// The canonical tiling: of the images in lowest terms that are at least as wide as high, the one whose flat list of
+/// sides is lexicographically greatest. This choice is our own; all images and all multiples of a tiling have the same.
 pub fn canonical(tiling: &Tiling) -> Tiling
     ensures canonical { IsCanonicalOf tiling.now result }
     ensures kept { IsKept result }
@@ -188,7 +182,8 @@ fn greatest_image(tiling: &Tiling) -> Tiling
     greatest
 }
 
-// Becomes that image of another tiling, where its flat list of sides is greater. It is hardly ever needed, and its room only here.
+// Becomes that image of another tiling, where its flat list of sides is greater. It is hardly ever needed, and its room
+// only here.
 #[inline(never)]
 fn become_later(greatest: &mut Tiling, tiling: &Tiling, which: Turn)
     ensures one { (greatest.new ≡ greatest.old) ⊎ (greatest.new ≡ image which tiling.now) }
@@ -209,8 +204,8 @@ fn may_be_greater(tiling: &Tiling, which: Turn, other: &Tiling) -> bool
     lies(tiling, which) && !begins_shorter(tiling, which, other)
 }
 
-// A turn whose image lies: of these one that brings the longest square to the top left corner, so that hardly another image has to be
-// made to compare it.
+// A turn whose image lies: of these one that brings the longest square to the top left corner, so that hardly another
+// image has to be made to compare it.
 fn first_turn(tiling: &Tiling) -> Turn
     ensures lying { Lies (image result tiling.now) }
     ensures kept { IsKept tiling.now }
@@ -241,7 +236,8 @@ fn first_side(tiling: &Tiling, which: Turn) -> Option<u64>
     None
 }
 
-// Whether the square that comes to the top left corner in that image is shorter than the first square of the other tiling.
+// Whether the square that comes to the top left corner in that image is shorter than the first square of the other
+// tiling.
 fn begins_shorter(tiling: &Tiling, which: Turn, other: &Tiling) -> bool
     ensures { IsTrue result → IsAtMost (image which tiling.now) other.now }
 {
@@ -369,8 +365,8 @@ pub fn images_are_undone()
     ensures { ImagesAreUndone }
 {}
 
-/// Tilings that are images of each other, up to scale, have the same canonical tiling: all images and all multiples of a
-/// tiling have.
+/// Tilings that are images of each other, up to scale, have the same canonical tiling: all images and all multiples of
+/// a tiling have.
 pub fn alike_tilings_have_one_canonical()
     ensures { AlikeTilingsHaveOneCanonical }
 {}

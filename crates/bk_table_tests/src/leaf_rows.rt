@@ -15,7 +15,9 @@ type Sides = (u64, u64, &'static [u64]);
 fn push(rt: &impl Abort, board: &mut Board, m: &Move) {
     assert!(rt; m.signs.len() <= 17);
     let mut signs = Short::new();
-    signs.extend(m.signs.as_slice());
+    for sign in m.signs.as_slice() {
+        signs.push(*sign);
+    }
     let m = SmallMove {
         count: m.count,
         signs,

@@ -1,5 +1,5 @@
-//! Rows of the search through free words, of its leaves, of the tables of members that it fills and of walks that ask them, by the
-//! public calls alone.
+//! Rows of the search through free words, of its leaves, of the tables of members that it fills and of walks that ask
+//! them, by the public calls alone.
 #![tactic(auto)]
 
 #[cfg(test)]

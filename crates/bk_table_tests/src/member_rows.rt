@@ -136,8 +136,8 @@ fn perfect_and_imperfect_members_are_the_simple_ones(rt: HostRuntime) {
     }
 }
 
-// The squares among the members of orders up to 15, by their words. They have the sides 23, 39, 41 and 39; `square_rows` has their
-// codes.
+// The squares among the members of orders up to 15, by their words. They have the sides 23, 39, 41 and 39;
+// `square_rows` has their codes.
 fn rows_of_squares() -> &'static [(u8, &'static [u8])] {
     &[
         (13, b"2u.3aau.2ue.1ue.2ea.2eue.1e"),
@@ -195,7 +195,8 @@ fn the_next_number_is_the_least_from_a_bound_on(rt: HostRuntime) -> Result<(), F
     Ok(())
 }
 
-// What is kept of all perfect members of order 10 by a table with this room: it is cut just where there are more, and has the least of them.
+// What is kept of all perfect members of order 10 by a table with this room: it is cut just where there are more, and
+// has the least of them.
 fn assert_room(rt: &impl Abort, all: &[u128], kept: &[u128], cut: bool, room: usize) {
     assert_eq!(rt; cut, room < all.len());
     assert!(rt; !kept.is_empty() && kept.len() <= room);

@@ -1,9 +1,9 @@
-//! The members of an order by a plain walk through the legal words, in ascending order. It asks no table and no net, and judges each
-//! complete word by its tiling.
+//! The members of an order by a plain walk through the legal words, in ascending order. It asks no table and no net,
+//! and judges each complete word by its tiling.
 //!
-//! It is cut only where a simple tiling of three squares or more can't go on: a square alone above or below another of its width, two
-//! equal squares side by side, one segment before the end, and more segments to be closed than squares are left, where a valley of one
-//! square asks for two.
+//! It is cut only where a simple tiling of three squares or more can't go on: a square alone above or below another of
+//! its width, two equal squares side by side, one segment before the end, and more segments to be closed than squares
+//! are left, where a valley of one square asks for two.
 
 use arrayvec::ArrayVec;
 use bk_catalogue::{closing_bound, single_valleys};
@@ -88,7 +88,8 @@ fn least_move() -> Move {
     }
 }
 
-// Back from moves after which none is left, or down by the next move, where its segments can be closed by the squares that are left.
+// Back from moves after which none is left, or down by the next move, where its segments can be closed by the squares
+// that are left.
 fn turn(rt: &impl Abort, skel: &mut Skel, next: &mut Move, order: u8) -> Went {
     if skel.order() + usize::from(next.count) > usize::from(order) {
         let moves = skel.moves();
@@ -159,8 +160,8 @@ fn pad(rt: &impl Abort, m: &mut Move, skel: &Skel) {
     }
 }
 
-// Makes of the move the next after it: raises the last sign that isn't under, and drops those behind it; where all are under, it
-// hangs one square more.
+// Makes of the move the next after it: raises the last sign that isn't under, and drops those behind it; where all are
+// under, it hangs one square more.
 fn raise(rt: &impl Abort, m: &mut Move) {
     for _ in 0..MOST_SIGNS {
         let raised = match m.signs.pop() {

@@ -26,7 +26,8 @@ const SECOND_OF_15: Sides = (41, &[23, 18, 7, 11, 18, 3, 2, 1, 5, 3, 4, 2, 1, 12
 // [20,19][2,5,12][19,1][3][8][1,3,8][7,2][5]
 const THIRD_OF_15: Sides = (39, &[20, 19, 2, 5, 12, 19, 1, 3, 8, 1, 3, 8, 7, 2, 5]);
 
-// Orders, and the imperfect members that are squares, in the order of their words. No perfect one of so few squares is one.
+// Orders, and the imperfect members that are squares, in the order of their words. No perfect one of so few squares is
+// one.
 static ORDERS: [(u8, &[Sides]); 5] = [
     (9, &[]),
     (12, &[]),

@@ -5,7 +5,7 @@ ghost use Rattle.bk_word.specs.Word.{order_of};
 
 use crate::plain_walk::{Member, members};
 use bk_play::Steps;
-use bk_walk::{TabledWalk, UntabledWalk, Walk};
+use bk_walk::{TabledWalk, Walk};
 use bk_word::{Class, Word, read_word};
 use std::alloc::{AllocError, Global};
 use std::cmp::Ordering;
@@ -64,7 +64,8 @@ fn assert_next<const ROOM: usize, L: Ledger>(
     }
 }
 
-// A walk gives just the members of the class whose words are after the cursor, and ends. It answers how many moves it has pushed.
+// A walk gives just the members of the class whose words are after the cursor, and ends. It answers how many moves it
+// has pushed.
 fn assert_walk<const ROOM: usize, L: Ledger>(
     rt: &impl Abort,
     mut walk: TabledWalk<ROOM>,
@@ -103,7 +104,7 @@ fn assert_first<L: Ledger>(
     members: &[Member],
     steps: &mut Steps<L>,
 ) {
-    let mut walk: UntabledWalk = walk_after(rt, alloc, order, class, cursor);
+    let mut walk: TabledWalk<0> = walk_after(rt, alloc, order, class, cursor);
     match first_after(members, class, cursor) {
         Some(member) => assert_next(rt, &mut walk, &member.word, steps),
         None => assert!(rt; walk.advance(steps).is_none()),
@@ -132,8 +133,8 @@ fn walks<L: Ledger>(
     Ok(())
 }
 
-// A walk that leaps pushes few moves more than it waits for, at most as many as the order for each member: one that makes no table pushes
-// 29,818 at order 11 in the class perfect.
+// A walk that leaps pushes few moves more than it waits for, at most as many as the order for each member: one that
+// makes no table pushes 29,818 at order 11 in the class perfect.
 fn assert_leaps(rt: &impl Abort, order: u8, members: &[Member], pushed: u64) {
     let for_members = (members.len() as u64).saturating_mul(u64::from(order));
     assert!(rt; pushed >= PATIENCE && pushed <= PATIENCE.saturating_add(for_members));
@@ -153,7 +154,8 @@ fn from_start<L: Ledger>(
     assert_first(rt, alloc, order, class, &Word::new(alloc), members, steps);
 }
 
-// A table that has room for three members alone says nothing past its greatest word, so the walk makes it anew from there.
+// A table that has room for three members alone says nothing past its greatest word, so the walk makes it anew from
+// there.
 fn from_start_with_little_room<L: Ledger>(
     rt: &impl Abort,
     alloc: Global,
@@ -183,8 +185,9 @@ fn after_members<L: Ledger>(
     }
 }
 
-// The texts of cursors that come before all words, that aren't legal, that aren't complete, that are of another order, that come behind
-// a whole table, and behind all words; and the words of images of members of orders 11 and 12, which are legal and complete.
+// The texts of cursors that come before all words, that aren't legal, that aren't complete, that are of another order,
+// that come behind a whole table, and behind all words; and the words of images of members of orders 11 and 12, which
+// are legal and complete.
 fn texts() -> &'static [&'static [u8]] {
     &[
         b"1",

@@ -1,10 +1,11 @@
 -- What is known of a byte of each kind.
 use Rattle.std.specs.Prelude.{Bool, false, if◌then◌else◌, nat_le, true, ℕ, ◌&&◌, ◌+◌, ◌-◌, ◌<◌, ◌==◌, ◌||◌, ◌≡◌}
-use Rattle.std.proofs.Common.{arith, leb-true, refl}
-use Rattle.std.proofs.lemmas.Bool.{and_parts, eqb-true}
+use Rattle.std.proofs.Common.{refl}
+use Rattle.std.proofs.lemmas.Bool.{eqb-true}
+use Rattle.bk_laws.proofs.NumberTests.{digit_byte-positive}
 use Rattle.bk_grammar.proofs.BlankBytes.{blank_means}
 use Rattle.bk_grammar.specs.Grammar.{IsBlank}
-use Rattle.bk_text.specs.Reader.{kind_of}
+use Rattle.bk_text.specs.LineReading.{line_kind_of}
 use Rattle.bk_text.specs.declared.reader.Bracket.{Bracket}
 use Rattle.bk_text.specs.declared.reader.Bracket.TheVariants.{Round, Square}
 use Rattle.bk_text.specs.declared.reader.Kind.{Kind}
@@ -36,18 +37,11 @@ either : (test : Bool) (one two : Kind) (b : ℕ) → (test ≡ true → Means o
 either true one two b yes' no' = yes' refl
 either false one two b yes' no' = no'
 
-digit_means : (b : ℕ) → nat_le 49 b && nat_le b 57 ≡ true → (0 < b - 48) × (b - 48 < 10) × (b ≡ 48 + (b - 48))
-digit_means b h =
-    let parts = and_parts (nat_le 49 b) (nat_le b 57) h in
-    let low = leb-true 49 b parts.0 in
-    let high = leb-true b 57 parts.1 in
-    (omega arith, omega arith, omega arith)
-
 -- each byte is what its kind says
-pub means : (b : ℕ) → Means (kind_of b) b
+pub means : (b : ℕ) → Means (line_kind_of b) b
 means b =
     either (b == 48) Zero _ b (λ h. eqb-true b 48 h) (
-    either (nat_le 49 b && nat_le b 57) (Digit (b - 48)) _ b (λ h. digit_means b h) (
+    either (nat_le 49 b && nat_le b 57) (Digit (b - 48)) _ b (λ h. digit_byte-positive b h) (
     either ((b == 32) || ((b == 9) || (b == 13))) Blank _ b (λ h. blank_means b h) (
     either (b == 44) Comma _ b (λ h. eqb-true b 44 h) (
     either (b == 120) Cross _ b (λ h. eqb-true b 120 h) (

@@ -2,7 +2,7 @@
 use Rattle.std.specs.Prelude.{List, Some, [], length, refl, take, ℕ, ◌∷◌, ◌≡◌}
 use Rattle.std.proofs.Common.{ap, arith, ◌∙◌}
 use Rattle.std.proofs.lemmas.List.{take_all}
-use Rattle.bk_text.specs.Gathered.{Gathered}
+use Rattle.bk_text.specs.GatheredSides.{Gathered}
 use Rattle.bk_text.specs.Onward.{onward}
 use Rattle.bk_text.specs.declared.reader.Ending.{Ending}
 use Rattle.bk_text.specs.declared.reader.Place.TheVariants.{Comment}

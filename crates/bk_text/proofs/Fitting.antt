@@ -1,9 +1,10 @@
 -- Which lists and numbers go with each place of the reader.
-use Rattle.std.specs.Prelude.{Bool, List, None, Option, Some, [], if◌then◌else◌, length, nat_le, refl, true, ℕ, ◌*◌, ◌++◌, ◌+◌, ◌/◌, ◌<◌, ◌∷◌, ◌≡◌, ◌≤◌}
-use Rattle.std.proofs.Common.{ap, arith, false, leb-true, length-append, subst}
+use Rattle.std.specs.Prelude.{Bool, List, None, Option, Some, [], if◌then◌else◌, length, nat_le, refl, true, ℕ, ◌*◌, ◌+◌, ◌/◌, ◌<◌, ◌≡◌, ◌≤◌}
+use Rattle.std.proofs.Common.{ap, arith, false, leb-true, subst}
+use Rattle.bk_laws.proofs.ListParts.{length-snoc_positive}
 use Rattle.bk_code.specs.Code.{flat}
-use Rattle.bk_tiling.specs.Kept.{IsSide}
-use Rattle.bk_text.specs.Reader.{ended_side, ending_at, last_side, longer, most, next_place}
+use Rattle.bk_tiling.specs.KeptTiling.{IsSide}
+use Rattle.bk_text.specs.LineReading.{ended_side, field_with_digit, last_side, line_ending_at, most, next_line_place}
 use Rattle.bk_text.specs.ReadLine.{sides_of_line}
 use Rattle.bk_text.specs.declared.reader.Bracket.TheVariants.{Round, Square}
 use Rattle.bk_text.specs.declared.reader.Ending.{Ending}
@@ -52,7 +53,7 @@ abbrev pub FitsNext : Option Place → Lists → Type 0
 FitsNext None t = Unit {0}
 FitsNext (Some q) t = Fits q t
 
-grown : (f : Field) (v d : ℕ) (t : Lists) → d < 10 → (0 < v) × (v ≤ most f) × FitsField f t → FitsNext (longer f v d) t
+grown : (f : Field) (v d : ℕ) (t : Lists) → d < 10 → (0 < v) × (v ≤ most f) × FitsField f t → FitsNext (field_with_digit f v d) t
 grown f v d t small h = when (nat_le v (most f / 10)) (λ e. leb-true v (most f / 10) e)
   where
     tenth : (m : ℕ) → m / 10 * 10 + 9 ≤ m → v ≤ m / 10 → v * 10 + d ≤ m
@@ -62,11 +63,8 @@ grown f v d t small h = when (nat_le v (most f / 10)) (λ e. leb-true v (most f 
     when false below = tt
     when true below = let few = below refl in (omega (arith, h.0), tenth (most f) (nines f) few, h.2)
 
-last_some : (xs : List ℕ) (n : ℕ) → 0 < length (xs ++ n ∷ [])
-last_some xs n = omega (arith, length-append xs (n ∷ []))
-
 number_fits : (f : Field) (v : ℕ) (k : Kind) (t : Lists) (b : ℕ) → Means k b → (0 < v) × (v ≤ most f) × FitsField f t
-    → FitsNext (next_place (InNumber f v) k) (lists_after (InNumber f v) k t)
+    → FitsNext (next_line_place (InNumber f v) k) (lists_after (InNumber f v) k t)
 number_fits First v Zero t b m h = grown First v 0 t (omega arith) h
 number_fits (Second o) v Zero t b m h = grown (Second o) v 0 t (omega arith) h
 number_fits (Height o w) v Zero t b m h = grown (Height o w) v 0 t (omega arith) h
@@ -87,7 +85,7 @@ number_fits (Height o w) v Blank t b m h = ap (λ (u : Lists). u.sides) h.2
 number_fits (Third o w) v Blank t b m h = h.2
 number_fits (Column r) v Blank t b m h = h.2
 number_fits (Column r) v Semicolon t b m h = h.2
-number_fits (SideOf g c) v Blank t b m h = last_some t.sides v
+number_fits (SideOf g c) v Blank t b m h = length-snoc_positive t.sides v
 number_fits (SideOf g Square) v (Close Square) t b m h = refl
 number_fits (SideOf g Round) v (Close Round) t b m h = refl
 number_fits (SideOf g Square) v (Close Round) t b m h = tt
@@ -95,7 +93,7 @@ number_fits (SideOf g Round) v (Close Square) t b m h = tt
 number_fits f v k t b m h = tt
 
 -- lists that go with a place go with the next one behind a byte
-pub fits_after : (p : Place) (k : Kind) (t : Lists) (b : ℕ) → Means k b → Fits p t → FitsNext (next_place p k) (lists_after p k t)
+pub fits_after : (p : Place) (k : Kind) (t : Lists) (b : ℕ) → Means k b → Fits p t → FitsNext (next_line_place p k) (lists_after p k t)
 fits_after (InNumber f v) k t b m h = number_fits f v k t b m h
 fits_after Start Blank t b m h = h
 fits_after Start (Digit d) t b m h = (m.0, omega (arith, m.1), h)
@@ -155,7 +153,7 @@ abbrev pub read_count : Lists → ℕ
 read_count t = length (flat t.groups) + length t.sides
 
 -- at the end of a line all sides that were read are its sides
-pub counted : (p : Place) (ending : Ending) (t : Lists) → Fits p t → ending_at p ≡ Some ending
+pub counted : (p : Place) (ending : Ending) (t : Lists) → Fits p t → line_ending_at p ≡ Some ending
     → length (sides_of_line (line_of ending (and_side (last_side p) t))) ≡ read_count (and_side (last_side p) t)
 counted p ending t h e = by_ending ending (and_side (last_side p) t) (fits_ending p ending t h e)
   where
@@ -164,7 +162,7 @@ counted p ending t h e = by_ending ending (and_side (last_side p) t) (fits_endin
     by_ending (Coded g) u fits = let none : length u.sides ≡ 0 = ap (λ (z : List ℕ). length z) fits in omega arith
     by_ending (Row r) u fits = let none : length (flat u.groups) ≡ 0 = ap (λ z. length (flat z)) fits in omega arith
 
-    fits_ending : (p : Place) (e : Ending) (t : Lists) → Fits p t → ending_at p ≡ Some e → FitsEnding e (and_side (last_side p) t)
+    fits_ending : (p : Place) (e : Ending) (t : Lists) → Fits p t → line_ending_at p ≡ Some e → FitsEnding e (and_side (last_side p) t)
     fits_ending Start e t h is = let same : Empty ≡ e = cc in subst (λ (z : Ending). FitsEnding z t) same h
     fits_ending (InNumber (Column r) v) e t h is = let same : Row r ≡ e = cc in subst (λ (z : Ending). FitsEnding z (and_side (Some v) t)) same h.2
     fits_ending (BehindColumn r) e t h is = let same : Row r ≡ e = cc in subst (λ (z : Ending). FitsEnding z t) same h

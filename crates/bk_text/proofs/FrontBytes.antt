@@ -4,9 +4,10 @@ use Rattle.std.specs.Prelude.{Bool, List, None, Some, [], codes, if◌then◌els
 use Rattle.std.specs.Str.Parse.{digits_value_after}
 use Rattle.std.proofs.Common.{ap, append_assoc, arith, false, inl, inr, leb-true, subst, sym, ◌∙◌}
 use Rattle.std.proofs.lemmas.List.{append-nil}
+use Rattle.bk_laws.proofs.Digits.{digit_value-of_byte}
 use Rattle.bk_grammar.specs.Grammar.{Is, LineEnd, Nothing, Number, SomeBlanks, ◌then◌}
 use Rattle.bk_text.specs.CodeLine.{Groups, IsLine, Item, Line, Side, Skip}
-use Rattle.bk_text.specs.Reader.{longer, most, next_place}
+use Rattle.bk_text.specs.LineReading.{field_with_digit, most, next_line_place}
 use Rattle.bk_text.specs.declared.reader.Bracket.TheVariants.{Round, Square}
 use Rattle.bk_text.specs.declared.reader.Field.{Field}
 use Rattle.bk_text.specs.declared.reader.Field.TheVariants.{Column, First, Height, Second, Side as SideOf, Third}
@@ -15,7 +16,7 @@ use Rattle.bk_text.specs.declared.reader.Place.TheVariants.{BeforeGroup, BeforeH
 use Rattle.bk_text.specs.declared.reader.Place.TheVariants.{BehindSide, BehindThird, Comment as InComment, Number as InNumber, Start}
 use Rattle.bk_text.specs.declared.reader.Table.{Table}
 use Rattle.bk_grammar.proofs.FirstByte.{blank_first, comment_first, gap_first, no_blank}
-use Rattle.bk_grammar.proofs.NumbersRead.{Longer, number_read, value_of_digit}
+use Rattle.bk_grammar.proofs.NumbersRead.{Longer, number_read}
 use Rattle.bk_text.specs.declared.reader.Kind.{Kind}
 use Rattle.bk_text.specs.declared.reader.Place.{Place}
 use Rattle.bk_text.proofs.ByteKinds.{Means, close_byte}
@@ -34,7 +35,7 @@ nines (Column r) = omega arith
 nines (SideOf h bracket) = omega arith
 
 -- a further digit of a number
-grown : (field : Field) (v d b : ℕ) (t : Lists) (l : Line) (bs : List ℕ) → d < 10 → b ≡ 48 + d → RestAfter (longer field v d) t l bs
+grown : (field : Field) (v d b : ℕ) (t : Lists) (l : Line) (bs : List ℕ) → d < 10 → b ≡ 48 + d → RestAfter (field_with_digit field v d) t l bs
     → Rest (InNumber field v) t l (b ∷ bs)
 grown field v d b t l bs small is h = when (nat_le v (most field / 10)) (λ e. leb-true v (most field / 10) e) h
   where
@@ -42,7 +43,7 @@ grown field v d b t l bs small is h = when (nat_le v (most field / 10)) (λ e. l
         → Rest (InNumber field v) t l (b ∷ bs)
     when false below k = absurd k
     when true below (n, ds, x, e, (digits, value, kept), rest) =
-        let own : digit_value b ≡ d = value_of_digit d b small is in
+        let own : digit_value b ≡ d = digit_value-of_byte d b small is in
         let within : v ≤ most field / 10 = below refl in (
           n,
           b ∷ ds,
@@ -81,7 +82,7 @@ columns_first r d b t l bs m (n, ds, x, e, longer', (ns, rest, is)) = (
 
 -- a byte, and what completes a line from the place behind it, complete a line
 behind_number : (field : Field) (v : ℕ) (k : Kind) (t : Lists) (l : Line) (b : ℕ) (bs : List ℕ) → Means k b
-    → RestAfter (next_place (InNumber field v) k) (lists_after (InNumber field v) k t) l bs → Rest (InNumber field v) t l (b ∷ bs)
+    → RestAfter (next_line_place (InNumber field v) k) (lists_after (InNumber field v) k t) l bs → Rest (InNumber field v) t l (b ∷ bs)
 behind_number First v Zero t l b bs m h = grown First v 0 b t l bs (omega arith) m h
 behind_number (Second o) v Zero t l b bs m h = grown (Second o) v 0 b t l bs (omega arith) m h
 behind_number (Height o w) v Zero t l b bs m h = grown (Height o w) v 0 b t l bs (omega arith) m h
@@ -146,7 +147,7 @@ behind_number (SideOf g Round) v (Close Square) t l b bs m h = absurd h
 behind_number field v k t l b bs m h = absurd h
 
 -- a byte of any kind in front of what completes the line from the place behind it
-pub behind_byte : (p : Place) (k : Kind) (t : Lists) (l : Line) (b : ℕ) (bs : List ℕ) → Means k b → RestAfter (next_place p k) (lists_after p k t) l bs
+pub behind_byte : (p : Place) (k : Kind) (t : Lists) (l : Line) (b : ℕ) (bs : List ℕ) → Means k b → RestAfter (next_line_place p k) (lists_after p k t) l bs
     → Rest p t l (b ∷ bs)
 behind_byte (InNumber field v) k t l b bs m h = behind_number field v k t l b bs m h
 behind_byte Start Blank t l b bs m (whole, h, is) = (whole, line_blank whole b bs m h, is)

@@ -3,9 +3,9 @@ use Rattle.std.specs.Prelude.{Bool, List, Some, [], drop, false, length, option_
 use Rattle.std.proofs.Common.{ap, arith, get_or, subst, sym, ◌∙◌}
 use Rattle.std.proofs.Math.Seq.{take-add}
 use Rattle.std.proofs.lemmas.List.{length-drop, take_more}
-use Rattle.bk_text.specs.Gathered.{Gathered, gathered_after}
-use Rattle.bk_text.specs.Onward.{IsFrontSide, OpensGroup, SpellOn, at_number, behind_sides, onward, with_last}
-use Rattle.bk_text.specs.Reader.{kind_of}
+use Rattle.bk_text.specs.GatheredSides.{Gathered, gathered_after}
+use Rattle.bk_text.specs.Onward.{IsFrontSide, OpensGroup, SpellOn, at_number, behind_sides, onward, with_last_side}
+use Rattle.bk_text.specs.LineReading.{line_kind_of}
 use Rattle.bk_text.specs.declared.reader.Bracket.{Bracket}
 use Rattle.bk_text.specs.declared.reader.Bracket.TheVariants.{Round, Square}
 use Rattle.bk_text.specs.declared.reader.Field.TheVariants.{Side}
@@ -19,15 +19,15 @@ use Rattle.bk_text.proofs.Strides.{from, from_is_drop, onward-append}
 -- the byte ends the side so
 abbrev pub Ends : ℕ → Bracket → ℕ → Bool → Type 0
 Ends b bracket side closed = (h : Header) (g : Gathered)
-    → onward (b ∷ []) (at_number (BeforeSide h bracket) (Side h bracket) side) g ≡ Some (behind_sides h bracket closed, with_last side closed g)
+    → onward (b ∷ []) (at_number (BeforeSide h bracket) (Side h bracket) side) g ≡ Some (behind_sides h bracket closed, with_last_side side closed g)
 
 -- a comma ends a side, and the group goes on
-pub comma_ends : (b side : ℕ) (bracket : Bracket) → 0 < side → kind_of b ≡ Comma → Ends b bracket side false
+pub comma_ends : (b side : ℕ) (bracket : Bracket) → 0 < side → line_kind_of b ≡ Comma → Ends b bracket side false
 comma_ends b zero bracket some kind h g = absurd (omega (arith, some))
 comma_ends b (suc n) bracket some kind h g = ap (step (Number (Side h bracket) (suc n)) g) kind
 
 -- its own bracket ends a side and the group
-pub bracket_ends : (b side : ℕ) (bracket : Bracket) → 0 < side → kind_of b ≡ Close bracket → Ends b bracket side true
+pub bracket_ends : (b side : ℕ) (bracket : Bracket) → 0 < side → line_kind_of b ≡ Close bracket → Ends b bracket side true
 bracket_ends b zero bracket some kind h g = absurd (omega (arith, some))
 bracket_ends b (suc n) Square some kind h g = ap (step (Number (Side h Square) (suc n)) g) kind
 bracket_ends b (suc n) Round some kind h g = ap (step (Number (Side h Round) (suc n)) g) kind
@@ -57,7 +57,7 @@ group_within bracket bytes taken side len closed within front =
 -- with one more side in front taken, the reader stands before the next side or behind the group
 pub group_further : (bracket : Bracket) (bytes : List ℕ) (taken side len : ℕ) (closed : Bool) (start g h : Gathered)
     → ((header : Header) → onward (take taken bytes) (BeforeSide header bracket) start ≡ Some (BeforeSide header bracket, g))
-    → IsFrontSide bracket (from taken bytes) side len closed → h ≡ with_last side closed g
+    → IsFrontSide bracket (from taken bytes) side len closed → h ≡ with_last_side side closed g
     → (header : Header) → onward (take (taken + len) bytes) (BeforeSide header bracket) start ≡ Some (behind_sides header bracket closed, h)
 group_further bracket bytes taken side len closed start g h so_far front same header =
     let front' : IsFrontSide bracket (drop taken bytes) side len closed =
@@ -70,12 +70,13 @@ group_further bracket bytes taken side len closed start g h so_far front same he
 pub group_follows : (header : Header) → OpensGroup (BeforeGroup header) header
 group_follows header = record { next = λ bracket. refl; keeps = λ bracket g. refl }
 
+-- behind a group a bracket opens the next one
 pub group_goes_on : (header : Header) → OpensGroup (BehindGroup header) header
 group_goes_on header = record { next = λ bracket. refl; keeps = λ bracket g. refl }
 
 -- with the bracket that opens a group and sides of it taken, the reader stands before the next side or behind the group
 pub group_taken : (place : Place) (header : Header) (bracket : Bracket) (bytes : List ℕ) (taken : ℕ) (closed : Bool) (g h : Gathered)
-    → OpensGroup place header → 0 < length bytes → kind_of (get_or bytes 0 0) ≡ Open bracket
+    → OpensGroup place header → 0 < length bytes → line_kind_of (get_or bytes 0 0) ≡ Open bracket
     → ((any : Header) → onward (take taken (from 1 bytes)) (BeforeSide any bracket) g ≡ Some (behind_sides any bracket closed, h))
     → onward (take (taken + 1) bytes) place g ≡ Some (behind_sides header bracket closed, h)
 group_taken place header bracket [] taken closed g h opens some is leads = absurd (omega (arith, some))

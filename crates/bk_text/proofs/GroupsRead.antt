@@ -4,7 +4,7 @@ use Rattle.std.proofs.Common.{ap, append_assoc, arith, inl, inr, subst, sym, ◌
 use Rattle.bk_grammar.proofs.Reading.{Heads, Reads, byte_is, split}
 use Rattle.bk_grammar.specs.Grammar.{Blanks, Is, LineEnd, Nothing, ◌or◌, ◌then◌}
 use Rattle.bk_text.specs.CodeLine.{Group, Groups, Side, Sides}
-use Rattle.bk_text.specs.Reader.{kind_of, next_place}
+use Rattle.bk_text.specs.LineReading.{line_kind_of, next_line_place}
 use Rattle.bk_text.specs.declared.reader.Bracket.{Bracket}
 use Rattle.bk_text.specs.declared.reader.Bracket.TheVariants.{Round, Square}
 use Rattle.bk_text.specs.declared.reader.Ending.TheVariants.{Coded}
@@ -57,13 +57,13 @@ sides_read g c (n ∷ m ∷ ns) t text y r =
 
 -- groups, from a place at which one may begin
 abbrev pub Opens : Place → Header → Lists → Type 0
-Opens p g t = (c : Bracket) → (next_place p (Open c) ≡ Some (BeforeSide g c)) × (lists_after p (Open c) t ≡ t)
+Opens p g t = (c : Bracket) → (next_line_place p (Open c) ≡ Some (BeforeSide g c)) × (lists_after p (Open c) t ≡ t)
 
 -- groups, and no open one
 abbrev pub whole : List (List ℕ) → Lists
 whole gs = record { groups = gs; sides = [] }
 
-kind_open : (c : Bracket) → kind_of (open_byte c) ≡ Open c
+kind_open : (c : Bracket) → line_kind_of (open_byte c) ≡ Open c
 kind_open Square = refl
 kind_open Round = refl
 
@@ -129,7 +129,7 @@ groups_head (ns ∷ ms ∷ code) text (f, x, e, (a, y, e', group, rest), end) =
     subst (Heads (λ b. (b ≡ 91) ⊎ (b ≡ 40))) (sym (e ∙ ap (λ z. z ++ x) e' ∙ append_assoc a y x)) (group_head ns a (y ++ x) group)
 
 -- a code behind a number and blanks
-same_open : (p q : Place) (text : List ℕ) → ((c : Bracket) → next_place p (Open c) ≡ next_place q (Open c))
+same_open : (p q : Place) (text : List ℕ) → ((c : Bracket) → next_line_place p (Open c) ≡ next_line_place q (Open c))
     → ((c : Bracket) → lists_after p (Open c) no_lists ≡ lists_after q (Open c) no_lists)
     → Heads (λ b. (b ≡ 91) ⊎ (b ≡ 40)) text → read text p no_lists ≡ read text q no_lists
 same_open p q [] next lists h = absurd h
@@ -139,15 +139,15 @@ same_open p q (b ∷ text) next lists h = elim h [
 ]
   where
     both : (c : Bracket) → read (open_byte c ∷ text) p no_lists ≡ read (open_byte c ∷ text) q no_lists
-    both Square = ap (λ u. option_and_then (λ r. read text r u) (next_place p (Open Square))) (lists Square)
+    both Square = ap (λ u. option_and_then (λ r. read text r u) (next_line_place p (Open Square))) (lists Square)
         ∙ ap (option_and_then (λ r. read text r (lists_after q (Open Square) no_lists))) (next Square)
-    both Round = ap (λ u. option_and_then (λ r. read text r u) (next_place p (Open Round))) (lists Round)
+    both Round = ap (λ u. option_and_then (λ r. read text r u) (next_line_place p (Open Round))) (lists Round)
         ∙ ap (option_and_then (λ r. read text r (lists_after q (Open Round) no_lists))) (next Round)
 
 -- a code behind a number and blanks is read as its groups
 pub code_behind : (p q : Place) (g : Header) (code : List (List ℕ)) (text : List ℕ) → Ends_at p q no_lists no_lists → Skips_blanks q no_lists
     → Opens q g no_lists
-    → ((c : Bracket) → next_place p (Open c) ≡ next_place q (Open c)) → ((c : Bracket) → lists_after p (Open c) no_lists ≡ lists_after q (Open c) no_lists)
+    → ((c : Bracket) → next_line_place p (Open c) ≡ next_line_place q (Open c)) → ((c : Bracket) → lists_after p (Open c) no_lists ≡ lists_after q (Open c) no_lists)
     → (Blanks then Groups code then LineEnd) text → read text p no_lists ≡ Some (item g code)
 code_behind p q g code text ends skips opens next lists (a, x, e, blanks, rest) =
     behind_reads p q no_lists no_lists text x ends skips (same_open p q x next lists (groups_head code x rest)) (a, blanks, e) ∙ code_read q g code x opens rest

@@ -1,7 +1,7 @@
 -- The reader of a line with all its sides, however many there are; the reader in the code keeps 200 of them.
 use Rattle.std.specs.Prelude.{Bool, List, None, Option, Some, [], false, option_and_then, true, ℕ, ◌++◌, ◌∷◌}
 use Rattle.bk_text.specs.CodeLine.{Flat, Item, Line, Skip}
-use Rattle.bk_text.specs.Reader.{closes_group, ended_side, ending_at, kind_of, last_side, next_place}
+use Rattle.bk_text.specs.LineReading.{closes_group, ended_side, last_side, line_ending_at, line_kind_of, next_line_place}
 use Rattle.bk_text.specs.declared.reader.Ending.{Ending}
 use Rattle.bk_text.specs.declared.reader.Ending.TheVariants.{Coded, Empty, Row}
 use Rattle.bk_text.specs.declared.reader.Kind.{Kind}
@@ -43,5 +43,5 @@ line_at (Some e) t = Some (line_of e t)
 
 -- what is read from a place on
 abbrev pub read : List ℕ → Place → Lists → Option Line
-read [] p t = line_at (ending_at p) (and_side (last_side p) t)
-read (b ∷ bs) p t = option_and_then (λ q. read bs q (lists_after p (kind_of b) t)) (next_place p (kind_of b))
+read [] p t = line_at (line_ending_at p) (and_side (last_side p) t)
+read (b ∷ bs) p t = option_and_then (λ q. read bs q (lists_after p (line_kind_of b) t)) (next_line_place p (line_kind_of b))

@@ -1,15 +1,17 @@
 -- Lines of codes, and where bytes leave their grammar.
 use Rattle.std.specs.Fmt.{digits}
-use Rattle.std.specs.Prelude.{List, None, Some, [], codes, flat_map, refl, replicate, ℕ, ◌++◌, ◌∷◌, ◌≡◌}
+use Rattle.std.specs.Prelude.{List, None, Some, [], codes, false, flat_map, refl, replicate, ℕ, ◌++◌, ◌∷◌, ◌≡◌}
 use Rattle.std.proofs.Common.{arith, lit<, lit≤}
 use Rattle.bk_text.specs.CodeLine.{Flat, IsLine, IsNoLine, Item, Skip}
 use Rattle.bk_text.specs.CodeText.{code_text, size_text}
-use Rattle.bk_text.specs.ReadLine.{IsFaultOf, IsInRange}
-use Rattle.bk_text.specs.Reader.{no_header}
+use Rattle.bk_text.specs.ReadLine.{IsInRange, IsTextFaultOf}
+use Rattle.bk_text.specs.GatheredSides.{nothing_gathered, with_gathered_side, with_group}
+use Rattle.bk_text.specs.Onward.{onward}
+use Rattle.bk_text.specs.LineReading.{ended_side, line_kind_of, next_line_place, no_header}
 use Rattle.bk_text.specs.declared.TextFault.TheVariants.{Many, Text}
 use Rattle.bk_text.specs.declared.reader.Bracket.TheVariants.{Square}
 use Rattle.bk_text.specs.declared.reader.Field.TheVariants.{Height, Side, Third}
-use Rattle.bk_text.specs.declared.reader.Place.TheVariants.{BeforeGroup, BeforeSide, BehindSide, Number, Start}
+use Rattle.bk_text.specs.declared.reader.Place.TheVariants.{BeforeGroup, BeforeSide, BehindGroup, BehindSide, Number, Start}
 use Rattle.bk_text.proofs.KeepingAll.{no_lists}
 use Rattle.bk_text.proofs.Stopping.{stops_at, stops_at_end}
 use Rattle.bk_text.proofs.WhatWasRead.{read_is_line}
@@ -87,7 +89,7 @@ not_in_range-item : IsInRange (Item None None []) → ⊥
 not_in_range-item some = omega (arith, some)
 
 -- bytes that leave the grammar are refused for it
-fault-two_commas : IsFaultOf (Text 4) (codes "[18,,15]")
+fault-two_commas : IsTextFaultOf (Text 4) (codes "[18,,15]")
 fault-two_commas = at-two_commas
 
 -- 201 squares of side 1 in a row, as a table row
@@ -98,5 +100,22 @@ abbrev long_row : List ℕ
 long_row = codes "201 201 1" ++ flat_map (λ side. codes " 1") ones
 
 -- it is a line, and has too many sides
-fault-many : IsFaultOf Many long_row
+fault-many : IsTextFaultOf Many long_row
 fault-many = (Flat 201 201 1 ones, read_is_line long_row (Flat 201 201 1 ones) refl, lit< tt)
+
+-- behind the side 18 a comma leads to the next side
+comma-behind_side : next_line_place (Number (Side no_header Square) 18) (line_kind_of 44) ≡ Some (BeforeSide no_header Square)
+comma-behind_side = refl
+
+-- the side that ends before that comma
+side-ended : ended_side (Number (Side no_header Square) 18) (line_kind_of 44) ≡ Some 18
+side-ended = refl
+
+-- the side 7, and its group closed
+group-gathered : with_group (with_gathered_side 7 nothing_gathered) ≡ record { groups = (7 ∷ []) ∷ []; sides = []; many = false }
+group-gathered = refl
+
+-- seven bytes at once
+group-onward : onward (codes "[18,15]") Start nothing_gathered
+    ≡ Some (BehindGroup no_header, record { groups = (18 ∷ 15 ∷ []) ∷ []; sides = []; many = false })
+group-onward = refl

@@ -3,10 +3,10 @@ use Rattle.std.specs.List.{AllByRecursion}
 use Rattle.std.specs.Prelude.{Bool, Err, IfErr, IfOk, List, Ok, OnErr, Result, [], false, length, true, ℕ, ◌<◌, ◌∷◌, ◌≡◌, ◌≤◌}
 use Rattle.std.proofs.Common.{arith, subst, sym}
 use Rattle.bk_grammar.specs.Grammar.{Number}
-use Rattle.bk_tiling.specs.Kept.{IsSide}
+use Rattle.bk_tiling.specs.KeptTiling.{IsSide}
 use Rattle.bk_text.specs.CodeLine.{Flat, IsLine, Item, Line, Skip, TableSides}
-use Rattle.bk_text.specs.ReadLine.{IsFaultOf, IsInRange, sides_of_line}
-use Rattle.bk_text.specs.Gathered.{Gathered, line_gathered}
+use Rattle.bk_text.specs.ReadLine.{IsInRange, IsTextFaultOf, sides_of_line}
+use Rattle.bk_text.specs.GatheredSides.{Gathered, line_gathered}
 use Rattle.bk_text.specs.declared.reader.Ending.{Ending}
 use Rattle.bk_text.specs.declared.TextFault.{TextFault}
 use Rattle.bk_text.specs.declared.TextFault.TheVariants.{Many}
@@ -47,6 +47,6 @@ range_is (Err fault) g bs line few = tt
 
 -- a line is refused for its many sides exactly where it has them
 pub fault_is : (r : Result Ending TextFault) (many : Bool) (bs : List ℕ) → IfErr r (λ fault. fault ≡ Many) → OnErr r (many ≡ true)
-    → (many ≡ true → IsFaultOf Many bs) → IfErr r (λ fault. IsFaultOf fault bs)
+    → (many ≡ true → IsTextFaultOf Many bs) → IfErr r (λ fault. IsTextFaultOf fault bs)
 fault_is (Ok e) many bs is full line = tt
-fault_is (Err fault) many bs is full line = subst (λ (z : TextFault). IsFaultOf z bs) (sym is) (line full)
+fault_is (Err fault) many bs is full line = subst (λ (z : TextFault). IsTextFaultOf z bs) (sym is) (line full)

@@ -4,7 +4,7 @@ use Rattle.std.proofs.Common.{ap, append_assoc, arith, sym, ◌∙◌}
 use Rattle.bk_grammar.proofs.Reading.{Reads, byte_is, split}
 use Rattle.bk_grammar.specs.Grammar.{Blanks, Is, LineEnd, Number, SomeBlanks, ◌then◌}
 use Rattle.bk_text.specs.CodeLine.{Flat, IsLine, Item, Line, Side, Size, Skip, TableSides}
-use Rattle.bk_text.specs.Reader.{most, next_place}
+use Rattle.bk_text.specs.LineReading.{most, next_line_place}
 use Rattle.bk_text.specs.declared.reader.Ending.TheVariants.{Empty, Row}
 use Rattle.bk_text.specs.declared.reader.Field.{Field}
 use Rattle.bk_text.specs.declared.reader.Field.TheVariants.{Column, First, Height, Second, Third}
@@ -21,7 +21,7 @@ use Rattle.bk_text.proofs.GroupsRead.{code_behind, code_read}
 
 -- a size
 size_reads : (p : Place) (f : Field) (order : Option ℕ) (w h : ℕ) (text x : List ℕ) → 10 ^ 18 ≤ most f + 1 → Begins_number p f no_lists
-    → next_place (InNumber f w) Cross ≡ Some (BeforeHeight order w) → lists_after (InNumber f w) Cross no_lists ≡ no_lists
+    → next_line_place (InNumber f w) Cross ≡ Some (BeforeHeight order w) → lists_after (InNumber f w) Cross no_lists ≡ no_lists
     → Reads (Size (w, h)) text x → read text p no_lists ≡ read x (InNumber (Height order w) h) no_lists
 size_reads p f order w h text x bound begins next lists r =
     let a = split (Number 18 w) (Is (codes "x") then Number 18 h) text x r in

@@ -5,9 +5,9 @@ use Rattle.std.proofs.Common.{ap, arith, get_or, inl, inr, sym, ◌∙◌}
 use Rattle.std.proofs.lemmas.Bool.{cases_eq}
 use Rattle.std.proofs.lemmas.Bool.Decides.{nat_tests}
 use Rattle.std.proofs.lemmas.List.{take_more}
-use Rattle.bk_text.specs.Gathered.{Gathered, gathered_after}
-use Rattle.bk_text.specs.Onward.{BeginsNumber, SpellOn, onward}
-use Rattle.bk_text.specs.Reader.{behind_number, kind_of, longer, most, next_place}
+use Rattle.bk_text.specs.GatheredSides.{Gathered, gathered_after}
+use Rattle.bk_text.specs.Onward.{BeginsFieldNumber, SpellOn, onward}
+use Rattle.bk_text.specs.LineReading.{behind_number, field_with_digit, line_kind_of, most, next_line_place}
 use Rattle.bk_text.specs.declared.reader.Bracket.{Bracket}
 use Rattle.bk_text.specs.declared.reader.Field.{Field}
 use Rattle.bk_text.specs.declared.reader.Field.TheVariants.{Column, First, Height, Second, Side, Third}
@@ -20,22 +20,25 @@ use Rattle.bk_text.proofs.Strides.{onward-append}
 
 -- what one byte of a kind makes of a place
 abbrev pub step : Place → Gathered → Kind → Option (Place × Gathered)
-step p g k = option_and_then (λ q. Some (q, gathered_after p k g)) (next_place p k)
+step p g k = option_and_then (λ q. Some (q, gathered_after p k g)) (next_line_place p k)
 
 -- where numbers begin
-pub order_begins : BeginsNumber Start First
+pub order_begins : BeginsFieldNumber Start First
 order_begins = record { next = λ d. refl; keeps = λ d g. refl }
 
-pub width_begins : (order : ℕ) → BeginsNumber (BehindFirst order) (Second order)
+-- behind the first number of a header a second one begins with its first digit
+pub width_begins : (order : ℕ) → BeginsFieldNumber (BehindFirst order) (Second order)
 width_begins order = record { next = λ d. refl; keeps = λ d g. refl }
 
-pub height_begins : (order : Option ℕ) (width : ℕ) → BeginsNumber (BeforeHeight order width) (Height order width)
+-- behind the cross of a size the height begins with its first digit
+pub height_begins : (order : Option ℕ) (width : ℕ) → BeginsFieldNumber (BeforeHeight order width) (Height order width)
 height_begins order width = record { next = λ d. refl; keeps = λ d g. refl }
 
-pub side_begins : (header : Header) (bracket : Bracket) → BeginsNumber (BeforeSide header bracket) (Side header bracket)
+-- behind a bracket or a comma a side begins with its first digit
+pub side_begins : (header : Header) (bracket : Bracket) → BeginsFieldNumber (BeforeSide header bracket) (Side header bracket)
 side_begins header bracket = record { next = λ d. refl; keeps = λ d g. refl }
 
-digit_kind : (b : ℕ) → 49 ≤ b → b ≤ 57 → kind_of b ≡ Digit (b - 48)
+digit_kind : (b : ℕ) → 49 ≤ b → b ≤ 57 → line_kind_of b ≡ Digit (b - 48)
 digit_kind b low high = grind (arith, nat_tests)
 
 -- a digit gathers nothing
@@ -56,7 +59,7 @@ keeps_digit (Column r) v d g = refl
 keeps_digit (Side h bracket) v d g = refl
 
 -- a number goes on with a digit where it stays small enough
-longer_to : (field : Field) (v d n greatest : ℕ) → greatest ≡ most field → v * 10 + d ≡ n → n ≤ greatest → longer field v d ≡ Some (Number field n)
+longer_to : (field : Field) (v d n greatest : ℕ) → greatest ≡ most field → v * 10 + d ≡ n → n ≤ greatest → field_with_digit field v d ≡ Some (Number field n)
 longer_to field v d n greatest same is small =
     ap (λ t. if t then Some (Number field (v * 10 + d)) else None) (below v d (most field) (omega (arith, same, is, small)))
     ∙ ap (λ z. Some (Number field z)) is
@@ -85,7 +88,7 @@ one_digit greatest byte (suc n) (suc m) low high is some small = record {
     by_kind : (field : Field) (g : Gathered) → greatest ≡ most field → (byte ≡ 48) ⊎ (byte ≡ 48 → ⊥)
         → onward (byte ∷ []) (Number field (suc n)) g ≡ Some (Number field (suc m), g)
     by_kind field g same (inl e) =
-        ap (step (Number field (suc n)) g) (ap kind_of e)
+        ap (step (Number field (suc n)) g) (ap line_kind_of e)
         ∙ ap (option_and_then (λ q. Some (q, gathered_after (Number field (suc n)) Zero g)))
         (longer_to field (suc n) 0 (suc m) greatest same (omega (arith, is, e)) small)
         ∙ ap (λ h. Some (Number field (suc m), h)) (keeps_zero field (suc n) g)
@@ -113,8 +116,8 @@ behind_header field n k q m e g = absurd (cc)
 
 -- a number of the header, and the byte that ends it
 pub number_taken : (place : Place) (field : Field) (bytes : List ℕ) (number digits : ℕ) (kind : Kind) (next : Place)
-    → BeginsNumber place field → most field ≡ 999_999_999_999_999_999 → SpellOn 999_999_999_999_999_999 (take digits bytes) 0 number → 0 < number
-    → digits < length bytes → kind_of (get_or bytes digits 0) ≡ kind → behind_number field number kind ≡ Some next
+    → BeginsFieldNumber place field → most field ≡ 999_999_999_999_999_999 → SpellOn 999_999_999_999_999_999 (take digits bytes) 0 number → 0 < number
+    → digits < length bytes → line_kind_of (get_or bytes digits 0) ≡ kind → behind_number field number kind ≡ Some next
     → (g : Gathered) → onward (take (digits + 1) bytes) place g ≡ Some (next, g)
 number_taken place field bytes zero digits kind next begins header spelled some within is leads g = absurd (omega (arith, some))
 number_taken place field bytes (suc n) digits kind next begins header spelled some within is leads g =

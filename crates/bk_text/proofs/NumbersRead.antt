@@ -9,9 +9,11 @@ use Rattle.std.proofs.lemmas.Bool.Decides.{nat_tests}
 use Rattle.std.proofs.lemmas.Int.Digits.{digits_value-lt}
 use Rattle.std.proofs.lemmas.Str.{digit_value_digit}
 use Rattle.std.proofs.lemmas.Str.Parse.{digit_from_value}
+use Rattle.bk_laws.proofs.Digits.{digits_value_after-le}
+use Rattle.bk_laws.proofs.Multiples.{lt_pow_ten-le_greatest}
 use Rattle.bk_grammar.proofs.Reading.{Reads}
 use Rattle.bk_grammar.specs.Grammar.{Blanks, Comment, IsBlank, LineEnd, Nothing, Number, SomeBlanks, ◌or◌}
-use Rattle.bk_text.specs.Reader.{kind_of, longer, most, next_place}
+use Rattle.bk_text.specs.LineReading.{field_with_digit, line_kind_of, most, next_line_place}
 use Rattle.bk_text.specs.declared.reader.Ending.{Ending}
 use Rattle.bk_text.specs.declared.reader.Field.{Field}
 use Rattle.bk_text.specs.declared.reader.Field.TheVariants.{Column, First, Height, Second, Side as SideOf, Third}
@@ -20,22 +22,21 @@ use Rattle.bk_text.specs.declared.reader.Kind.TheVariants.{Blank, Digit, Semicol
 use Rattle.bk_text.specs.declared.reader.Place.{Place}
 use Rattle.bk_text.specs.declared.reader.Place.TheVariants.{Comment as InComment, Number as InNumber}
 use Rattle.bk_text.proofs.KeepingAll.{Lists, line_of, lists_after, read}
-use Rattle.bk_grammar.proofs.NumbersRead.{powers, value_grows}
 
 -- a further byte of a known kind
-pub read_next : (p q : Place) (k : Kind) (t u : Lists) (b : ℕ) (bs : List ℕ) → kind_of b ≡ k → next_place p k ≡ Some q → lists_after p k t ≡ u
+pub read_next : (p q : Place) (k : Kind) (t u : Lists) (b : ℕ) (bs : List ℕ) → line_kind_of b ≡ k → next_line_place p k ≡ Some q → lists_after p k t ≡ u
     → read (b ∷ bs) p t ≡ read bs q u
 read_next p q k t u b bs kind next lists =
-    ap (λ k. option_and_then (λ q. read bs q (lists_after p k t)) (next_place p k)) kind
+    ap (λ k. option_and_then (λ q. read bs q (lists_after p k t)) (next_line_place p k)) kind
     ∙ ap (option_and_then (λ q. read bs q (lists_after p k t))) next
     ∙ ap (read bs q) lists
 
-kind_blank : (b : ℕ) → IsBlank b → kind_of b ≡ Blank
-kind_blank b (inl e) = ap kind_of e
-kind_blank b (inr (inl e)) = ap kind_of e
-kind_blank b (inr (inr e)) = ap kind_of e
+kind_blank : (b : ℕ) → IsBlank b → line_kind_of b ≡ Blank
+kind_blank b (inl e) = ap line_kind_of e
+kind_blank b (inr (inl e)) = ap line_kind_of e
+kind_blank b (inr (inr e)) = ap line_kind_of e
 
-kind_digit : (b : ℕ) → digit_value b < 10 → b ≢ 48 → kind_of b ≡ Digit (digit_value b)
+kind_digit : (b : ℕ) → digit_value b < 10 → b ≢ 48 → line_kind_of b ≡ Digit (digit_value b)
 kind_digit b small other =
     let range = digit_from_value b small in
     let value = digit_value_digit b range in
@@ -62,7 +63,7 @@ digit_keeps (Third o w) v d t = refl
 digit_keeps (Column r) v d t = refl
 digit_keeps (SideOf g c) v d t = refl
 
-longer_fits : (f : Field) (v d : ℕ) → v * 10 + d ≤ most f → longer f v d ≡ Some (InNumber f (v * 10 + d))
+longer_fits : (f : Field) (v d : ℕ) → v * 10 + d ≤ most f → field_with_digit f v d ≡ Some (InNumber f (v * 10 + d))
 longer_fits f v d few = cond-true _ _ _ (le-leb v (most f / 10) (tenth (most f) few))
   where
     tenth : (m : ℕ) → v * 10 + d ≤ m → v ≤ m / 10
@@ -79,7 +80,7 @@ more_digit f v b t bs small few = which (cases (b == 48) refl)
     which : (b ≡ 48) ⊎ (b ≢ 48) → read (b ∷ bs) (InNumber f v) t ≡ read bs (InNumber f (v * 10 + digit_value b)) t
     which (inl e) =
         let value : digit_value b ≡ 0 = ap digit_value e in
-        read_next (InNumber f v) (InNumber f (v * 10 + 0)) Zero t t b bs (ap kind_of e) (longer_fits f v 0 (omega (arith, few))) (zero_keeps f v t)
+        read_next (InNumber f v) (InNumber f (v * 10 + 0)) Zero t t b bs (ap line_kind_of e) (longer_fits f v 0 (omega (arith, few))) (zero_keeps f v t)
         ∙ ap (λ z. read bs (InNumber f (v * 10 + z)) t) (sym value)
     which (inr e) = read_next (InNumber f v) (InNumber f (v * 10 + digit_value b)) (Digit (digit_value b)) t t b bs (kind_digit b small e)
         (longer_fits f v (digit_value b) few) (digit_keeps f v (digit_value b) t)
@@ -88,15 +89,12 @@ more_digits : (f : Field) (v : ℕ) (ds : List ℕ) (t : Lists) (x : List ℕ) �
     → read (ds ++ x) (InNumber f v) t ≡ read x (InNumber f (digits_value_after 10 v ds)) t
 more_digits f v [] t x digits few = refl
 more_digits f v (d ∷ ds) t x digits few =
-    more_digit f v d t (ds ++ x) digits.0 (omega (arith, few, value_grows (v * 10 + digit_value d) ds))
+    more_digit f v d t (ds ++ x) digits.0 (omega (arith, few, digits_value_after-le (v * 10 + digit_value d) ds))
     ∙ more_digits f (v * 10 + digit_value d) ds t x digits.1 few
 
 -- a place at which a number may begin
 abbrev pub Begins_number : Place → Field → Lists → Type 0
-Begins_number p f t = (d : ℕ) → (next_place p (Digit d) ≡ Some (InNumber f d)) × (lists_after p (Digit d) t ≡ t)
-
-fits : (greatest most' k n : ℕ) → 10 ^ most' ≤ greatest + 1 → k ≤ most' → n < 10 ^ k → n ≤ greatest
-fits greatest most' k n bound few below = omega (arith, bound, below, powers k most' few)
+Begins_number p f t = (d : ℕ) → (next_line_place p (Digit d) ≡ Some (InNumber f d)) × (lists_after p (Digit d) t ≡ t)
 
 -- the text of a number leads to the place in that number
 pub number_reads : (most' n : ℕ) (p : Place) (f : Field) (t : Lists) (text x : List ℕ) → 10 ^ most' ≤ most f + 1 → Begins_number p f t
@@ -108,20 +106,21 @@ number_reads most' n p f t text x bound begins (b ∷ ds, (digits, few, first, v
     let start : digits_value_after 10 (digit_value b) ds ≡ n =
     ap (λ z. digits_value_after 10 z ds) (let z : digit_value b ≡ 0 * 10 + digit_value b = omega arith in z) ∙ value in
     let below : n ≤ most f =
-    fits (most f) most' (length (b ∷ ds)) n bound few (subst (λ (z : ℕ). z < 10 ^ length (b ∷ ds)) value (digits_value-lt 10 (b ∷ ds) digits.1)) in
+    lt_pow_ten-le_greatest (most f) most' (length (b ∷ ds)) n bound few
+    (subst (λ (z : ℕ). z < 10 ^ length (b ∷ ds)) value (digits_value-lt 10 (b ∷ ds) digits.1)) in
     ap (λ z. read z p t) e
     ∙ read_next p (InNumber f (digit_value b)) (Digit (digit_value b)) t t b (ds ++ x) (kind_digit b digits.1.0 other) k.0 k.1
     ∙ more_digits f (digit_value b) ds t x digits.1.1 (omega (arith, start, below))
     ∙ ap (λ z. read x (InNumber f z) t) start
 
 -- blanks
-blank_read : (p q : Place) (t u : Lists) (b : ℕ) (bs : List ℕ) → IsBlank b → next_place p Blank ≡ Some q → lists_after p Blank t ≡ u
+blank_read : (p q : Place) (t u : Lists) (b : ℕ) (bs : List ℕ) → IsBlank b → next_line_place p Blank ≡ Some q → lists_after p Blank t ≡ u
     → read (b ∷ bs) p t ≡ read bs q u
 blank_read p q t u b bs blank next lists = read_next p q Blank t u b bs (kind_blank b blank) next lists
 
 -- a place at which blanks change nothing
 abbrev pub Skips_blanks : Place → Lists → Type 0
-Skips_blanks p t = (next_place p Blank ≡ Some p) × (lists_after p Blank t ≡ t)
+Skips_blanks p t = (next_line_place p Blank ≡ Some p) × (lists_after p Blank t ≡ t)
 
 skipped : (p : Place) (t : Lists) (a x : List ℕ) → Skips_blanks p t → Blanks a → read (a ++ x) p t ≡ read x p t
 skipped p t [] x skips blanks = refl
@@ -133,7 +132,7 @@ blanks_reads p t text x skips (a, blanks, e) = ap (λ z. read z p t) e ∙ skipp
 
 -- blanks behind a number: the number ends
 abbrev pub Ends_at : Place → Place → Lists → Lists → Type 0
-Ends_at p q t u = (next_place p Blank ≡ Some q) × (lists_after p Blank t ≡ u)
+Ends_at p q t u = (next_line_place p Blank ≡ Some q) × (lists_after p Blank t ≡ u)
 
 -- some blanks behind a number lead to the place behind it
 pub gap_reads : (p q : Place) (t u : Lists) (text x : List ℕ) → Ends_at p q t u → Skips_blanks q u → Reads SomeBlanks text x → read text p t ≡ read x q u
@@ -154,7 +153,7 @@ comment_read (b ∷ bs) ending t = comment_read bs ending t
 -- a place at which the line may end
 pub record Ends_line (p : Place) (ending : Ending) (t u : Lists) : Type 0 where
   pub here : read [] p t ≡ Some (line_of ending u)
-  pub next : next_place p Semicolon ≡ Some (InComment ending)
+  pub next : next_line_place p Semicolon ≡ Some (InComment ending)
   pub lists : lists_after p Semicolon t ≡ u
 
 -- where the line may end, it ends also in front of a comment

@@ -4,12 +4,12 @@ use Rattle.std.proofs.Common.{ap, arith, get_or, length-append, ltb-false, ltb-t
 use Rattle.std.proofs.lemmas.Grind.{flat_map-append}
 use Rattle.std.proofs.lemmas.List.{append-nil, take_more}
 use Rattle.bk_code.specs.Code.{flat}
-use Rattle.bk_tiling.specs.Kept.{IsSide}
+use Rattle.bk_tiling.specs.KeptTiling.{IsSide}
 use Rattle.bk_text.specs.CodeLine.{Flat, IsLine, IsNoLine, Item, Line}
-use Rattle.bk_text.specs.Gathered.{Gathered, IsGathered, gathered_after, kept_count, line_gathered, with_closed, with_ended}
-use Rattle.bk_text.specs.Gathered.{with_group, with_side}
+use Rattle.bk_text.specs.GatheredSides.{Gathered, IsGathered, gathered_after, kept_side_count, line_gathered, with_closed, with_ended}
+use Rattle.bk_text.specs.GatheredSides.{with_gathered_side, with_group}
 use Rattle.bk_text.specs.ReadLine.{sides_of_line}
-use Rattle.bk_text.specs.Reader.{closes_group, ended_side, ending_at, kind_of, last_side, next_place}
+use Rattle.bk_text.specs.LineReading.{closes_group, ended_side, last_side, line_ending_at, line_kind_of, next_line_place}
 use Rattle.bk_text.specs.declared.reader.Ending.{Ending}
 use Rattle.bk_text.specs.declared.reader.Ending.TheVariants.{Coded, Empty, Row}
 use Rattle.bk_text.specs.declared.reader.Field.TheVariants.{Side as SideOf}
@@ -37,20 +37,20 @@ pub record Progress (front : List ℕ) (p : Place) (g : Gathered) : Type 0 where
   pub keeps : Keeps g lists
 
 -- a side is kept, or is one too many
-keeps_side : (n : ℕ) (g : Gathered) (t : Lists) → IsGathered g → Keeps g t → Keeps (with_side n g) (record { groups = t.groups; sides = t.sides ++ n ∷ [] })
-keeps_side n g t is keeps = cases (nat_lt (kept_count g) 200) (λ e. ltb-true (kept_count g) 200 e) (λ e. ltb-false (kept_count g) 200 e)
+keeps_side : (n : ℕ) (g : Gathered) (t : Lists) → IsGathered g → Keeps g t → Keeps (with_gathered_side n g) (record { groups = t.groups; sides = t.sides ++ n ∷ [] })
+keeps_side n g t is keeps = cases (nat_lt (kept_side_count g) 200) (λ e. ltb-true (kept_side_count g) 200 e) (λ e. ltb-false (kept_side_count g) 200 e)
   where
     longer : length (t.sides ++ n ∷ []) ≡ length t.sides + 1
     longer = length-append t.sides (n ∷ [])
 
-    all : g.many ≡ false → kept_count g ≡ read_count t
+    all : g.many ≡ false → kept_side_count g ≡ read_count t
     all few = λ i. length (flat (keeps.groups few i)) + length (keeps.sides few i)
 
-    which : (many : Bool) → g.many ≡ many → 200 ≤ kept_count g → 200 < length (flat t.groups) + length (t.sides ++ n ∷ [])
+    which : (many : Bool) → g.many ≡ many → 200 ≤ kept_side_count g → 200 < length (flat t.groups) + length (t.sides ++ n ∷ [])
     which true e full = omega (arith, keeps.more e, longer)
     which false e full = omega (arith, all e, longer, full)
 
-    cases : (room : Bool) → (room ≡ true → kept_count g < 200) → (room ≡ false → 200 ≤ kept_count g)
+    cases : (room : Bool) → (room ≡ true → kept_side_count g < 200) → (room ≡ false → 200 ≤ kept_side_count g)
         → Keeps (if room then record { groups = g.groups; sides = g.sides ++ n ∷ []; many = g.many } else record {
           groups = g.groups;
           sides = g.sides;
@@ -105,8 +105,8 @@ with_room room n g =
     if room then record { groups = g.groups; sides = g.sides ++ n ∷ []; many = g.many } else record { groups = g.groups; sides = g.sides; many = true }
 
 -- a side that is kept is there
-pub side_added : (n : ℕ) (g : Gathered) → (with_side n g).many ≡ false → 0 < length (with_side n g).sides
-side_added n g few = cases (nat_lt (kept_count g) 200) few
+pub side_added : (n : ℕ) (g : Gathered) → (with_gathered_side n g).many ≡ false → 0 < length (with_gathered_side n g).sides
+side_added n g few = cases (nat_lt (kept_side_count g) 200) few
   where
     cases : (room : Bool) → (with_room room n g).many ≡ false → 0 < length (with_room room n g).sides
     cases true few' = omega (arith, length-append g.sides (n ∷ []))
@@ -121,36 +121,36 @@ group_fits front (BehindSide h c) g (Close d) progress closes few =
 group_fits front p g k progress closes few = absurd (cc)
 
 -- one byte further
-pub one_more : (front : List ℕ) (p q : Place) (g : Gathered) (b : ℕ) → Progress front p g → IsGathered g → next_place p (kind_of b) ≡ Some q
-    → Progress (front ++ b ∷ []) q (gathered_after p (kind_of b) g)
+pub one_more : (front : List ℕ) (p q : Place) (g : Gathered) (b : ℕ) → Progress front p g → IsGathered g → next_line_place p (line_kind_of b) ≡ Some q
+    → Progress (front ++ b ∷ []) q (gathered_after p (line_kind_of b) g)
 one_more front p q g b progress is next = record {
-  lists = lists_after p (kind_of b) progress.lists;
+  lists = lists_after p (line_kind_of b) progress.lists;
   leads = leads_on front p q progress.lists b progress.leads next;
-  fits = subst (λ (o : Option Place). FitsNext o (lists_after p (kind_of b) progress.lists)) next
-      (fits_after p (kind_of b) progress.lists b (means b) progress.fits);
-  keeps = keeps_closed (closes_group p (kind_of b)) (with_ended (ended_side p (kind_of b)) g) (and_side (ended_side p (kind_of b)) progress.lists)
-      (keeps_ended (ended_side p (kind_of b)) g progress.lists is progress.keeps);
+  fits = subst (λ (o : Option Place). FitsNext o (lists_after p (line_kind_of b) progress.lists)) next
+      (fits_after p (line_kind_of b) progress.lists b (means b) progress.fits);
+  keeps = keeps_closed (closes_group p (line_kind_of b)) (with_ended (ended_side p (line_kind_of b)) g) (and_side (ended_side p (line_kind_of b)) progress.lists)
+      (keeps_ended (ended_side p (line_kind_of b)) g progress.lists is progress.keeps);
 }
 
 -- the same behind a place of the bytes
 pub one_further : (bs : List ℕ) (i : ℕ) (p q : Place) (g : Gathered) → i < length bs → Progress (take i bs) p g → IsGathered g
-    → next_place p (kind_of (get_or bs i 0)) ≡ Some q
-    → Progress (take (i + 1) bs) q (gathered_after p (kind_of (get_or bs i 0)) g)
+    → next_line_place p (line_kind_of (get_or bs i 0)) ≡ Some q
+    → Progress (take (i + 1) bs) q (gathered_after p (line_kind_of (get_or bs i 0)) g)
 one_further bs i p q g within progress is next =
-    subst (λ (z : List ℕ). Progress z q (gathered_after p (kind_of (get_or bs i 0)) g)) (sym (take_more bs i 0 within))
+    subst (λ (z : List ℕ). Progress z q (gathered_after p (line_kind_of (get_or bs i 0)) g)) (sym (take_more bs i 0 within))
     (one_more (take i bs) p q g (get_or bs i 0) progress is next)
 
 -- where the reader stops, the bytes leave the grammar
 pub no_next : (bs : List ℕ) (i : ℕ) (p : Place) (g : Gathered) → i < length bs → Progress (take i bs) p g
-    → next_place p (kind_of (get_or bs i 0)) ≡ None → IsNoLine bs i
+    → next_line_place p (line_kind_of (get_or bs i 0)) ≡ None → IsNoLine bs i
 no_next bs i p g within progress none = stops_at bs i p progress.lists within progress.leads none
 
 -- bytes that end where no line may end are no line
-pub no_ending : (bs : List ℕ) (p : Place) (g : Gathered) → Progress bs p g → ending_at p ≡ None → IsNoLine bs (length bs)
+pub no_ending : (bs : List ℕ) (p : Place) (g : Gathered) → Progress bs p g → line_ending_at p ≡ None → IsNoLine bs (length bs)
 no_ending bs p g progress none = stops_at_end bs p progress.lists progress.leads none
 
 -- at an end the bytes are a line
-whole_line : (bs : List ℕ) (p : Place) (g : Gathered) (ending : Ending) (progress : Progress bs p g) → ending_at p ≡ Some ending
+whole_line : (bs : List ℕ) (p : Place) (g : Gathered) (ending : Ending) (progress : Progress bs p g) → line_ending_at p ≡ Some ending
     → IsLine (line_of ending (and_side (last_side p) progress.lists)) bs
 whole_line bs p g ending progress ends =
     read_is_line bs (line_of ending (and_side (last_side p) progress.lists))
@@ -162,7 +162,7 @@ same_line (Coded h) g t keeps few = ap (Item h.order h.size) (sym (keeps.groups 
 same_line (Row r) g t keeps few = ap (Flat r.order r.width r.height) (sym (keeps.sides few))
 
 -- bytes that end where a line may end are the line that was gathered
-pub line_found : (bs : List ℕ) (p : Place) (g : Gathered) (ending : Ending) → Progress bs p g → IsGathered g → ending_at p ≡ Some ending
+pub line_found : (bs : List ℕ) (p : Place) (g : Gathered) (ending : Ending) → Progress bs p g → IsGathered g → line_ending_at p ≡ Some ending
     → (with_ended (last_side p) g).many ≡ false → IsLine (line_gathered ending (with_ended (last_side p) g)) bs
 line_found bs p g ending progress is ends few =
     subst (λ (l : Line). IsLine l bs)
@@ -171,7 +171,7 @@ line_found bs p g ending progress is ends few =
     (whole_line bs p g ending progress ends)
 
 -- and where not all sides were kept, a line of more than 200 sides
-pub many_found : (bs : List ℕ) (p : Place) (g : Gathered) (ending : Ending) → Progress bs p g → IsGathered g → ending_at p ≡ Some ending
+pub many_found : (bs : List ℕ) (p : Place) (g : Gathered) (ending : Ending) → Progress bs p g → IsGathered g → line_ending_at p ≡ Some ending
     → (with_ended (last_side p) g).many ≡ true → (line : Line) × IsLine line bs × (200 < length (sides_of_line line))
 many_found bs p g ending progress is ends many =
     let keeps = keeps_ended (last_side p) g progress.lists is progress.keeps in (

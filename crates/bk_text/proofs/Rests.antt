@@ -3,7 +3,7 @@ use Rattle.std.specs.Prelude.{List, None, Option, Some, [], codes, ℕ, ◌++◌
 use Rattle.bk_grammar.proofs.NumbersRead.{Longer}
 use Rattle.bk_grammar.specs.Grammar.{Blanks, Is, LineEnd, Nothing, Number, SomeBlanks, ◌or◌, ◌then◌}
 use Rattle.bk_text.specs.CodeLine.{Flat, Groups, IsLine, Item, Line, Side, Sides, Skip}
-use Rattle.bk_text.specs.Reader.{most}
+use Rattle.bk_text.specs.LineReading.{most}
 use Rattle.bk_text.specs.declared.reader.Bracket.{Bracket}
 use Rattle.bk_text.specs.declared.reader.Field.{Field}
 use Rattle.bk_text.specs.declared.reader.Field.TheVariants.{Column, First, Height, Second, Side as SideOf, Third}

@@ -7,8 +7,8 @@ use Rattle.std.proofs.lemmas.Fmt.{length-decimal-le}
 use Rattle.std.proofs.lemmas.List.{append-nil, take_all, length-drop}
 use Rattle.std.proofs.lemmas.List.Folds.{length-flat_map-take}
 use Rattle.bk_code.specs.Code.{Code, flat}
-use Rattle.bk_code.specs.Kept.{IsKeptCode, IsSideGroup}
-use Rattle.bk_tiling.specs.Kept.{IsSide}
+use Rattle.bk_code.specs.KeptCode.{IsKeptCode, IsSideGroup}
+use Rattle.bk_tiling.specs.KeptTiling.{IsSide}
 use Rattle.bk_text.specs.CodeText.{code_text, group_text}
 
 -- a further side of a group

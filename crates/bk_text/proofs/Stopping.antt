@@ -5,7 +5,7 @@ use Rattle.std.proofs.lemmas.List.{append-nil}
 use Rattle.bk_grammar.proofs.Leaving.{leaves_at_end, leaves_before}
 use Rattle.bk_grammar.specs.Longest.{Begins}
 use Rattle.bk_text.specs.CodeLine.{IsNoLine, Line, SomeLine}
-use Rattle.bk_text.specs.Reader.{ending_at, kind_of, last_side, next_place}
+use Rattle.bk_text.specs.LineReading.{last_side, line_ending_at, line_kind_of, next_line_place}
 use Rattle.bk_text.specs.declared.reader.Bracket.TheVariants.{Round, Square}
 use Rattle.bk_text.specs.declared.reader.Field.TheVariants.{Column, First, Height, Second, Side as SideOf, Third}
 use Rattle.bk_text.specs.declared.reader.Place.{Place}
@@ -52,11 +52,11 @@ abbrev pub Leads : List ℕ → Place → Lists → Type 0
 Leads front p t = (x : List ℕ) → read (front ++ x) Start no_lists ≡ read x p t
 
 -- what leads to a place, with one more byte
-pub leads_on : (front : List ℕ) (p q : Place) (t : Lists) (b : ℕ) → Leads front p t → next_place p (kind_of b) ≡ Some q
-    → Leads (front ++ b ∷ []) q (lists_after p (kind_of b) t)
+pub leads_on : (front : List ℕ) (p q : Place) (t : Lists) (b : ℕ) → Leads front p t → next_line_place p (line_kind_of b) ≡ Some q
+    → Leads (front ++ b ∷ []) q (lists_after p (line_kind_of b) t)
 leads_on front p q t b leads next x =
     ap (λ z. read z Start no_lists) (append_assoc front (b ∷ []) x) ∙ leads (b ∷ x)
-    ∙ read_next p q (kind_of b) t (lists_after p (kind_of b) t) b x refl next refl
+    ∙ read_next p q (line_kind_of b) t (lists_after p (line_kind_of b) t) b x refl next refl
 
 -- a front that leads to a place begins a line
 begins : (front : List ℕ) (p : Place) (t : Lists) → Leads front p t → Begins SomeLine front
@@ -66,15 +66,15 @@ begins front p t leads =
     (c.0, (l.0, read_is_line (front ++ c.0) l.0 (leads c.0 ∙ l.1)))
 
 -- a byte behind which there is no place begins no rest of a line
-no_more : (front : List ℕ) (p : Place) (t : Lists) (b : ℕ) (x : List ℕ) → Leads front p t → next_place p (kind_of b) ≡ None → ¬ (SomeLine (front ++ b ∷ x))
+no_more : (front : List ℕ) (p : Place) (t : Lists) (b : ℕ) (x : List ℕ) → Leads front p t → next_line_place p (line_kind_of b) ≡ None → ¬ (SomeLine (front ++ b ∷ x))
 no_more front p t b x leads none (l, line) =
     let read' : read (b ∷ x) p t ≡ Some l = sym (leads (b ∷ x)) ∙ line_is_read l (front ++ b ∷ x) line in
-    let stopped : read (b ∷ x) p t ≡ None = ap (λ next. option_and_then (λ q. read x q (lists_after p (kind_of b) t)) next) none in
+    let stopped : read (b ∷ x) p t ≡ None = ap (λ next. option_and_then (λ q. read x q (lists_after p (line_kind_of b) t)) next) none in
     absurd (cc)
 
 -- the bytes leave the grammar where the reader has no place for the next one
 pub stops_at : (bs : List ℕ) (at : ℕ) (p : Place) (t : Lists) → at < length bs → Leads (take at bs) p t
-    → next_place p (kind_of (get_or bs at 0)) ≡ None → IsNoLine bs at
+    → next_line_place p (line_kind_of (get_or bs at 0)) ≡ None → IsNoLine bs at
 stops_at bs at p t within leads none =
     leaves_before SomeLine bs at within (begins (take at bs) p t leads) (λ x. no_more (take at bs) p t (get_or bs at 0) x leads none)
 
@@ -83,7 +83,7 @@ pub read_whole : (bs : List ℕ) (p : Place) (t : Lists) → Leads bs p t → re
 read_whole bs p t leads = ap (λ z. read z Start no_lists) (sym (append-nil bs)) ∙ leads []
 
 -- bytes that end where no line may end leave the grammar at their end
-pub stops_at_end : (bs : List ℕ) (p : Place) (t : Lists) → Leads bs p t → ending_at p ≡ None → IsNoLine bs (length bs)
+pub stops_at_end : (bs : List ℕ) (p : Place) (t : Lists) → Leads bs p t → line_ending_at p ≡ None → IsNoLine bs (length bs)
 stops_at_end bs p t leads none = leaves_at_end SomeLine bs (begins bs p t leads) no_line
   where
     no_line : ¬ (SomeLine bs)

@@ -5,10 +5,10 @@ use Rattle.std.specs.List.{AllByRecursion}
 use Rattle.std.proofs.Common.{ap, append_assoc, arith, length-append, ltb-false, ltb-true, subst, sym, ◌∙◌}
 use Rattle.std.proofs.Math.Seq.{take-add}
 use Rattle.std.proofs.lemmas.List.{append-nil, length-drop, take_all}
-use Rattle.bk_tiling.specs.Kept.{IsSide}
-use Rattle.bk_text.specs.Gathered.{Gathered, IsGathered, gathered_after, kept_count, with_closed, with_ended, with_group, with_side}
+use Rattle.bk_tiling.specs.KeptTiling.{IsSide}
+use Rattle.bk_text.specs.GatheredSides.{Gathered, IsGathered, gathered_after, kept_side_count, with_closed, with_ended, with_gathered_side, with_group}
 use Rattle.bk_text.specs.Onward.{SpellOn, at_number, onward}
-use Rattle.bk_text.specs.Reader.{closes_group, ended_side, kind_of, next_place}
+use Rattle.bk_text.specs.LineReading.{closes_group, ended_side, line_kind_of, next_line_place}
 use Rattle.bk_text.specs.declared.reader.Kind.{Kind}
 use Rattle.bk_text.specs.declared.reader.Place.{Place}
 use Rattle.bk_text.proofs.Progress.{Progress, moved, one_more, side_fits}
@@ -27,13 +27,13 @@ onward-append [] ys p q g h e =
     let same : (p, g) ≡ (q, h) = cc in
     ap (λ (z : Place × Gathered). onward ys z.0 z.1) same
 onward-append (x ∷ xs) ys p q g h e =
-    by_next (next_place p (kind_of x)) e (λ r. onward-append xs ys r q (gathered_after p (kind_of x) g) h)
+    by_next (next_line_place p (line_kind_of x)) e (λ r. onward-append xs ys r q (gathered_after p (line_kind_of x) g) h)
   where
     by_next : (o : Option Place)
-        → option_and_then (λ r. onward xs r (gathered_after p (kind_of x) g)) o ≡ Some (q, h)
-        → ((r : Place) → onward xs r (gathered_after p (kind_of x) g) ≡ Some (q, h)
-        → onward (xs ++ ys) r (gathered_after p (kind_of x) g) ≡ onward ys q h)
-        → option_and_then (λ r. onward (xs ++ ys) r (gathered_after p (kind_of x) g)) o ≡ onward ys q h
+        → option_and_then (λ r. onward xs r (gathered_after p (line_kind_of x) g)) o ≡ Some (q, h)
+        → ((r : Place) → onward xs r (gathered_after p (line_kind_of x) g) ≡ Some (q, h)
+        → onward (xs ++ ys) r (gathered_after p (line_kind_of x) g) ≡ onward ys q h)
+        → option_and_then (λ r. onward (xs ++ ys) r (gathered_after p (line_kind_of x) g)) o ≡ onward ys q h
     by_next None e' rest = absurd (cc)
     by_next (Some r) e' rest = rest r e'
 
@@ -47,14 +47,14 @@ spelled_further greatest xs ys n m k one two = record {
 }
 
 -- what is gathered stays so with a further side
-pub gathered_side : (n : ℕ) (g : Gathered) → IsSide n → IsGathered g → IsGathered (with_side n g)
-gathered_side n g side is = cases (nat_lt (kept_count g) 200) (λ e. ltb-true (kept_count g) 200 e) (λ e. ltb-false (kept_count g) 200 e)
+pub gathered_side : (n : ℕ) (g : Gathered) → IsSide n → IsGathered g → IsGathered (with_gathered_side n g)
+gathered_side n g side is = cases (nat_lt (kept_side_count g) 200) (λ e. ltb-true (kept_side_count g) 200 e) (λ e. ltb-false (kept_side_count g) 200 e)
   where
     all : (xs : List ℕ) → AllByRecursion IsSide xs → AllByRecursion IsSide (xs ++ n ∷ [])
     all [] h = (side, tt)
     all (x ∷ xs) h = (h.0, all xs h.1)
 
-    cases : (room : Bool) → (room ≡ true → kept_count g < 200) → (room ≡ false → 200 ≤ kept_count g)
+    cases : (room : Bool) → (room ≡ true → kept_side_count g < 200) → (room ≡ false → 200 ≤ kept_side_count g)
         → IsGathered (if room then record { groups = g.groups; sides = g.sides ++ n ∷ []; many = g.many } else record {
           groups = g.groups;
           sides = g.sides;
@@ -98,13 +98,13 @@ several_more [] front p q g h progress is e =
     subst (λ (z : Place × Gathered). Progress (front ++ []) z.0 z.1) same
     (subst (λ (z : List ℕ). Progress z p g) (sym (append-nil front)) progress)
 several_more (b ∷ bs) front p q g h progress is e =
-    by_next (next_place p (kind_of b)) refl e
-    (λ r next. several_more bs (front ++ b ∷ []) r q (gathered_after p (kind_of b) g) h (one_more front p r g b progress is next)
-    (still_gathered front p g (kind_of b) progress is))
+    by_next (next_line_place p (line_kind_of b)) refl e
+    (λ r next. several_more bs (front ++ b ∷ []) r q (gathered_after p (line_kind_of b) g) h (one_more front p r g b progress is next)
+    (still_gathered front p g (line_kind_of b) progress is))
   where
-    by_next : (o : Option Place) → next_place p (kind_of b) ≡ o
-        → option_and_then (λ r. onward bs r (gathered_after p (kind_of b) g)) o ≡ Some (q, h)
-        → ((r : Place) → next_place p (kind_of b) ≡ Some r → onward bs r (gathered_after p (kind_of b) g) ≡ Some (q, h)
+    by_next : (o : Option Place) → next_line_place p (line_kind_of b) ≡ o
+        → option_and_then (λ r. onward bs r (gathered_after p (line_kind_of b) g)) o ≡ Some (q, h)
+        → ((r : Place) → next_line_place p (line_kind_of b) ≡ Some r → onward bs r (gathered_after p (line_kind_of b) g) ≡ Some (q, h)
         → Progress ((front ++ b ∷ []) ++ bs) q h)
         → Progress (front ++ b ∷ bs) q h
     by_next None next e' rest = absurd (cc)

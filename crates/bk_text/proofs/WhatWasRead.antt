@@ -3,7 +3,7 @@ use Rattle.std.specs.Prelude.{List, None, Option, Some, [], option_and_then, ref
 use Rattle.std.proofs.Common.{ap, inl, subst, sym, ◌∙◌}
 use Rattle.std.proofs.lemmas.List.{append-nil}
 use Rattle.bk_text.specs.CodeLine.{Flat, IsLine, Item, Line, Skip}
-use Rattle.bk_text.specs.Reader.{ending_at, kind_of, last_side, next_place}
+use Rattle.bk_text.specs.LineReading.{last_side, line_ending_at, line_kind_of, next_line_place}
 use Rattle.bk_text.specs.declared.reader.Field.TheVariants.{Column, First, Height, Second, Side as SideOf, Third}
 use Rattle.bk_text.specs.declared.reader.Place.TheVariants.{BehindColumn, BehindGroup, Comment as InComment, Number as InNumber, Start}
 use Rattle.bk_text.specs.declared.reader.Place.{Place}
@@ -13,7 +13,7 @@ use Rattle.bk_text.proofs.Rests.{Rest, RestAfter, item, line_onto, onto, row}
 use Rattle.bk_text.proofs.FrontBytes.{behind_byte}
 
 -- where a line may end, nothing more completes it
-at_end : (p : Place) (t : Lists) (l : Line) → line_at (ending_at p) (and_side (last_side p) t) ≡ Some l → Rest p t l []
+at_end : (p : Place) (t : Lists) (l : Line) → line_at (line_ending_at p) (and_side (last_side p) t) ≡ Some l → Rest p t l []
 at_end Start t l e = let is : Skip ≡ l = cc in (Skip, ([], [], refl, tt, inl refl), sym is)
 at_end (InNumber (Column r) v) t l e = let is : row r (t.sides ++ v ∷ []) ≡ l =
     cc in (v, [], [], refl, (tt, refl, (λ few. few)), ([], ([], [], refl, tt, inl refl), sym is))
@@ -31,10 +31,10 @@ at_end p t l e = absurd (cc)
 pub completes : (bs : List ℕ) (p : Place) (t : Lists) (l : Line) → read bs p t ≡ Some l → Rest p t l bs
 completes [] p t l e = at_end p t l e
 completes (b ∷ bs) p t l e =
-    behind_byte p (kind_of b) t l b bs (means b) (from (next_place p (kind_of b)) (λ q k. completes bs q (lists_after p (kind_of b) t) l k) e)
+    behind_byte p (line_kind_of b) t l b bs (means b) (from (next_line_place p (line_kind_of b)) (λ q k. completes bs q (lists_after p (line_kind_of b) t) l k) e)
   where
-    from : (next : Option Place) → ((q : Place) → read bs q (lists_after p (kind_of b) t) ≡ Some l → Rest q (lists_after p (kind_of b) t) l bs)
-        → option_and_then (λ q. read bs q (lists_after p (kind_of b) t)) next ≡ Some l → RestAfter next (lists_after p (kind_of b) t) l bs
+    from : (next : Option Place) → ((q : Place) → read bs q (lists_after p (line_kind_of b) t) ≡ Some l → Rest q (lists_after p (line_kind_of b) t) l bs)
+        → option_and_then (λ q. read bs q (lists_after p (line_kind_of b) t)) next ≡ Some l → RestAfter next (lists_after p (line_kind_of b) t) l bs
     from None each h = absurd (cc)
     from (Some q) each h = each q h
 

@@ -3,10 +3,11 @@ use Rattle.std.specs.List.{AllByRecursion, join_with_byte}
 use Rattle.std.specs.Prelude.{List, [], codes, decimal, length, map, refl, ℕ, ◌++◌, ◌<◌, ◌∷◌, ◌≡◌}
 use Rattle.std.proofs.Common.{ap, append_assoc, arith, inl, subst, sym, ◌∙◌}
 use Rattle.std.proofs.lemmas.List.{append-nil}
+use Rattle.bk_laws.proofs.ListParts.{append-blank_between}
 use Rattle.bk_grammar.proofs.NumberLaws.{number_from_decimal}
 use Rattle.bk_grammar.specs.Grammar.{Blanks}
-use Rattle.bk_code.specs.Kept.{IsSideGroup}
-use Rattle.bk_tiling.specs.Kept.{IsSide}
+use Rattle.bk_code.specs.KeptCode.{IsSideGroup}
+use Rattle.bk_tiling.specs.KeptTiling.{IsSide}
 use Rattle.bk_text.specs.CodeLine.{Group, Groups, HeaderNumber, Side, Sides}
 use Rattle.bk_text.specs.ReadLine.{IsHeaderNumber}
 use Rattle.bk_text.specs.TextLaws.{AWrittenCodeIsRead, AWrittenItemIsRead, AWrittenSizeAndCodeAreRead, AWrittenSizeIsASize}
@@ -66,9 +67,6 @@ written_size w h wide high = (
   (codes "x", decimal h, refl, refl, number_spelled h high),
 )
 
-blank_between : (bytes rest : List ℕ) → bytes ++ 32 ∷ rest ≡ (bytes ++ 32 ∷ []) ++ rest
-blank_between bytes rest = sym (append_assoc bytes (32 ∷ []) rest)
-
 -- a written size and code
 pub written_sized : AWrittenSizeAndCodeAreRead
 written_sized w h code end wide high kept some ends = (
@@ -79,7 +77,7 @@ written_sized w h code end wide high kept some ends = (
   (
     size_text w h ++ 32 ∷ [],
     code_text code ++ end,
-    blank_between (size_text w h) (code_text code ++ end),
+    append-blank_between (size_text w h) (code_text code ++ end),
     (size_text w h, 32 ∷ [], refl, written_size w h wide high, (inl refl, tt)),
     (code_text code, end, refl, code_spelled code kept.groups some, ends),
   ),
@@ -92,7 +90,7 @@ written_item order w h code end ordered wide high kept some ends =
     let rest : List ℕ = code_text code ++ end in
     let front : List ℕ = decimal order ++ 32 ∷ sized in
     let whole : decimal order ++ 32 ∷ (size_text w h ++ 32 ∷ rest) ≡ front ++ rest =
-    ap (λ z. decimal order ++ 32 ∷ z) (blank_between (size_text w h) rest) ∙ sym (append_assoc (decimal order) (32 ∷ sized) rest) in (
+    ap (λ z. decimal order ++ 32 ∷ z) (append-blank_between (size_text w h) rest) ∙ sym (append_assoc (decimal order) (32 ∷ sized) rest) in (
       [],
       decimal order ++ 32 ∷ (size_text w h ++ 32 ∷ rest),
       refl,

@@ -4,6 +4,6 @@ pub mod CodeText
 pub mod ReadLine
 pub mod TextLaws
 -- How its code keeps it.
-pub mod Reader
-pub mod Gathered
+pub mod GatheredSides
+pub mod LineReading
 pub mod Onward

@@ -2,10 +2,10 @@
 
 ghost use Rattle.std.specs.Prelude.{IfErr, IfOk, OnErr, Some, false, true, length, take, ◌<◌, ◌≡◌, ◌≤◌};
 ghost use Rattle.std.specs.Option.{ForSome};
-ghost use Rattle.bk_text.specs.Gathered.{Gathered};
-ghost use Rattle.bk_text.specs.Onward.{BeginsNumber, onward};
-ghost use Rattle.bk_text.specs.Reader.{most};
-ghost use Rattle.bk_tiling.specs.Kept.{IsSide};
+ghost use Rattle.bk_text.specs.GatheredSides.{Gathered};
+ghost use Rattle.bk_text.specs.Onward.{BeginsFieldNumber, onward};
+ghost use Rattle.bk_text.specs.LineReading.{most};
+ghost use Rattle.bk_tiling.specs.KeptTiling.{IsSide};
 
 use crate::reader::{Bracket, Ending, Field, Header, Kind, LARGEST_HEADER_NUMBER, Place, kind_of};
 use crate::sides::{Front, front_of, number_in_front};
@@ -15,8 +15,8 @@ use bk_code::{Code, flat};
 use bk_tiling::MOST_SQUARES;
 use std::marker::Model;
 
-/// What is gathered of a line that is read: the groups that were closed and the sides of the open group or of the table row, the
-/// first 200 sides in all, and whether there were more.
+/// What is gathered of a line that is read: the groups that were closed and the sides of the open group or of the table
+/// row, the first 200 sides in all, and whether there were more.
 #[derive(Drop)]
 pub struct Gatherer {
     code: Code,
@@ -25,7 +25,7 @@ pub struct Gatherer {
 }
 
 impl Model for Gatherer {
-    ghost use Rattle.bk_text.specs.Gathered.{Gathered, IsGathered};
+    ghost use Rattle.bk_text.specs.GatheredSides.{Gathered, IsGathered};
 
     ghost Value = { Gathered };
 
@@ -35,11 +35,13 @@ impl Model for Gatherer {
 }
 
 impl Gatherer {
-    ghost use Rattle.bk_text.specs.Gathered.{IsGathered, gathered_after, line_gathered, nothing_gathered, with_side, with_group, with_ended};
+    ghost use Rattle.bk_text.specs.GatheredSides.{IsGathered, gathered_after, line_gathered, nothing_gathered};
+    ghost use Rattle.bk_text.specs.GatheredSides.{with_gathered_side};
+    ghost use Rattle.bk_text.specs.GatheredSides.{with_group, with_ended};
     ghost use Rattle.bk_text.specs.Onward.{OpensGroup, behind_sides, onward};
     ghost use Rattle.bk_text.specs.declared.reader.Header.{Header};
     ghost use Rattle.bk_text.specs.declared.reader.Place.TheVariants.{BeforeSide};
-    ghost use Rattle.bk_text.specs.Reader.{closes_group, ended_side, last_side};
+    ghost use Rattle.bk_text.specs.LineReading.{closes_group, ended_side, last_side};
     ghost use Rattle.bk_text.specs.ReadLine.{sides_of_line, stands_for};
 
     /// Nothing is gathered.
@@ -93,9 +95,9 @@ impl Gatherer {
         }
     }
 
-    // Takes several bytes at once: a number of the header with the byte behind it, the bracket that opens a group, the sides of the group
-    // with the commas and the bracket right behind them, and behind the `;` of a comment all bytes. The place moves behind them. Tells how
-    // many bytes they are.
+    // Takes several bytes at once: a number of the header with the byte behind it, the bracket that opens a group, the
+    // sides of the group with the commas and the bracket right behind them, and behind the `;` of a comment all bytes.
+    // The place moves behind them. Tells how many bytes they are.
     pub(crate) fn take_ahead(&mut self, place: &mut Place, bytes: &[u8]) -> usize
         ensures within { result ≤ length bytes.now }
         ensures leads { onward (take result bytes.now) place.old self.old ≡ Some (place.new, self.new) }
@@ -123,7 +125,8 @@ impl Gatherer {
         }
     }
 
-    // Takes the bracket in front of bytes that opens a group, and the sides behind it as `take_group` does. Tells how many bytes they are.
+    // Takes the bracket in front of bytes that opens a group, and the sides behind it as `take_group` does. Tells how
+    // many bytes they are.
     fn take_next_group(&mut self, place: &mut Place, header: Header, bytes: &[u8]) -> usize
         requires { OpensGroup place.old header }
         ensures within { result ≤ length bytes.now }
@@ -144,12 +147,13 @@ impl Gatherer {
         taken + 1
     }
 
-    // Takes the sides in front of bytes of a group that such a bracket opened. Tells how many bytes they are with the commas and the
-    // bracket right behind them, and whether this bracket was among them.
+    // Takes the sides in front of bytes of a group that such a bracket opened. Tells how many bytes they are with the
+    // commas and the bracket right behind them, and whether this bracket was among them.
     fn take_group(&mut self, bracket: Bracket, bytes: &[u8]) -> (usize, bool)
         ensures within { result.0 ≤ length bytes.now }
         ensures leads { (header : Header)
-            → onward (take result.0 bytes.now) (BeforeSide header bracket) self.old ≡ Some (behind_sides header bracket result.1, self.new) }
+            → onward (take result.0 bytes.now) (BeforeSide header bracket) self.old
+            ≡ Some (behind_sides header bracket result.1, self.new) }
     {
         let mut taken = 0;
         'sides: while taken < bytes.len() {
@@ -184,7 +188,7 @@ impl Gatherer {
     // That a line ends so, if no side was left out.
     pub(crate) fn ended(&self, ending: Ending) -> Result<Ending, TextFault>
         ensures few { IfOk result (λ e. (e ≡ ending) × (self.now.many ≡ false)) }
-        ensures fits { IfOk result (λ e. length (sides_of_line (line_gathered e self.now)) ≤ 200) }
+        ensures fits { IfOk result (λ e. length (sides_of_line (line_gathered e self.now)) ≤ MOST_SQUARES) }
         ensures many { IfErr result (λ fault. fault ≡ TextFault.Many) }
         ensures full { OnErr result (self.now.many ≡ true) }
     {
@@ -217,7 +221,7 @@ impl Gatherer {
     // Adds a side, which is kept where there is room.
     fn add_side(&mut self, side: u64)
         requires { IsSide side }
-        ensures { self.new ≡ with_side side self.old }
+        ensures { self.new ≡ with_gathered_side side self.old }
     {
         if flat(&self.code).len() + self.sides.len() < MOST_SQUARES {
             self.sides.push(side);
@@ -238,10 +242,11 @@ impl Gatherer {
     }
 }
 
-// Takes the number of this field in front of bytes with the byte behind it, if a header goes on so. Tells how many bytes they are.
+// Takes the number of this field in front of bytes with the byte behind it, if a header goes on so. Tells how many
+// bytes they are.
 fn take_number(place: &mut Place, field: Field, bytes: &[u8]) -> usize
-    requires first { BeginsNumber place.old field }
-    requires header { most field ≡ 999_999_999_999_999_999 }
+    requires first { BeginsFieldNumber place.old field }
+    requires header { most field ≡ LARGEST_HEADER_NUMBER }
     ensures within { result ≤ length bytes.now }
     ensures leads { (g : Gathered) → onward (take result bytes.now) place.old g ≡ Some (place.new, g) }
 {

@@ -2,9 +2,10 @@
 #![tactic(auto)]
 
 ghost use Rattle.bk_text.specs.CodeLine.{Line as LineMeant, IsLine, IsNoLine};
-ghost use Rattle.bk_text.specs.Gathered.{line_gathered};
-ghost use Rattle.bk_text.specs.ReadLine.{IsFaultOf, IsInRange, stands_for};
-ghost use Rattle.bk_text.specs.TextLaws.{AWrittenCodeIsRead, AWrittenItemIsRead, AWrittenSizeAndCodeAreRead, AWrittenSizeIsASize};
+ghost use Rattle.bk_text.specs.GatheredSides.{line_gathered};
+ghost use Rattle.bk_text.specs.ReadLine.{IsInRange, IsTextFaultOf, stands_for};
+ghost use Rattle.bk_text.specs.TextLaws.{AWrittenCodeIsRead, AWrittenItemIsRead, AWrittenSizeAndCodeAreRead};
+ghost use Rattle.bk_text.specs.TextLaws.{AWrittenSizeIsASize};
 ghost use Rattle.std.specs.Prelude.{IfErr, IfOk, ◌≡◌, ℕ, List};
 
 mod gatherer;
@@ -14,6 +15,7 @@ mod writer;
 
 use arrayvec::ArrayVec;
 use bk_code::Code;
+use bk_tiling::MOST_SQUARES;
 pub use gatherer::Gatherer;
 pub use reader::{Ending, Header, Table};
 use reader::{Place, kind_of};
@@ -34,7 +36,7 @@ pub enum Line {
         order: u64,
         width: u64,
         height: u64,
-        sides: ArrayVec<u64, 200>,
+        sides: ArrayVec<u64, MOST_SQUARES>,
     },
 }
 
@@ -50,13 +52,13 @@ pub enum TextFault {
 }
 
 /// Reads a line of codes, given without its line feed: what it stands for by the grammar of lines. `Text` comes exactly
-/// where the bytes are no line, with the length of their longest start that begins a line. `Many` comes exactly where they
-/// are a line of more than 200 sides. The group notation is Bouwkamp's (1946-47); the headers, the comments and the table
-/// rows are our own.
+/// where the bytes are no line, with the length of their longest start that begins a line. `Many` comes exactly where
+/// they are a line of more than 200 sides. The group notation is Bouwkamp's (1946-47); the headers, the comments and
+/// the table rows are our own.
 pub fn read_line(line: &[u8]) -> Result<Line, TextFault>
     ensures read { IfOk result (λ l. IsLine (stands_for l) line.now) }
     ensures range { IfOk result (λ l. IsInRange (stands_for l)) }
-    ensures fault { IfErr result (λ fault. IsFaultOf fault line.now) }
+    ensures fault { IfErr result (λ fault. IsTextFaultOf fault line.now) }
 {
     let mut gatherer = Gatherer::new();
     match read_into(line, &mut gatherer) {
@@ -65,12 +67,12 @@ pub fn read_line(line: &[u8]) -> Result<Line, TextFault>
     }
 }
 
-/// Does what `read_line` does in a gatherer that is there, and holds anything before: the groups and the sides of the line are left in
-/// it, and what kind of line it is is returned. So nothing large is made for a line.
+/// Does what `read_line` does in a gatherer that is there, and holds anything before: the groups and the sides of the
+/// line are left in it, and what kind of line it is is returned. So nothing large is made for a line.
 pub fn read_into(line: &[u8], gatherer: &mut Gatherer) -> Result<Ending, TextFault>
     ensures read { IfOk result (λ ending. IsLine (line_gathered ending gatherer.new) line.now) }
     ensures range { IfOk result (λ ending. IsInRange (line_gathered ending gatherer.new)) }
-    ensures fault { IfErr result (λ fault. IsFaultOf fault line.now) }
+    ensures fault { IfErr result (λ fault. IsTextFaultOf fault line.now) }
 {
     let mut place = Place::Start;
     let mut at = 0;

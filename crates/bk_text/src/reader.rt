@@ -1,9 +1,12 @@
 //! Reading a line of codes byte by byte.
 
 ghost use Rattle.std.specs.Prelude.{◌≡◌, ◌<◌, ◌≤◌};
-ghost use Rattle.bk_text.specs.Reader.{closes_group as closes, ended_side as ended_before, ending_at, last_side as last, kind_of as kind_of_byte};
-ghost use Rattle.bk_text.specs.Reader.{next_place, longer as longer_number, behind_number, close_group as closed_group, order_alone as only_order};
-ghost use Rattle.bk_text.specs.Reader.{most as most_of};
+ghost use Rattle.bk_text.specs.LineReading.{closes_group as closes, ended_side as ended_before, line_ending_at};
+ghost use Rattle.bk_text.specs.LineReading.{last_side as last, line_kind_of as kind_of_byte};
+ghost use Rattle.bk_text.specs.LineReading.{behind_number, close_group as closed_group};
+ghost use Rattle.bk_text.specs.LineReading.{field_with_digit as longer_number, next_line_place};
+ghost use Rattle.bk_text.specs.LineReading.{order_alone as only_order};
+ghost use Rattle.bk_text.specs.LineReading.{most as most_of};
 
 use bk_tiling::LONGEST_SIDE;
 
@@ -150,7 +153,7 @@ impl Field {
 
     // The place behind a number and a further byte.
     fn next(self, value: u64, kind: Kind) -> Option<Place>
-        ensures { result ≡ next_place (Place.Number self value) kind }
+        ensures { result ≡ next_line_place (Place.Number self value) kind }
     {
         match kind {
             Kind::Zero => self.longer(value, 0),
@@ -225,7 +228,7 @@ fn close_group(header: Header, left: Bracket, right: Bracket) -> Option<Place>
 impl Place {
     // The place behind a further byte, or `None` where no line goes on with it.
     pub fn next(self, kind: Kind) -> Option<Place>
-        ensures { result ≡ next_place self kind }
+        ensures { result ≡ next_line_place self kind }
     {
         match self {
             Place::Start => at_start(kind),
@@ -300,7 +303,7 @@ impl Place {
 
     // What a line is that ends here, or `None` where none does.
     pub fn ending(self) -> Option<Ending>
-        ensures { result ≡ ending_at self }
+        ensures { result ≡ line_ending_at self }
     {
         match self {
             Place::Start => Some(Ending::Empty),
@@ -315,7 +318,7 @@ impl Place {
 }
 
 fn at_start(kind: Kind) -> Option<Place>
-    ensures { result ≡ next_place Place.Start kind }
+    ensures { result ≡ next_line_place Place.Start kind }
 {
     match kind {
         Kind::Blank => Some(Place::Start),
@@ -327,7 +330,7 @@ fn at_start(kind: Kind) -> Option<Place>
 }
 
 fn behind_first(order: u64, kind: Kind) -> Option<Place>
-    ensures { result ≡ next_place (Place.BehindFirst order) kind }
+    ensures { result ≡ next_line_place (Place.BehindFirst order) kind }
 {
     match kind {
         Kind::Blank => Some(Place::BehindFirst(order)),
@@ -338,7 +341,7 @@ fn behind_first(order: u64, kind: Kind) -> Option<Place>
 }
 
 fn behind_column(table: Table, kind: Kind) -> Option<Place>
-    ensures { result ≡ next_place (Place.BehindColumn table) kind }
+    ensures { result ≡ next_line_place (Place.BehindColumn table) kind }
 {
     match kind {
         Kind::Blank => Some(Place::BehindColumn(table)),
@@ -349,7 +352,7 @@ fn behind_column(table: Table, kind: Kind) -> Option<Place>
 }
 
 fn before_side(header: Header, bracket: Bracket, kind: Kind) -> Option<Place>
-    ensures { result ≡ next_place (Place.BeforeSide header bracket) kind }
+    ensures { result ≡ next_line_place (Place.BeforeSide header bracket) kind }
 {
     match kind {
         Kind::Blank => Some(Place::BeforeSide(header, bracket)),
@@ -359,7 +362,7 @@ fn before_side(header: Header, bracket: Bracket, kind: Kind) -> Option<Place>
 }
 
 fn behind_side(header: Header, bracket: Bracket, kind: Kind) -> Option<Place>
-    ensures { result ≡ next_place (Place.BehindSide header bracket) kind }
+    ensures { result ≡ next_line_place (Place.BehindSide header bracket) kind }
 {
     match kind {
         Kind::Blank => Some(Place::BehindSide(header, bracket)),
@@ -370,7 +373,7 @@ fn behind_side(header: Header, bracket: Bracket, kind: Kind) -> Option<Place>
 }
 
 fn behind_group(header: Header, kind: Kind) -> Option<Place>
-    ensures { result ≡ next_place (Place.BehindGroup header) kind }
+    ensures { result ≡ next_line_place (Place.BehindGroup header) kind }
 {
     match kind {
         Kind::Blank => Some(Place::BehindGroup(header)),

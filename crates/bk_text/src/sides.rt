@@ -2,6 +2,7 @@
 
 ghost use Rattle.std.specs.Prelude.{[], IfSome, length, take, true, ◌∷◌, ◌≡◌, ◌≤◌};
 ghost use Rattle.bk_text.specs.Onward.{IsFront, SpellOn};
+ghost use Rattle.bk_text.specs.declared.reader.TheConstants.{LARGEST_HEADER_NUMBER};
 
 use crate::reader::{Bracket, Kind, kind_of};
 use bk_tiling::LONGEST_SIDE;
@@ -44,7 +45,7 @@ fn are_of_one_kind(left: Bracket, right: Bracket) -> bool
 
 // The number of the digits in front, as far as it is at most so great, and how many they are: 0 where no number begins.
 pub(crate) fn number_in_front(greatest: u64, bytes: &[u8]) -> (u64, usize)
-    requires { greatest ≤ 999_999_999_999_999_999 }
+    requires { greatest ≤ LARGEST_HEADER_NUMBER }
     ensures within { result.1 ≤ length bytes.now }
     ensures spelled { SpellOn greatest (take result.1 bytes.now) 0 result.0 }
 {
@@ -58,9 +59,10 @@ pub(crate) fn number_in_front(greatest: u64, bytes: &[u8]) -> (u64, usize)
     (number, bytes.len())
 }
 
-// The number behind a further digit, or `None` where the byte is no digit or no number goes on so. Before the first digit it is 0.
+// The number behind a further digit, or `None` where the byte is no digit or no number goes on so. Before the first
+// digit it is 0.
 fn longer(greatest: u64, number: u64, byte: u8) -> Option<u64>
-    requires large { greatest ≤ 999_999_999_999_999_999 }
+    requires large { greatest ≤ LARGEST_HEADER_NUMBER }
     requires number { number ≤ greatest }
     ensures { IfSome result (SpellOn greatest (byte ∷ []) number) }
 {

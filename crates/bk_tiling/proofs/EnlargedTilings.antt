@@ -1,33 +1,27 @@
 -- Tilings enlarged: twice, by one, and the tiling that was enlarged.
-use Rattle.std.proofs.Common.{List, [], ap, arith, map, refl, ℕ, ◌*◌, ◌<◌, ◌∷◌, ◌≡◌}
+use Rattle.std.proofs.Common.{List, [], ap, map, refl, ℕ, ◌*◌, ◌<◌, ◌∷◌, ◌≡◌}
 use Rattle.bk_laws.proofs.Products.{mul_one}
+use Rattle.bk_laws.proofs.Multiples.{mul-regroup, one_times_number}
 use Rattle.bk_tiling.specs.Scale.{enlarged, enlarged_square}
 use Rattle.bk_tiling.specs.Tiling.{Tiling}
 use Rattle.bk_tiling.specs.declared.Square.{Square}
 
--- a multiple of a multiple
-times : (m n x : ℕ) → m * (n * x) ≡ (m * n) * x
-times m n x = omega arith
-
 list_twice : (m n : ℕ) (squares : List Square) → map (enlarged_square m) (map (enlarged_square n) squares) ≡ map (enlarged_square (m * n)) squares
 list_twice m n [] = refl
-list_twice m n (q ∷ squares) = λ i. record { x = times m n q.x i; y = times m n q.y i; s = times m n q.s i } ∷ list_twice m n squares i
+list_twice m n (q ∷ squares) = λ i. record { x = mul-regroup m n q.x i; y = mul-regroup m n q.y i; s = mul-regroup m n q.s i } ∷ list_twice m n squares i
 
 -- enlarging by n and then by m is enlarging by their product
 pub enlarged-enlarged : (m n : ℕ) (t : Tiling) → enlarged m (enlarged n t) ≡ enlarged (m * n) t
-enlarged-enlarged m n t = λ i. record { width = times m n t.width i; height = times m n t.height i; squares = list_twice m n t.squares i }
-
-single : (n : ℕ) → 1 * n ≡ n
-single n = omega arith
+enlarged-enlarged m n t = λ i. record { width = mul-regroup m n t.width i; height = mul-regroup m n t.height i; squares = list_twice m n t.squares i }
 
 -- squares enlarged by 1 are the same squares
 pub list_once : (squares : List Square) → map (enlarged_square 1) squares ≡ squares
 list_once [] = refl
-list_once (q ∷ squares) = λ i. record { x = single q.x i; y = single q.y i; s = single q.s i } ∷ list_once squares i
+list_once (q ∷ squares) = λ i. record { x = one_times_number q.x i; y = one_times_number q.y i; s = one_times_number q.s i } ∷ list_once squares i
 
 -- and so is a tiling
 pub enlarged-once : (t : Tiling) → enlarged 1 t ≡ t
-enlarged-once t = λ i. record { width = single t.width i; height = single t.height i; squares = list_once t.squares i }
+enlarged-once t = λ i. record { width = one_times_number t.width i; height = one_times_number t.height i; squares = list_once t.squares i }
 
 -- equal multiples are those of equal tilings
 pub list_back : (k : ℕ) (qs rs : List Square) → 0 < k → map (enlarged_square k) qs ≡ map (enlarged_square k) rs → qs ≡ rs

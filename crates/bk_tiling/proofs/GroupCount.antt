@@ -3,7 +3,8 @@ use Rattle.std.specs.List.{onto_first}
 use Rattle.std.proofs.Common.{Bool, List, [], ap, arith, cond, count_by, false, inl, inr, length, refl, sum_by, sym, true, ℕ, ◌+◌, ◌<◌, ◌∙◌, ◌∷◌, ◌≡◌, ◌≤◌}
 use Rattle.std.proofs.lemmas.Bool.Decides.{nat_tests}
 use Rattle.std.proofs.lemmas.List.Sums.{sum_by-cons}
-use Rattle.bk_tiling.proofs.Cells.{count-cons, covers_from, in_all, none_counted, one_counted, one_for}
+use Rattle.bk_laws.proofs.TestsAsNumbers.{cond_count-of_true}
+use Rattle.bk_tiling.proofs.Cells.{count-cons, covers_from, in_all, none_counted, one_counted}
 use Rattle.bk_tiling.proofs.PairCounts.{pairs_cons, pairs_turned}
 use Rattle.bk_tiling.specs.CodeOrder.{InCodeOrder, comes_before, stands_beside}
 use Rattle.bk_tiling.specs.SquareGroups.{square_groups}
@@ -66,7 +67,7 @@ none_past q r squares laid = none_counted (stands_beside q) squares
       arith,
       laid.most r.x r.y,
       count-cons (covers r.x r.y) q (r ∷ squares),
-      one_for (covers r.x r.y q) (covers_from r.x r.y q (omega arith) right (omega (arith, level)) (omega (arith, level, some))),
+      cond_count-of_true (covers r.x r.y q) (covers_from r.x r.y q (omega arith) right (omega (arith, level)) (omega (arith, level, some))),
       one_counted (covers r.x r.y) (r ∷ squares) r (inl refl) (covers_from r.x r.y r (omega arith) (omega (arith, more)) (omega arith) (omega (arith, more))),
     )
 

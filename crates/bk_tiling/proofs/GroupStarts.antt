@@ -3,7 +3,7 @@ use Rattle.std.proofs.Common.{List, [], ap, arith, length, refl, slice_index_or,
 use Rattle.std.specs.Prelude.{not}
 use Rattle.std.proofs.lemmas.List.Elements.{All-from_recursion}
 use Rattle.bk_tiling.specs.CodeOrder.{begins_group, stands_beside}
-use Rattle.bk_tiling.specs.Kept.{IsKept}
+use Rattle.bk_tiling.specs.KeptTiling.{IsKept}
 use Rattle.bk_tiling.specs.Tiling.{IsWithin, Tiling, whole}
 use Rattle.bk_tiling.specs.declared.Square.{Square}
 

@@ -1,8 +1,8 @@
 -- Moved squares tile the moved rectangle.
 use Rattle.std.specs.List.{AllByRecursion}
-use Rattle.std.proofs.Common.{Bool, List, [], ap, arith, cond, count_by, map, nat_le, nat_lt, refl, subst, ℕ, ◌&&◌, ◌+◌, ◌-◌, ◌<◌, ◌∙◌, ◌∷◌, ◌≡◌, ◌≤◌}
-use Rattle.std.proofs.lemmas.Bool.Decides.{nat_tests}
+use Rattle.std.proofs.Common.{Bool, List, [], ap, arith, cond, count_by, map, refl, subst, ℕ, ◌&&◌, ◌+◌, ◌-◌, ◌<◌, ◌∙◌, ◌∷◌, ◌≡◌, ◌≤◌}
 use Rattle.std.proofs.lemmas.List.{length-map}
+use Rattle.bk_laws.proofs.NumberTests.{nat_le-shifted, nat_lt-shifted}
 use Rattle.bk_tiling.proofs.Cells.{count-cons}
 use Rattle.bk_tiling.specs.Scale.{moved_square}
 use Rattle.bk_tiling.specs.Tiling.{IsWithin, Rectangle, Tiles, covers}
@@ -12,15 +12,9 @@ use Rattle.bk_tiling.specs.declared.Square.{Square}
 abbrev pub moved_rectangle : ℕ → ℕ → Rectangle → Rectangle
 moved_rectangle right down r = record { x = r.x + right; y = r.y + down; width = r.width; height = r.height }
 
-le_moved : (a i d : ℕ) → nat_le (a + d) (i + d) ≡ nat_le a i
-le_moved a i d = grind (arith, nat_tests)
-
-lt_moved : (i a s d : ℕ) → nat_lt (i + d) ((a + d) + s) ≡ nat_lt i (a + s)
-lt_moved i a s d = grind (arith, nat_tests)
-
 covers_moved : (right down i j : ℕ) (q : Square) → covers (i + right) (j + down) (moved_square right down q) ≡ covers i j q
 covers_moved right down i j q =
-    λ z. (le_moved q.x i right z && lt_moved i q.x q.s right z) && (le_moved q.y j down z && lt_moved j q.y q.s down z)
+    λ z. (nat_le-shifted q.x i right z && nat_lt-shifted i q.x q.s right z) && (nat_le-shifted q.y j down z && nat_lt-shifted j q.y q.s down z)
 
 count_moved : (right down i j : ℕ) (squares : List Square)
     → count_by (covers (i + right) (j + down)) (map (moved_square right down) squares) ≡ count_by (covers i j) squares

@@ -3,13 +3,14 @@ use Rattle.std.specs.List.{AllByRecursion}
 use Rattle.std.specs.Prelude.{All, slice_index_or}
 use Rattle.std.proofs.Common.{List, [], ap, arith, count_by, false, inl, inr, length, refl, subst, sym, true, ℕ, ◌<◌, ◌^◌, ◌∙◌, ◌∷◌, ◌≡◌, ◌⊎◌}
 use Rattle.std.proofs.lemmas.List.Elements.{All-from_recursion, recursion_from_All}
+use Rattle.bk_laws.proofs.NumberOrder.{lt_or_gt_or_eq}
 use Rattle.bk_tiling.proofs.Cells.{in_all, over_from}
 use Rattle.bk_tiling.proofs.Members.{one_at}
 use Rattle.bk_tiling.proofs.OrderLaws.{in_code_order-all, in_code_order-count, in_code_order-length}
 use Rattle.bk_tiling.proofs.PuttingInOrder.{ordered}
 use Rattle.bk_tiling.proofs.Refusing.{at_most_one, counted_twice}
 use Rattle.bk_tiling.specs.CodeOrder.{in_code_order}
-use Rattle.bk_tiling.specs.Kept.{IsKept, IsSide}
+use Rattle.bk_tiling.specs.KeptTiling.{IsKept, IsSide}
 use Rattle.bk_tiling.specs.Refusal.{AreWithin, HasCells, HaveSides, IsAccepted, IsFew, IsFirstOverlap, IsFirstPlace, IsFirstUncovered, IsRefusal}
 use Rattle.bk_tiling.specs.Refusal.{ShareNoCell, sized}
 use Rattle.bk_tiling.specs.Tiling.{IsOneOf, IsWithin, Tiles, covers}
@@ -19,9 +20,6 @@ use Rattle.bk_tiling.specs.declared.Square.{Square}
 
 any_square : Square
 any_square = record { x = 0; y = 0; s = 0 }
-
-three : (m n : ℕ) → (m < n) ⊎ (n < m) ⊎ (m ≡ n)
-three m n = grind arith
 
 -- what passes a test at each place fails it at no first one
 not_first : (P : Square → Type 0) (squares : List Square) (i : ℕ) → All P squares → ¬ (IsFirstPlace (λ q. ¬ (P q)) squares i)
@@ -107,7 +105,7 @@ module _ (width height : ℕ) (squares : List Square) where
 
 -- there is one first place, one first overlap and one first uncovered cell
 one_first_place : (P : Square → Type 0) (squares : List Square) (i k : ℕ) → IsFirstPlace P squares i → IsFirstPlace P squares k → i ≡ k
-one_first_place P squares i k a b = cases (three i k)
+one_first_place P squares i k a b = cases (lt_or_gt_or_eq i k)
   where
     cases : (i < k) ⊎ (k < i) ⊎ (i ≡ k) → i ≡ k
     cases (inl l) = absurd (b.before i l any_square (a.here any_square))
@@ -115,7 +113,7 @@ one_first_place P squares i k a b = cases (three i k)
     cases (inr (inr e)) = e
 
 one_first_overlap : (squares : List Square) (i j k l : ℕ) → IsFirstOverlap squares i j → IsFirstOverlap squares k l → (i ≡ k) × (j ≡ l)
-one_first_overlap squares i j k l a b = cases (three i k) (three j l)
+one_first_overlap squares i j k l a b = cases (lt_or_gt_or_eq i k) (lt_or_gt_or_eq j l)
   where
     cases : (i < k) ⊎ (k < i) ⊎ (i ≡ k) → (j < l) ⊎ (l < j) ⊎ (j ≡ l) → (i ≡ k) × (j ≡ l)
     cases (inl h) f = absurd (b.before i j any_square a.ascending a.below (inl h) (a.here any_square))
@@ -126,7 +124,7 @@ one_first_overlap squares i j k l a b = cases (three i k) (three j l)
 
 one_first_uncovered : (width height : ℕ) (squares : List Square) (x y u v : ℕ) → IsFirstUncovered width height squares x y
     → IsFirstUncovered width height squares u v → (x ≡ u) × (y ≡ v)
-one_first_uncovered width height squares x y u v a b = cases (three x u) (three y v)
+one_first_uncovered width height squares x y u v a b = cases (lt_or_gt_or_eq x u) (lt_or_gt_or_eq y v)
   where
     same_level : (i j k : ℕ) → j ≡ k → count_by (covers i j) squares ≡ count_by (covers i k) squares
     same_level i j k e = ap (λ (m : ℕ). count_by (covers i m) squares) e

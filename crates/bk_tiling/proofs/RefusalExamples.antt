@@ -4,6 +4,7 @@ use Rattle.bk_tiling.proofs.Cells.{over_from}
 use Rattle.bk_tiling.proofs.ExampleTilings.{square_at}
 use Rattle.bk_tiling.specs.Refusal.{IsFirstOverlap, IsFirstUncovered, IsLesserPair, SharesCell}
 use Rattle.bk_tiling.specs.Row.{IsRowAt}
+use Rattle.bk_tiling.specs.Sharing.{IsFirstSharing, SharesWithNoneBefore}
 use Rattle.bk_tiling.specs.Tiling.{covers}
 use Rattle.bk_tiling.specs.declared.Square.{Square}
 use Rattle.bk_tiling.specs.declared.checks.Row.TheVariants.{Covered, Free}
@@ -64,3 +65,12 @@ not_covered_row row = let some : 0 < 0 = row.1 2 1 (lit< tt) (lit≤ tt) (lit< t
 
 free_row : IsRowAt 3 open_corner 1 (Free 2)
 free_row = (first_uncovered.column, first_uncovered.free, first_uncovered.left)
+
+-- after place 0 the square at place 2 is the first that shares a cell with the one there
+first_sharing : IsFirstSharing crossing 0 2
+first_sharing = record { after = omega arith; below = omega arith; here = first_overlap.here; before = before }
+  where
+    before : SharesWithNoneBefore crossing 0 2
+    before zero d up within s = omega (arith, up)
+    before (suc zero) d up within s = side_by_side s
+    before (suc (suc k)) d up within s = omega (arith, within)

@@ -16,7 +16,7 @@ use Rattle.bk_tiling.proofs.OrderLaws.{before_by_rank}
 use Rattle.bk_tiling.proofs.PuttingInOrder.{from_order, in_order, ordered}
 use Rattle.bk_tiling.proofs.Scaling.{before_from, same_members}
 use Rattle.bk_tiling.specs.CodeOrder.{InCodeOrder, comes_before, in_code_order}
-use Rattle.bk_tiling.specs.Kept.{IsSide}
+use Rattle.bk_tiling.specs.KeptTiling.{IsSide}
 use Rattle.bk_tiling.specs.Refusal.{HaveSides, IsFirstOverlap, IsLesserPair, ShareNoCell, SharesCell}
 use Rattle.bk_tiling.specs.Sharing.{IsFirstSharing}
 use Rattle.bk_tiling.specs.Tiling.{IsOneOf, covers}

@@ -1,6 +1,7 @@
 -- How deep the columns of a rectangle are filled by laid squares, and the level runs of these depths.
--- Example (ColumnExamples): under the squares of sides 18 and 15 at the top of the rectangle 33x32 the depth is 18 up to column 17 and 15
--- from column 18 on; these are the two level runs. A square with a free cell over it does not fill its column.
+-- Example (ColumnExamples): under the squares of sides 18 and 15 at the top of the rectangle 33x32 the depth is 18 up
+-- to column 17 and 15 from column 18 on; these are the two level runs. A square with a free cell over it does not fill
+-- its column.
 use Rattle.std.specs.Prelude.{Bool, List, [], cond, count_by, max, nat_le, nat_lt, ℕ, ◌&&◌, ◌+◌, ◌<◌, ◌∷◌, ◌≡◌, ◌≤◌}
 use Rattle.bk_tiling.specs.Tiling.{covers}
 use Rattle.bk_tiling.specs.declared.Segment.{Segment}

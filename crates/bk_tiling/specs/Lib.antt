@@ -1,14 +1,14 @@
 -- What the crate says.
-pub mod Tiling
+pub mod Area
 pub mod CodeOrder
 pub mod Column
-pub mod SquareGroups
-pub mod Row
+pub mod KeptTiling
 pub mod Point
-pub mod Scale
-pub mod Kept
 pub mod Refusal
 pub mod RefusalLaws
-pub mod Area
+pub mod Row
+pub mod Scale
+pub mod SquareGroups
+pub mod Tiling
 -- How its code keeps it.
 pub mod Sharing

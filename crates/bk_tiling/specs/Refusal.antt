@@ -1,13 +1,16 @@
 -- Which lists of squares make a `Tiling`, and why another list is refused. Places count from 0 in the list as given.
--- Examples (RefusalExamples): of the squares (0, 0, 2), (2, 0, 2), (1, 1, 2) the first overlap is that of the places 0 and 2;
--- in the rectangle 3x2 the squares (0, 0, 2), (2, 0, 1) leave the cell in column 2 at level 1 uncovered, and it is the first.
+-- Examples (RefusalExamples): of the squares (0, 0, 2), (2, 0, 2), (1, 1, 2) the first overlap is that of the places 0
+-- and 2; in the rectangle 3x2 the squares (0, 0, 2), (2, 0, 1) leave the cell in column 2 at level 1 uncovered, and it
+-- is the first.
 use Rattle.std.specs.List.{AllByRecursion}
-use Rattle.std.specs.Prelude.{All, AllPairs, HoldsAt, List, count_by, length, slice_index_or, true, ℕ, ◌<◌, ◌≡◌, ◌≤◌, ◌⊎◌}
-use Rattle.bk_tiling.specs.Kept.{IsSide}
+use Rattle.std.specs.Prelude.{All, AllPairs, HoldsAt, List, count_by, length, slice_index_or, true, ℕ, ◌<◌, ◌≡◌, ◌≤◌}
+use Rattle.std.specs.Prelude.{◌⊎◌}
+use Rattle.bk_tiling.specs.KeptTiling.{IsSide}
 use Rattle.bk_tiling.specs.Tiling.{IsWithin, Rectangle, Tiles, covers}
 use Rattle.bk_tiling.specs.declared.NotTiling.TheVariants.{Empty, Many, Outside, Overlap, Side, Uncovered}
 use Rattle.bk_tiling.specs.declared.NotTiling.{NotTiling}
 use Rattle.bk_tiling.specs.declared.Square.{Square}
+use Rattle.bk_tiling.specs.declared.TheConstants.{MOST_SQUARES}
 
 -- the rectangle of a size
 abbrev pub sized : ℕ → ℕ → Rectangle
@@ -15,7 +18,7 @@ sized width height = record { x = 0; y = 0; width = width; height = height }
 
 -- at most 200 squares, none too large, that tile the rectangle of the size
 pub record IsAccepted (width height : ℕ) (squares : List Square) : Type 0 where
-  pub few : length squares ≤ 200
+  pub few : length squares ≤ MOST_SQUARES
   pub sides : AllByRecursion (λ q. IsSide q.s) squares
   pub tiles : Tiles (sized width height) squares
 
@@ -52,10 +55,10 @@ pub record IsFirstUncovered (width height : ℕ) (squares : List Square) (x y : 
   pub above : (i j : ℕ) → i < width → j < y → 0 < count_by (covers i j) squares
   pub left : (i : ℕ) → i < x → 0 < count_by (covers i y) squares
 
--- there are few enough squares; the rectangle has a cell; each side is one that a square may have; each square is within
--- the rectangle; no two share a cell
+-- there are few enough squares; the rectangle has a cell; each side is one that a square may have; each square is
+-- within the rectangle; no two share a cell
 abbrev pub IsFew : List Square → Type 0
-IsFew squares = length squares ≤ 200
+IsFew squares = length squares ≤ MOST_SQUARES
 
 abbrev pub HasCells : ℕ → ℕ → Type 0
 HasCells width height = (0 < width) × (0 < height)
@@ -71,7 +74,7 @@ ShareNoCell squares = AllPairs (λ p q. ¬ (SharesCell p q)) squares
 
 -- why the squares do not make a `Tiling` of that size: the first test that they fail, and where
 abbrev pub IsRefusal : ℕ → ℕ → List Square → NotTiling → Type 0
-IsRefusal width height squares (Many n) = (200 < length squares) × (n ≡ length squares)
+IsRefusal width height squares (Many n) = (MOST_SQUARES < length squares) × (n ≡ length squares)
 IsRefusal width height squares Empty = IsFew squares × ((width ≡ 0) ⊎ (height ≡ 0))
 IsRefusal width height squares (Side i) =
     IsFew squares × HasCells width height × IsFirstPlace (λ q. ¬ (IsSide q.s)) squares i

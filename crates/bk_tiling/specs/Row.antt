@@ -1,6 +1,6 @@
 -- What the squares over one level of a rectangle cover.
--- Example (RefusalExamples): in a rectangle of width 3 the squares (0, 0, 2), (2, 0, 1) cover level 0, and not level 1, where column 2 is
--- the first one that is free.
+-- Example (RefusalExamples): in a rectangle of width 3 the squares (0, 0, 2), (2, 0, 1) cover level 0, and not level 1,
+-- where column 2 is the first one that is free.
 use Rattle.std.specs.Prelude.{List, count_by, ℕ, ◌<◌, ◌≡◌, ◌≤◌}
 use Rattle.bk_tiling.specs.Tiling.{covers}
 use Rattle.bk_tiling.specs.declared.Square.{Square}

@@ -1,4 +1,6 @@
 -- Which later squares share a cell with one square.
+-- Example (RefusalExamples): of the squares (0, 0, 2), (2, 0, 2), (1, 1, 2) that at place 2 is the first that shares a
+-- cell with the one at place 0.
 use Rattle.std.specs.Prelude.{List, length, slice_index_or, ℕ, ◌+◌, ◌<◌, ◌^◌}
 use Rattle.bk_tiling.specs.Refusal.{SharesCell}
 use Rattle.bk_tiling.specs.declared.Square.{Square}

@@ -1,6 +1,6 @@
 -- Squares cut into groups that hang side by side from one level, and a group laid from its sides (Bouwkamp).
--- Example (TilingExamples): of the rectangle 4x2 with the code [1,2,1][1][1] the last two squares are level, but stand apart, and so are
--- two groups; the sides 7 and 8 laid from column 18 at level 15.
+-- Example (TilingExamples): of the rectangle 4x2 with the code [1,2,1][1][1] the last two squares are level, but stand
+-- apart, and so are two groups; the sides 7 and 8 laid from column 18 at level 15.
 use Rattle.std.specs.List.{onto_first}
 use Rattle.std.specs.Prelude.{List, [], cond, ℕ, ◌+◌, ◌∷◌}
 use Rattle.bk_tiling.specs.CodeOrder.{stands_beside}

@@ -1,11 +1,13 @@
 //! The tests that squares pass before they make a tiling, each with the first place where it fails.
 #![tactic(auto)]
 
-ghost use Rattle.std.specs.Prelude.{All, IfNone, IfSome, IsTrue, count_by, find, length, nat_le, nat_lt, slice_index_or, ℕ, ◌&&◌, ◌*◌};
+ghost use Rattle.std.specs.Prelude.{All, IfNone, IfSome, IsTrue, count_by, find, length, nat_le, nat_lt};
+ghost use Rattle.std.specs.Prelude.{slice_index_or, ℕ, ◌&&◌, ◌*◌};
 ghost use Rattle.std.specs.Prelude.{◌+◌, ◌<◌, ◌^◌, ◌↔◌, ◌≡◌, ◌≤◌};
 ghost use Rattle.bk_tiling.specs.Area.{area_of};
-ghost use Rattle.bk_tiling.specs.Kept.{IsSide};
-ghost use Rattle.bk_tiling.specs.Refusal.{AreWithin, HaveSides, IsAccepted, IsFirstOverlap, IsFirstPlace, IsFirstUncovered, IsRefusal};
+ghost use Rattle.bk_tiling.specs.KeptTiling.{IsSide};
+ghost use Rattle.bk_tiling.specs.Refusal.{AreWithin, HaveSides, IsAccepted, IsFirstOverlap, IsFirstPlace};
+ghost use Rattle.bk_tiling.specs.Refusal.{IsFirstUncovered, IsRefusal};
 ghost use Rattle.bk_tiling.specs.Refusal.{ShareNoCell, SharesCell, sized};
 ghost use Rattle.bk_tiling.specs.Sharing.{EdgesFit, IsFirstSharing, SharesWithNoneBefore};
 ghost use Rattle.bk_tiling.specs.Row.{IsRowAt};
@@ -13,7 +15,8 @@ ghost use Rattle.bk_tiling.specs.Tiling.{IsWithin, covers};
 
 use crate::{LONGEST_SIDE, MOST_SQUARES, NotTiling, Square};
 
-// Why squares do not make a tiling of the rectangle: the first test that they fail, and where. None where they make one.
+// Why squares do not make a tiling of the rectangle: the first test that they fail, and where. None where they make
+// one.
 pub(crate) fn refusal_of(width: u64, height: u64, squares: &[Square]) -> Option<NotTiling>
     ensures none { IfNone result (IsAccepted width height squares.now) }
     ensures some { IfSome result (IsRefusal width height squares.now) }
@@ -127,11 +130,11 @@ enum Row {
     Free { x: u64 },
 }
 
-// The first cell of the rectangle, by level and then by column, that lies in no square. Squares that share no cell and have as many as
-// the rectangle leave none free.
+// The first cell of the rectangle, by level and then by column, that lies in no square. Squares that share no cell and
+// have as many as the rectangle leave none free.
 fn first_uncovered(width: u64, height: u64, squares: &[Square]) -> Option<(u64, u64)>
     requires wide { 0 < width }
-    requires few { length squares.now ≤ 200 }
+    requires few { length squares.now ≤ MOST_SQUARES }
     requires within { AreWithin width height squares.now }
     requires sides { HaveSides squares.now }
     requires apart { ShareNoCell squares.now }
@@ -147,7 +150,7 @@ fn first_uncovered(width: u64, height: u64, squares: &[Square]) -> Option<(u64, 
 
 // The area of the squares.
 fn area_of(squares: &[Square]) -> u128
-    requires few { length squares.now ≤ 200 }
+    requires few { length squares.now ≤ MOST_SQUARES }
     requires sides { HaveSides squares.now }
     ensures { result ≡ area_of squares.now }
 {

@@ -3,7 +3,7 @@
 
 ghost use Rattle.std.specs.Prelude.{[], IfErr, IfOk, IsOk, length, ◌+◌, ◌<◌, ◌^◌, ◌↔◌, ◌∷◌, ◌≡◌, ◌≤◌};
 ghost use Rattle.bk_tiling.specs.CodeOrder.{begins_group, in_code_order, stands_beside};
-ghost use Rattle.bk_tiling.specs.Kept.{IsKept};
+ghost use Rattle.bk_tiling.specs.KeptTiling.{IsKept};
 ghost use Rattle.bk_tiling.specs.Refusal.{HaveSides, IsAccepted, IsRefusal, ShareNoCell};
 ghost use Rattle.bk_tiling.specs.RefusalLaws.{RefusedInOneWay, RefusedOrAccepted};
 ghost use Rattle.bk_tiling.specs.Tiling.{order};
@@ -44,8 +44,8 @@ pub struct Segment {
     pub level: u64,
 }
 
-/// Why squares do not make a tiling of a rectangle: the first test that they fail, in the order of these variants. Places
-/// count from 0 in the list as given.
+/// Why squares do not make a tiling of a rectangle: the first test that they fail, in the order of these variants.
+/// Places count from 0 in the list as given.
 #[derive(Clone, Copy, Debug, PartialEq, Eq)]
 pub enum NotTiling {
     /// There are more than 200 squares: so many.
@@ -72,7 +72,7 @@ pub struct Tiling {
 }
 
 impl Model for Tiling {
-    ghost use Rattle.bk_tiling.specs.Kept.{IsKept};
+    ghost use Rattle.bk_tiling.specs.KeptTiling.{IsKept};
     ghost use Rattle.bk_tiling.specs.Tiling.{Tiling as Tiled};
 
     ghost Value = { Tiled };
@@ -83,9 +83,9 @@ impl Model for Tiling {
 }
 
 impl Tiling {
-    /// The tiling of a rectangle, `width` columns by `height` levels, by squares that come in any order. Each cell has to
-    /// lie in exactly one of them (Brooks, Smith, Stone and Tutte 1940, with whole sides). It is refused exactly where
-    /// `NotTiling` says so, at the exact place.
+    /// The tiling of a rectangle, `width` columns by `height` levels, by squares that come in any order. Each cell has
+    /// to lie in exactly one of them (Brooks, Smith, Stone and Tutte 1940, with whole sides). It is refused exactly
+    /// where `NotTiling` says so, at the exact place.
     pub fn try_new(width: u64, height: u64, squares: &[Square]) -> Result<Tiling, NotTiling>
         ensures accepted { IsOk result ↔ IsAccepted width height squares.now }
         ensures value { IfOk result (λ t.
@@ -123,7 +123,8 @@ impl Tiling {
         Tiling::from_known(1, 1, squares)
     }
 
-    /// Becomes the tiling of a rectangle by squares that are known to tile it and stand in code order. Nothing is tested.
+    /// Becomes the tiling of a rectangle by squares that are known to tile it and stand in code order. Nothing is
+    /// tested.
     pub fn become_known(&mut self, width: u64, height: u64, squares: &[Square])
         requires { IsKept (record { width = width; height = height; squares = squares.now }) }
         ensures { self.new ≡ record { width = width; height = height; squares = squares.now } }
@@ -133,10 +134,11 @@ impl Tiling {
         self.height = height;
     }
 
-    /// Becomes the tiling of a rectangle, `width` columns by `height` levels, by squares that come in any order, in the room of the one
-    /// that was here. Each cell has to lie in exactly one of them (Brooks, Smith, Stone and Tutte 1940, with whole sides). It is refused
-    /// exactly where `NotTiling` says so, at the exact place: more than 200 squares, no width or no height, a side that is 0 or too
-    /// long, a square that reaches out, two that share a cell, or a cell that lies in none. Then it stays the tiling that it was.
+    /// Becomes the tiling of a rectangle, `width` columns by `height` levels, by squares that come in any order, in the
+    /// room of the one that was here. Each cell has to lie in exactly one of them (Brooks, Smith, Stone and Tutte 1940,
+    /// with whole sides). It is refused exactly where `NotTiling` says so, at the exact place: more than 200 squares,
+    /// no width or no height, a side that is 0 or too long, a square that reaches out, two that share a cell, or a cell
+    /// that lies in none. Then it stays the tiling that it was.
     pub fn try_become(
         &mut self,
         width: u64,
@@ -210,7 +212,7 @@ fn stands_beside(before: Square, here: Square) -> bool
 
 // Puts these squares in the place of those that are kept.
 fn replace(kept: &mut ArrayVec<Square, MOST_SQUARES>, squares: &[Square])
-    requires { length squares.now ≤ 200 }
+    requires { length squares.now ≤ MOST_SQUARES }
     ensures { kept.new.items ≡ squares.now }
 {
     kept.clear();
@@ -221,7 +223,7 @@ fn replace(kept: &mut ArrayVec<Square, MOST_SQUARES>, squares: &[Square])
 
 // A copy of the squares in code order.
 fn in_order(squares: &[Square]) -> ArrayVec<Square, MOST_SQUARES>
-    requires few { length squares.now ≤ 200 }
+    requires few { length squares.now ≤ MOST_SQUARES }
     requires apart { ShareNoCell squares.now }
     requires sides { HaveSides squares.now }
     ensures { result.items ≡ in_code_order squares.now }
@@ -233,7 +235,7 @@ fn in_order(squares: &[Square]) -> ArrayVec<Square, MOST_SQUARES>
 
 // Puts these squares, in code order, in the place of those that are kept.
 fn replace_in_order(kept: &mut ArrayVec<Square, MOST_SQUARES>, squares: &[Square])
-    requires few { length squares.now ≤ 200 }
+    requires few { length squares.now ≤ MOST_SQUARES }
     requires apart { ShareNoCell squares.now }
     requires sides { HaveSides squares.now }
     ensures { kept.new.items ≡ in_code_order squares.now }

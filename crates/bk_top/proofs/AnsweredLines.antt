@@ -15,7 +15,7 @@ use Rattle.bk_answer.proofs.OneAnswer.{one_answer}
 use Rattle.bk_answer.specs.Answer.{AnswersLine, MayWant}
 use Rattle.bk_answer.specs.declared.command.Command.{Command}
 use Rattle.bk_top.proofs.Statuses.{ending_at, is_calm, one_of_three, reads_to_end}
-use Rattle.bk_top.specs.Deciding.{IsDecided, replies_of}
+use Rattle.bk_top.specs.DecidedStatus.{IsDecided, replies_of}
 use Rattle.bk_top.specs.Outside.{Outside, faults_of, status_of, streams_of}
 use Rattle.bk_top.specs.ReadsToEnd.{AnswersLines, ReadsToEnd}
 

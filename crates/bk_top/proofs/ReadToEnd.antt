@@ -4,12 +4,12 @@ use Rattle.bk_ports.proofs.TakenBytes.{taken_all}
 use Rattle.bk_ports.specs.Lines.{lines_of}
 use Rattle.bk_ports.specs.declared.Ended.TheVariants.{NoneRefused, SomeRefused}
 use Rattle.bk_alike.proofs.OneListing.{none_refused}
-use Rattle.bk_alike.specs.Closing.{listing_of}
+use Rattle.bk_alike.specs.GroupsEnd.{listing_of}
 use Rattle.bk_alike.specs.Listed.{HasRefusedLine}
 use Rattle.bk_alike.specs.declared.Wanted.{Wanted}
 use Rattle.bk_verify_report.proofs.OneReport.{no_fault_there}
 use Rattle.bk_verify_report.specs.Report.{HasFault}
-use Rattle.bk_verify_report.specs.Running.{report_of}
+use Rattle.bk_verify_report.specs.VerifyRun.{report_of}
 use Rattle.bk_top.proofs.Statuses.{ending_at, is_calm, one_of_three}
 use Rattle.bk_top.specs.Outside.{Outside, faults_of, streams_of}
 use Rattle.bk_top.specs.ReadsToEnd.{ListsLines, ReadsToEnd, Verifies}
@@ -32,6 +32,7 @@ module _ (wanted : Wanted) (before after : Outside) (status : ℕ) (reads : Read
         none_refused (lines_of h.input) w.replies w.last w.each w.any
         (subst (λ (bytes : List ℕ). HasRefusedLine (lines_of bytes)) (taken_all input before.left after.left tells h.input h.taken h.at_end) some)
 
+  -- a run that reads all lines and lists them has the status that they decide
   pub lists_lines : ListsLines wanted before after status
   lists_lines = record {
     reads = reads;
@@ -59,6 +60,7 @@ module _ (n : ℕ) (before after : Outside) (status : ℕ) (reads : ReadsToEnd (
         no_fault_there n (lines_of h.input) w.counts w.report w.is_report w.verdict
         (subst (λ (bytes : List ℕ). HasFault n (lines_of bytes)) (taken_all input before.left after.left tells h.input h.taken h.at_end) some)
 
+  -- a run that reads a whole list has the status that list and catalogue decide
   pub verifies : Verifies n before after status
   verifies = record {
     reads = reads;

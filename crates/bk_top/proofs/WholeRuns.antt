@@ -1,226 +1,177 @@
--- A whole run, for each kind of what is asked.
-use Rattle.std.specs.Option.{MatchOption}
-use Rattle.std.proofs.Common.{List, ap, arith, inl, inr, map, refl, subst, sym, ℕ, ◌∙◌, ◌≡◌, ◌⊎◌}
-use Rattle.std.specs.Prelude.{None, Option, Some, String, string_bytes}
+-- A whole run, for each kind of what is done.
+use Rattle.std.proofs.Common.{List, ap, arith, inl, inr, map, refl, subst, sym, ℕ, ◌∙◌, ◌≡◌, ◌≤◌, ◌⊎◌}
+use Rattle.std.specs.Prelude.{Option, String, string_bytes, ◌≢◌}
 use Rattle.std.specs.declared.alloc.Global.{Global}
 use Rattle.bk_ports.specs.Answered.{answers_of, of_fronts}
 use Rattle.bk_ports.specs.Ending.{EndsWith, Output, Streams}
 use Rattle.bk_ports.specs.Faults.{CountsTell, Faults}
 use Rattle.bk_ports.specs.declared.Ended.{Ended}
+use Rattle.bk_ports.specs.declared.Ended.TheVariants.{NoMemory, NoneRefused, ReadFailed, SomeRefused, TooMany, WriteFailed}
 use Rattle.bk_answer.specs.Answer.{AnswersLine, MayWant}
 use Rattle.bk_answer.specs.declared.command.Command.{Command}
 use Rattle.bk_ask.proofs.OneAsk.{one_ask}
 use Rattle.bk_ask.specs.Help.{help_text, usage}
 use Rattle.bk_ask.specs.declared.Ask.{Ask}
 use Rattle.bk_ask.specs.declared.Ask.TheVariants as asks
-use Rattle.bk_ask.specs.declared.Kind.{Kind}
-use Rattle.bk_alike.specs.Closing.{listing_of}
-use Rattle.bk_alike.specs.declared.Wanted.TheVariants.{Groups, Pairs}
-use Rattle.bk_verify_report.specs.Running.{report_of}
+use Rattle.bk_alike.specs.GroupsEnd.{listing_of}
+use Rattle.bk_alike.specs.declared.Wanted.{Wanted}
+use Rattle.bk_verify_report.specs.VerifyRun.{report_of}
 use Rattle.bk_top.proofs.AnsweredLines.{answers_lines}
-use Rattle.bk_top.proofs.Statuses.{not_two}
+use Rattle.bk_top.proofs.ReadToEnd.{lists_lines, verifies}
 use Rattle.bk_word.specs.Word.{Word}
 use Rattle.bk_word.specs.declared.Class.{Class}
-use Rattle.bk_catalogue.specs.Following.{start_cursor}
-use Rattle.bk_top.proofs.Endings.{listed_not_two}
-use Rattle.bk_top.proofs.ReadToEnd.{lists_lines, verifies}
 use Rattle.bk_top.specs.Outside.{Outside, faults_of, status_of, streams_of}
-use Rattle.bk_top.specs.ReadsToEnd.{AnswersLines, ReadsToEnd}
-use Rattle.bk_top.specs.Running.{Does, DoesOther, IsWholeRun, Lists, NoErrors, Tries, WritesErrors}
-use Rattle.bk_top.specs.Words.{AsksErrorsOnly, AsksNoLines, AsksNothing, ReadsNoLines, WordsAsk, command_asked}
+use Rattle.bk_top.specs.ReadsToEnd.{ReadsToEnd}
+use Rattle.bk_top.specs.Running.{Does, IsWholeRun, Lists, NoErrors, Tries, WritesErrors}
+use Rattle.bk_top.specs.Words.{AsksErrorsOnly, AsksNoLines, ReadsNoLines, WordsAsk, WordsAskNothing, listing_asked, work_asked}
+use Rattle.bk_top.specs.declared.work.Work.{Work}
+use Rattle.bk_top.specs.declared.work.Work.TheVariants as works
 
 same : (words : List (String Global)) (a b : Ask) → WordsAsk words a → WordsAsk words b → a ≡ b
 same words a b = one_ask (map string_bytes words) a b
 
--- a run that does what is asked
-run_of : (words : List (String Global)) (ask : Ask) (before after : Outside) (status : ℕ) → WordsAsk words ask → (status ≡ 2 → ⊥) → Does ask before after status
-    → IsWholeRun words before after status
-run_of words ask before after status wanted not does = record {
-  status_2_asks_nothing = λ e. absurd (not e);
-  nothing_asked = λ nothing. absurd (nothing ask wanted);
-  done = λ other asked. subst (λ (a : Ask). Does a before after status) (same words ask other wanted asked) does;
-}
+-- ---- the words that ask for some work
 
--- where a command answers lines
-pub run_of_lines : (words : List (String Global)) (ask : Ask) (command : Command) (before after : Outside) (ended : Ended) (status : ℕ)
-    → WordsAsk words ask → command_asked ask ≡ Some command
-    → EndsWith (answers_of (of_fronts (record { answers = AnswersLine command; may_want = MayWant command }))) (streams_of before after) ended
-    → CountsTell ended (faults_of before after) → status ≡ status_of ended → NoErrors before after → IsWholeRun words before after status
-run_of_lines words ask command before after ended status wanted is ends tell s silent =
-    run_of words ask before after status wanted (λ e. not_two ended (sym s ∙ e))
-    (subst
-    (λ (o : Option Command). MatchOption o (DoesOther ask before after status) (λ c. AnswersLines c before after status × NoErrors before after)) (sym is)
-    (answers_lines command before after ended status s ends tell, silent))
+-- what the words ask where the work says it again
+abbrev pub IsAskedAs : List (String Global) → Work → Type 0
+IsAskedAs words (works.Listing n class from limit) = WordsAsk words (asks.List n class from limit)
+IsAskedAs words (works.Verify n) = WordsAsk words (asks.Verify n)
+IsAskedAs words works.Help = WordsAsk words asks.Help
+IsAskedAs words _ = Unit {0}
 
-some_none : (command : Command) → ◌≡◌ {A = Option Command} (Some command) None → ⊥
-some_none command e = cc
+-- whatever is asked, the work says of it what the words ask
+asked_as : (words : List (String Global)) (ask : Ask) → WordsAsk words ask → IsAskedAs words (work_asked ask)
+asked_as words asks.Check wanted = tt
+asked_as words asks.Canon wanted = tt
+asked_as words asks.Images wanted = tt
+asked_as words asks.Net wanted = tt
+asked_as words asks.Flow wanted = tt
+asked_as words asks.Word wanted = tt
+asked_as words asks.Solve wanted = tt
+asked_as words asks.Draw wanted = tt
+asked_as words asks.Dual wanted = tt
+asked_as words (asks.List n class from limit) wanted = wanted
+asked_as words (asks.Trial seed count) wanted = tt
+asked_as words (asks.Verify n) wanted = wanted
+asked_as words asks.Alike wanted = tt
+asked_as words (asks.Pair kind) wanted = tt
+asked_as words asks.Help wanted = wanted
 
--- what writes on `out` is no text on errors alone
-pub writes_out : (words : List (String Global)) (ask : Ask) → WordsAsk words ask → (ask ≡ asks.Help → ⊥) → AsksErrorsOnly words → ⊥
-writes_out words ask wanted not (inl nothing) = nothing ask wanted
-writes_out words ask wanted not (inr helped) = not (same words ask asks.Help wanted helped)
+-- words that ask for this work
+pub record AskFor (words : List (String Global)) (work : Work) : Type 0 where
+  pub ask : Ask
+  pub asked : WordsAsk words ask
+  pub is : work_asked ask ≡ work
 
--- where a listing is asked
-pub run_of_listing : (words : List (String Global)) (n : ℕ) (class : Class) (from : Option Word) (limit : Option ℕ) (before after : Outside) (status : ℕ)
-    → WordsAsk words (asks.List n class from limit) → Lists n class (start_cursor from) limit before after status → NoErrors before after
-    → IsWholeRun words before after status
-run_of_listing words n class from limit before after status wanted lists silent =
-    run_of words (asks.List n class from limit) before after status wanted (listed_not_two status lists.no_other) (lists, silent)
+-- what is done for what the words ask
+pub ask_for : (words : List (String Global)) (ask : Ask) (done work : Work) → WordsAsk words ask → done ≡ work_asked ask → done ≡ work
+    → AskFor words work
+ask_for words ask done work asked does is = record { ask = ask; asked = asked; is = sym does ∙ is }
 
--- where a trial is asked
-tried_not_two : (seed count : ℕ) (before after : Outside) (status : ℕ) → Tries seed count before after status → status ≡ 2 → ⊥
-tried_not_two seed count before after status tries e =
-    elim tries.ends [ inl h ↦ let z = h.0 in absurd (omega (arith, z)) | inr h ↦ let z = h.0 in absurd (omega (arith, z)) ]
+module _ (words : List (String Global)) (work : Work) (a : AskFor words work) where
+  -- they ask what the work says again
+  pub asked_work : IsAskedAs words work
+  asked_work = subst (IsAskedAs words) a.is (asked_as words a.ask a.asked)
 
--- the run
-pub run_of_trial : (words : List (String Global)) (seed count : ℕ) (before after : Outside) (status : ℕ)
-    → WordsAsk words (asks.Trial seed count) → Tries seed count before after status → NoErrors before after → IsWholeRun words before after status
-run_of_trial words seed count before after status wanted tries silent =
-    run_of words (asks.Trial seed count) before after status wanted (tried_not_two seed count before after status tries) (tries, silent)
+  -- work that reads lines isn't asked by words that ask for none
+  pub work_reads : (ReadsNoLines work → ⊥) → AsksNoLines words → ⊥
+  work_reads reads none = reads (subst ReadsNoLines a.is (none a.ask a.asked))
 
--- where lines are read to their end
-read_not_two : (output : Output) (streams : Streams) (faults : Faults) (status : ℕ) → ReadsToEnd output streams faults status → status ≡ 2 → ⊥
-read_not_two output streams faults status reads e = not_two reads.ended (sym reads.status_is ∙ e)
+  -- work other than `help` isn't asked by words that ask for a text on errors only
+  pub work_writes : (works.Help ≡ work → ⊥) → AsksErrorsOnly words → ⊥
+  work_writes other (inl nothing) = nothing a.ask a.asked
+  work_writes other (inr helped) = other (ap work_asked (same words asks.Help a.ask helped a.asked) ∙ a.is)
 
--- the run of `alike`
-pub run_of_alike : (words : List (String Global)) (before after : Outside) (status : ℕ) → WordsAsk words asks.Alike
-    → ReadsToEnd (listing_of Groups) (streams_of before after) (faults_of before after) status → NoErrors before after → IsWholeRun words before after status
-run_of_alike words before after status wanted reads silent =
-    run_of words asks.Alike before after status wanted (read_not_two (listing_of Groups) (streams_of before after) (faults_of before after) status reads)
-    (lists_lines Groups before after status reads, silent)
+  -- a run that does this work
+  pub run_of : (before after : Outside) (status : ℕ) → (status ≤ 7) × (status ≢ 5) → (status ≡ 2 → ⊥) → Does work before after status
+      → IsWholeRun words before after status
+  run_of before after status statuses not does = record {
+    status_2_asks_nothing = λ e. absurd (not e);
+    nothing_asked = λ nothing. absurd (nothing a.ask a.asked);
+    done = λ other asked. subst (λ (x : Ask). Does (work_asked x) before after status) (same words a.ask other a.asked asked)
+        (subst (λ (w : Work). Does w before after status) (sym a.is) does);
+    statuses = statuses;
+  }
 
--- the run of `pair`
-pub run_of_pair : (words : List (String Global)) (kind : Kind) (before after : Outside) (status : ℕ) → WordsAsk words (asks.Pair kind)
-    → ReadsToEnd (listing_of (Pairs kind)) (streams_of before after) (faults_of before after) status → NoErrors before after
-    → IsWholeRun words before after status
-run_of_pair words kind before after status wanted reads silent =
-    run_of words (asks.Pair kind) before after status wanted (read_not_two (listing_of (Pairs kind)) (streams_of before after)
-    (faults_of before after) status reads)
-    (lists_lines (Pairs kind) before after status reads, silent)
+-- ---- the statuses of each kind of work
 
--- the run of `verify`
-pub run_of_verify : (words : List (String Global)) (n : ℕ) (before after : Outside) (status : ℕ) → WordsAsk words (asks.Verify n)
-    → ReadsToEnd (report_of n) (streams_of before after) (faults_of before after) status → NoErrors before after → IsWholeRun words before after status
-run_of_verify words n before after status wanted reads silent =
-    run_of words (asks.Verify n) before after status wanted (read_not_two (report_of n) (streams_of before after) (faults_of before after) status reads)
-    (verifies n before after status reads, silent)
+-- a status of a run over lines
+record IsLineStatus (status : ℕ) : Type 0 where
+  within : (status ≤ 7) × (status ≢ 5)
+  not_two : status ≡ 2 → ⊥
 
--- and what each of these writes
-alike_help : asks.Alike ≡ asks.Help → ⊥
-alike_help e = cc
+line_status : (ended : Ended) (status : ℕ) → status ≡ status_of ended → IsLineStatus status
+line_status NoneRefused status s = record { within = (omega (arith, s), λ e. omega (arith, s)); not_two = λ e. omega (arith, s) }
+line_status SomeRefused status s = record { within = (omega (arith, s), λ e. omega (arith, s)); not_two = λ e. omega (arith, s) }
+line_status ReadFailed status s = record { within = (omega (arith, s), λ e. omega (arith, s)); not_two = λ e. omega (arith, s) }
+line_status WriteFailed status s = record { within = (omega (arith, s), λ e. omega (arith, s)); not_two = λ e. omega (arith, s) }
+line_status NoMemory status s = record { within = (omega (arith, s), λ e. omega (arith, s)); not_two = λ e. omega (arith, s) }
+line_status TooMany status s = record { within = (omega (arith, s), λ e. omega (arith, s)); not_two = λ e. omega (arith, s) }
 
-pair_help : (kind : Kind) → asks.Pair kind ≡ asks.Help → ⊥
-pair_help kind e = cc
+-- a status of a run that can fail at a write only
+write_status : (status : ℕ) → (status ≡ 0) ⊎ (status ≡ 4) → IsLineStatus status
+write_status status (inl s) = record { within = (omega (arith, s), λ e. omega (arith, s)); not_two = λ e. omega (arith, s) }
+write_status status (inr s) = record { within = (omega (arith, s), λ e. omega (arith, s)); not_two = λ e. omega (arith, s) }
 
-verify_help : (n : ℕ) → asks.Verify n ≡ asks.Help → ⊥
-verify_help n e = cc
+read_status : (output : Output) (streams : Streams) (faults : Faults) (status : ℕ) → ReadsToEnd output streams faults status → IsLineStatus status
+read_status output streams faults status reads = line_status reads.ended status reads.status_is
 
--- `alike` doesn't write on errors only
-pub alike_writes : (words : List (String Global)) → WordsAsk words asks.Alike → AsksErrorsOnly words → ⊥
-alike_writes words wanted = writes_out words asks.Alike wanted alike_help
+tried_status : (seed count : ℕ) (before after : Outside) (status : ℕ) → Tries seed count before after status → (status ≡ 0) ⊎ (status ≡ 4)
+tried_status seed count before after status tries = elim tries.ends [ inl h ↦ inl h.0 | inr h ↦ inr h.0 ]
 
--- nor does `pair`
-pub pair_writes : (words : List (String Global)) (kind : Kind) → WordsAsk words (asks.Pair kind) → AsksErrorsOnly words → ⊥
-pair_writes words kind wanted = writes_out words (asks.Pair kind) wanted (pair_help kind)
+-- ---- the run of each kind of work
 
--- nor does `verify`
-pub verify_writes : (words : List (String Global)) (n : ℕ) → WordsAsk words (asks.Verify n) → AsksErrorsOnly words → ⊥
-verify_writes words n wanted = writes_out words (asks.Verify n) wanted (verify_help n)
+module _ (words : List (String Global)) (before after : Outside) (status : ℕ) where
+  -- a command that answers lines
+  pub run_of_lines : (command : Command) (ended : Ended) → AskFor words (works.Lines command)
+      → EndsWith (answers_of (of_fronts (record { answers = AnswersLine command; may_want = MayWant command }))) (streams_of before after) ended
+      → CountsTell ended (faults_of before after) → status ≡ status_of ended → NoErrors before after → IsWholeRun words before after status
+  run_of_lines command ended a ends tell s silent =
+      let known = line_status ended status s in
+      run_of words (works.Lines command) a before after status known.within known.not_two
+      (answers_lines command before after ended status s ends tell, silent)
 
--- nor does a listing
-pub listing_writes : (words : List (String Global)) (n : ℕ) (class : Class) (from : Option Word) (limit : Option ℕ)
-    → WordsAsk words (asks.List n class from limit) → AsksErrorsOnly words → ⊥
-listing_writes words n class from limit wanted = writes_out words (asks.List n class from limit) wanted (λ e. cc)
+  -- a listing
+  pub run_of_listing : (n : ℕ) (class : Class) (from : Option Word) (limit : Option ℕ) → AskFor words (works.Listing n class from limit)
+      → Lists (listing_asked n class from limit) before after status → NoErrors before after → IsWholeRun words before after status
+  run_of_listing n class from limit a lists silent =
+      let known = write_status status lists.no_other in
+      run_of words (works.Listing n class from limit) a before after status known.within known.not_two (lists, silent)
 
--- nor does a line about trial codes
-pub trial_writes : (words : List (String Global)) (seed count : ℕ) → WordsAsk words (asks.Trial seed count) → AsksErrorsOnly words → ⊥
-trial_writes words seed count wanted = writes_out words (asks.Trial seed count) wanted (λ e. cc)
+  -- a trial
+  pub run_of_trial : (seed count : ℕ) → AskFor words (works.Trial seed count) → Tries seed count before after status → NoErrors before after
+      → IsWholeRun words before after status
+  run_of_trial seed count a tries silent =
+      let known = write_status status (tried_status seed count before after status tries) in
+      run_of words (works.Trial seed count) a before after status known.within known.not_two (tries, silent)
 
--- nor does a command that answers lines
-pub command_writes : (words : List (String Global)) (ask : Ask) (command : Command) → WordsAsk words ask → command_asked ask ≡ Some command
-    → AsksErrorsOnly words → ⊥
-command_writes words ask command wanted is = writes_out words ask wanted (λ help.
-    let none : None ≡ Some command = ap command_asked (sym help) ∙ is in cc)
+  -- groups or pairs
+  pub run_of_gathering : (wanted : Wanted) → AskFor words (works.Gather wanted)
+      → ReadsToEnd (listing_of wanted) (streams_of before after) (faults_of before after) status → NoErrors before after
+      → IsWholeRun words before after status
+  run_of_gathering wanted a reads silent =
+      let known = read_status (listing_of wanted) (streams_of before after) (faults_of before after) status reads in
+      run_of words (works.Gather wanted) a before after status known.within known.not_two (lists_lines wanted before after status reads, silent)
 
--- `alike` reads lines
-pub alike_reads : (words : List (String Global)) → WordsAsk words asks.Alike → AsksNoLines words → ⊥
-alike_reads words wanted none = none asks.Alike wanted
+  -- a list that is held against a catalogue
+  pub run_of_verify : (n : ℕ) → AskFor words (works.Verify n)
+      → ReadsToEnd (report_of n) (streams_of before after) (faults_of before after) status → NoErrors before after → IsWholeRun words before after status
+  run_of_verify n a reads silent =
+      let known = read_status (report_of n) (streams_of before after) (faults_of before after) status reads in
+      run_of words (works.Verify n) a before after status known.within known.not_two (verifies n before after status reads, silent)
 
--- so does `pair`
-pub pair_reads : (words : List (String Global)) (kind : Kind) → WordsAsk words (asks.Pair kind) → AsksNoLines words → ⊥
-pair_reads words kind wanted none = none (asks.Pair kind) wanted
-
--- so does `verify`
-pub verify_reads : (words : List (String Global)) (n : ℕ) → WordsAsk words (asks.Verify n) → AsksNoLines words → ⊥
-verify_reads words n wanted none = none (asks.Verify n) wanted
-
--- who asks for one of these asks for no command that answers lines
-pub none_asked : (ask : Ask)
-    → ((n : ℕ) × (class : Class) × (from : Option Word) × (limit : Option ℕ) × (ask ≡ asks.List n class from limit))
-    ⊎ (((seed : ℕ) × (count : ℕ) × (ask ≡ asks.Trial seed count))
-    ⊎ (((n : ℕ) × (ask ≡ asks.Verify n)) ⊎ ((ask ≡ asks.Alike) ⊎ (((kind : Kind) × (ask ≡ asks.Pair kind)) ⊎ (ask ≡ asks.Help)))))
-    → command_asked ask ≡ None
-none_asked ask (inl (n, class, from, limit, e)) = ap command_asked e
-none_asked ask (inr (inl (seed, count, e))) = ap command_asked e
-none_asked ask (inr (inr (inl (n, e)))) = ap command_asked e
-none_asked ask (inr (inr (inr (inl e)))) = ap command_asked e
-none_asked ask (inr (inr (inr (inr (inl (kind, e)))))) = ap command_asked e
-none_asked ask (inr (inr (inr (inr (inr e))))) = ap command_asked e
-
--- a command that answers lines reads lines
-none_read : (ask : Ask) (command : Command) → command_asked ask ≡ Some command → ReadsNoLines ask → ⊥
-none_read asks.Check command is none = none
-none_read asks.Canon command is none = none
-none_read asks.Images command is none = none
-none_read asks.Net command is none = none
-none_read asks.Flow command is none = none
-none_read asks.Word command is none = none
-none_read asks.Solve command is none = none
-none_read asks.Draw command is none = none
-none_read asks.Dual command is none = none
-none_read (asks.List order class from limit) command is none = some_none command (sym is)
-none_read (asks.Trial seed count) command is none = some_none command (sym is)
-none_read (asks.Verify order) command is none = none
-none_read asks.Alike command is none = none
-none_read (asks.Pair kind) command is none = none
-none_read asks.Help command is none = some_none command (sym is)
-
--- whatever the words are that ask for it
-pub command_reads : (words : List (String Global)) (ask : Ask) (command : Command) → WordsAsk words ask → command_asked ask ≡ Some command
-    → AsksNoLines words → ⊥
-command_reads words ask command wanted is none = none_read ask command is (none ask wanted)
-
--- where help is asked
-pub run_of_help : (words : List (String Global)) (before after : Outside) → WordsAsk words asks.Help → WritesErrors help_text before after
+-- the text of `help`
+pub run_of_help : (words : List (String Global)) (before after : Outside) → AskFor words works.Help → WritesErrors help_text before after
     → IsWholeRun words before after 0
-run_of_help words before after wanted told = run_of words asks.Help before after 0 wanted (λ e. cc) (refl, told)
+run_of_help words before after a told =
+    run_of words works.Help a before after 0 (omega arith, λ e. omega (arith, e)) (λ e. omega (arith, e)) (refl, told)
 
 -- and where nothing is asked
-pub run_of_nothing : (words : List (String Global)) (before after : Outside) → AsksNothing words → WritesErrors usage before after
+pub run_of_nothing : (words : List (String Global)) (before after : Outside) → WordsAskNothing words → WritesErrors usage before after
     → IsWholeRun words before after 2
 run_of_nothing words before after nothing told = record {
   status_2_asks_nothing = λ e. nothing;
   nothing_asked = λ n. (refl, told);
   done = λ ask asked. absurd (nothing ask asked);
+  statuses = (omega arith, λ e. omega (arith, e));
 }
-
--- nothing else is asked than lines, a listing, a trial, a list that is read to its end, or help
-pub no_other_ask : (ask : Ask) → command_asked ask ≡ None
-    → ((n : ℕ) (class : Class) (from : Option Word) (limit : Option ℕ) → ask ≡ asks.List n class from limit → ⊥)
-    → ((seed count : ℕ) → ask ≡ asks.Trial seed count → ⊥) → ((n : ℕ) → ask ≡ asks.Verify n → ⊥) → (ask ≡ asks.Alike → ⊥) →
-    ((kind : Kind) → ask ≡ asks.Pair kind → ⊥) → (ask ≡ asks.Help → ⊥) → ⊥
-no_other_ask asks.Check none listed tried verified grouped paired helped = some_none _ none
-no_other_ask asks.Canon none listed tried verified grouped paired helped = some_none _ none
-no_other_ask asks.Images none listed tried verified grouped paired helped = some_none _ none
-no_other_ask asks.Net none listed tried verified grouped paired helped = some_none _ none
-no_other_ask asks.Flow none listed tried verified grouped paired helped = some_none _ none
-no_other_ask asks.Word none listed tried verified grouped paired helped = some_none _ none
-no_other_ask asks.Solve none listed tried verified grouped paired helped = some_none _ none
-no_other_ask asks.Draw none listed tried verified grouped paired helped = some_none _ none
-no_other_ask asks.Dual none listed tried verified grouped paired helped = some_none _ none
-no_other_ask (asks.List order class from limit) none listed tried verified grouped paired helped = listed order class from limit refl
-no_other_ask (asks.Trial seed count) none listed tried verified grouped paired helped = tried seed count refl
-no_other_ask (asks.Verify order) none listed tried verified grouped paired helped = verified order refl
-no_other_ask asks.Alike none listed tried verified grouped paired helped = grouped refl
-no_other_ask (asks.Pair kind) none listed tried verified grouped paired helped = paired kind refl
-no_other_ask asks.Help none listed tried verified grouped paired helped = helped refl

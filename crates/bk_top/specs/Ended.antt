@@ -7,9 +7,9 @@ use Rattle.bk_top.specs.Running.{IsWholeRun}
 use Rattle.bk_top.specs.declared.exit.NoArguments.{NoArguments}
 use Rattle.bk_top.specs.declared.exit.NoArguments.TheVariants.{NoMemory, NotText}
 
--- the words of a run are the arguments, each of them and in their order, and its status is that of the process; where there
--- are no arguments, all stays as it is, and the status is 6 or 8
-abbrev pub EndsBy : Result (Vec (String Global) Global) NoArguments → Outside → Outside → ℕ → Type 0
-EndsBy (Ok words) before after status = IsWholeRun words.items before after status
-EndsBy (Err NoMemory) before after status = (after ≡ before) × (status ≡ 6)
-EndsBy (Err NotText) before after status = (after ≡ before) × (status ≡ 8)
+-- the words of a run are the arguments, each of them and in their order, and its status is that of the process; where
+-- there are no arguments, all stays as it is, and the status is 6 or 8
+abbrev pub ProcessEndsBy : Result (Vec (String Global) Global) NoArguments → Outside → Outside → ℕ → Type 0
+ProcessEndsBy (Ok words) before after status = IsWholeRun words.items before after status
+ProcessEndsBy (Err NoMemory) before after status = (after ≡ before) × (status ≡ 6)
+ProcessEndsBy (Err NotText) before after status = (after ≡ before) × (status ≡ 8)

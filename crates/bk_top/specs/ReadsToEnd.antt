@@ -1,4 +1,5 @@
--- Runs that read lines to the end of their input: those of the commands that answer lines, and of `verify`, `alike` and `pair`.
+-- Runs that read lines to the end of their input: those of the commands that answer lines, and of `verify`, `alike` and
+-- `pair`.
 -- Example (RunExamples): of `check` and an input without bytes the status is 0, and nothing is written.
 use Rattle.std.specs.Prelude.{List, Some, length, ℕ, ◌<◌, ◌^◌, ◌≡◌, ◌≢◌, ◌≤◌, ◌⊎◌, ◌↔◌}
 use Rattle.bk_ports.specs.Answered.{answers_of}
@@ -8,12 +9,12 @@ use Rattle.bk_ports.specs.Faults.{CountsTell, Faults, HasNoFault, IsCalm}
 use Rattle.bk_ports.specs.Lines.{lines_of}
 use Rattle.bk_ports.specs.declared.Ended.{Ended}
 use Rattle.bk_answer.specs.declared.command.Command.{Command}
-use Rattle.bk_alike.specs.Closing.{listing_of}
+use Rattle.bk_alike.specs.GroupsEnd.{listing_of}
 use Rattle.bk_alike.specs.Listed.{HasRefusedLine}
 use Rattle.bk_alike.specs.declared.Wanted.{Wanted}
 use Rattle.bk_verify_report.specs.Report.{HasFault}
-use Rattle.bk_verify_report.specs.Running.{report_of}
-use Rattle.bk_top.specs.Deciding.{IsDecided, replies_of}
+use Rattle.bk_verify_report.specs.VerifyRun.{report_of}
+use Rattle.bk_top.specs.DecidedStatus.{IsDecided, replies_of}
 use Rattle.bk_top.specs.Outside.{Outside, faults_of, status_of, streams_of}
 
 -- a run that reads lines to their end and writes this output
@@ -30,27 +31,32 @@ pub record ReadsToEnd (output : Output) (streams : Streams) (faults : Faults) (s
   pub more : (input : List ℕ) → streams.left ≡ Some input → 2 ^ 30 < length input → HasNoFault faults
       → (status ≡ 7) ⊎ (status ≡ 6)
   -- and whatever fails, it is 7 exactly where more than 2^30 bytes were taken
-  pub exactly_7 : (input : List ℕ) → streams.left ≡ Some input → status ≡ 7 ↔ TookTooMany streams.left streams.left_after
+  pub exactly_7 : (input : List ℕ) → streams.left ≡ Some input → status ≡ 7
+      ↔ TookTooMany streams.left streams.left_after
 
--- the run of a command that answers lines: for each line its answer, of which `check` begins one with `ok` exactly where the
--- squares of the line tile the stated rectangle in code order
+-- the run of a command that answers lines: for each line its answer, of which `check` begins one with `ok` exactly
+-- where the squares of the line tile the stated rectangle in code order
 pub record AnswersLines (command : Command) (before after : Outside) (status : ℕ) : Type 0 where
   pub reads : ReadsToEnd (answers_of (replies_of command)) (streams_of before after) (faults_of before after) status
   -- where no call fails and at most 2^30 bytes come, the lines decide
-  pub decided : (input : List ℕ) → before.left ≡ Some input → length input ≤ 2 ^ 30 → HasNoFault (faults_of before after)
+  pub decided : (input : List ℕ) → before.left ≡ Some input → length input ≤ 2 ^ 30
+      → HasNoFault (faults_of before after)
       → IsDecided command (lines_of input) status
 
 -- the runs of `alike` and of `pair`
 pub record ListsLines (wanted : Wanted) (before after : Outside) (status : ℕ) : Type 0 where
   pub reads : ReadsToEnd (listing_of wanted) (streams_of before after) (faults_of before after) status
-  -- where no call fails, at most 2^30 bytes come and memory is there, the status is 1 exactly where some line is refused
-  pub exactly_1 : (input : List ℕ) → before.left ≡ Some input → length input ≤ 2 ^ 30 → HasNoFault (faults_of before after)
+  -- where no call fails, at most 2^30 bytes come and memory is there, the status is 1 exactly where some line is
+  -- refused
+  pub exactly_1 : (input : List ℕ) → before.left ≡ Some input → length input ≤ 2 ^ 30
+      → HasNoFault (faults_of before after)
       → status ≢ 6 → status ≡ 1 ↔ HasRefusedLine (lines_of input)
 
 -- the run of `verify`
 pub record Verifies (n : ℕ) (before after : Outside) (status : ℕ) : Type 0 where
   pub reads : ReadsToEnd (report_of n) (streams_of before after) (faults_of before after) status
-  -- where no call fails, at most 2^30 bytes come and memory is there, the status is 1 exactly where the list and the catalogue
-  -- differ
-  pub exactly_1 : (input : List ℕ) → before.left ≡ Some input → length input ≤ 2 ^ 30 → HasNoFault (faults_of before after)
+  -- where no call fails, at most 2^30 bytes come and memory is there, the status is 1 exactly where the list and the
+  -- catalogue differ
+  pub exactly_1 : (input : List ℕ) → before.left ≡ Some input → length input ≤ 2 ^ 30
+      → HasNoFault (faults_of before after)
       → status ≢ 6 → status ≡ 1 ↔ HasFault n (lines_of input)

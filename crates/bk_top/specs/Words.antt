@@ -1,32 +1,49 @@
--- What the words of a command line ask.
--- Example (RunExamples): `check` asks a command that answers lines, `trial` asks none.
-use Rattle.std.specs.Prelude.{List, None, Option, Some, String, map, string_bytes, ⊤, ◌⊎◌}
+-- What the words of a command line ask, and what is done for it.
+-- Example (RunExamples): for `check` lines are answered, for `alike` they are gathered in groups.
+use Rattle.std.specs.Prelude.{List, Option, String, map, string_bytes, ℕ, ⊤, ◌⊎◌}
 use Rattle.std.specs.declared.alloc.Global.{Global}
-use Rattle.bk_answer.specs.declared.command.Command.{Command}
-use Rattle.bk_answer.specs.declared.command.CodeCommand.TheVariants as codes_of
-use Rattle.bk_answer.specs.declared.command.Command.TheVariants.{Flow, OfCodes, Solve}
+use Rattle.bk_alike.specs.declared.Wanted.TheVariants.{Groups, Pairs}
+use Rattle.bk_answer.specs.declared.command.Command.TheVariants.{Memory, Plain}
+use Rattle.bk_answer.specs.declared.command.MemoryCommand.TheVariants.{Flow, Solve, Word}
+use Rattle.bk_answer.specs.declared.plain.PlainCommand.TheVariants as plain
+use Rattle.bk_word.specs.Word.{Word as Moves}
+use Rattle.bk_word.specs.declared.Class.{Class}
+use Rattle.bk_catalogue.specs.Following.{start_cursor}
+use Rattle.bk_list.specs.Listing.{Listing}
 use Rattle.bk_ask.specs.Asked.{Asks}
 use Rattle.bk_ask.specs.declared.Ask.{Ask}
 use Rattle.bk_ask.specs.declared.Ask.TheVariants as asks
+use Rattle.bk_top.specs.declared.work.Work.{Work}
+use Rattle.bk_top.specs.declared.work.Work.TheVariants as works
 
--- the command that answers lines, where one is asked
-abbrev pub command_asked : Ask → Option Command
-command_asked asks.Check = Some (OfCodes codes_of.Check)
-command_asked asks.Canon = Some (OfCodes codes_of.Canon)
-command_asked asks.Images = Some (OfCodes codes_of.Images)
-command_asked asks.Net = Some (OfCodes codes_of.Net)
-command_asked asks.Dual = Some (OfCodes codes_of.Dual)
-command_asked asks.Draw = Some (OfCodes codes_of.Draw)
-command_asked asks.Word = Some (OfCodes codes_of.Word)
-command_asked asks.Flow = Some Flow
-command_asked asks.Solve = Some Solve
-command_asked _ = None
+-- what is done for what is asked
+abbrev pub work_asked : Ask → Work
+work_asked asks.Check = works.Lines (Plain plain.Check)
+work_asked asks.Canon = works.Lines (Plain plain.Canon)
+work_asked asks.Images = works.Lines (Plain plain.Images)
+work_asked asks.Net = works.Lines (Plain plain.Net)
+work_asked asks.Dual = works.Lines (Plain plain.Dual)
+work_asked asks.Draw = works.Lines (Plain plain.Draw)
+work_asked asks.Word = works.Lines (Memory Word)
+work_asked asks.Flow = works.Lines (Memory Flow)
+work_asked asks.Solve = works.Lines (Memory Solve)
+work_asked (asks.List order class from limit) = works.Listing order class from limit
+work_asked (asks.Trial seed count) = works.Trial seed count
+work_asked (asks.Verify order) = works.Verify order
+work_asked asks.Alike = works.Gather Groups
+work_asked (asks.Pair kind) = works.Gather (Pairs kind)
+work_asked asks.Help = works.Help
+
+-- the listing that is asked: of an order and a class, after a word or from the start, up to a limit
+abbrev pub listing_asked : ℕ → Class → Option Moves → Option ℕ → Listing
+listing_asked n class from limit =
+    record { catalogue = record { order = n; class = class }; cursor = start_cursor from; limit = limit }
 
 -- what reads no lines
-abbrev pub ReadsNoLines : Ask → Type 0
-ReadsNoLines (asks.List order class from limit) = ⊤
-ReadsNoLines (asks.Trial seed count) = ⊤
-ReadsNoLines asks.Help = ⊤
+abbrev pub ReadsNoLines : Work → Type 0
+ReadsNoLines (works.Listing order class from limit) = ⊤
+ReadsNoLines (works.Trial seed count) = ⊤
+ReadsNoLines works.Help = ⊤
 ReadsNoLines _ = ⊥
 
 -- the words ask this
@@ -34,13 +51,13 @@ abbrev pub WordsAsk : List (String Global) → Ask → Type 0
 WordsAsk words ask = Asks (map string_bytes words) ask
 
 -- the words ask nothing
-abbrev pub AsksNothing : List (String Global) → Type 0
-AsksNothing words = (ask : Ask) → WordsAsk words ask → ⊥
+abbrev pub WordsAskNothing : List (String Global) → Type 0
+WordsAskNothing words = (ask : Ask) → WordsAsk words ask → ⊥
 
 -- the words ask nothing that reads lines
 abbrev pub AsksNoLines : List (String Global) → Type 0
-AsksNoLines words = (ask : Ask) → WordsAsk words ask → ReadsNoLines ask
+AsksNoLines words = (ask : Ask) → WordsAsk words ask → ReadsNoLines (work_asked ask)
 
 -- nothing is asked but a text on errors
 abbrev pub AsksErrorsOnly : List (String Global) → Type 0
-AsksErrorsOnly words = AsksNothing words ⊎ WordsAsk words asks.Help
+AsksErrorsOnly words = WordsAskNothing words ⊎ WordsAsk words asks.Help

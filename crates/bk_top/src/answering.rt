@@ -2,10 +2,10 @@
 
 ghost use Rattle.bk_answer.specs.Answer.{AnswersLine, MayWant};
 ghost use Rattle.bk_ports.specs.Answered.{answers_of, of_fronts};
-ghost use Rattle.bk_ports.specs.Ending.{EndsWith};
-ghost use Rattle.bk_ports.specs.Faults.{CountsTell};
+ghost use Rattle.bk_ports.specs.Ending.{EndsWith, streams_between};
+ghost use Rattle.bk_ports.specs.Faults.{CountsTell, faults_between};
 
-use bk_answer::{Command, LineAnswerer, PlainAnswerer};
+use bk_answer::{Command, MemoryAnswerer, PlainAnswerer};
 use bk_ports::{Ended, Sink, Source, answer_lines};
 use std::alloc::Global;
 
@@ -16,24 +16,15 @@ pub(crate) fn answer_by<S: Source, O: Sink>(
     source: &mut S,
     out: &mut O,
 ) -> Ended
-    ensures ending { EndsWith (answers_of (of_fronts (record { answers = AnswersLine command; may_want = MayWant command })))
-        (record {
-          left = S.left source.old;
-          left_after = S.left source.new;
-          written = O.written out.old;
-          written_after = O.written out.new;
-        })
+    ensures ending { EndsWith
+        (answers_of (of_fronts (record { answers = AnswersLine command; may_want = MayWant command })))
+        (streams_between S.left O.written (source.old, out.old) (source.new, out.new))
         result }
     ensures faults { CountsTell result
-        (record {
-          read = S.faults source.old;
-          read_after = S.faults source.new;
-          write = O.faults out.old;
-          write_after = O.faults out.new;
-        }) }
+        (faults_between S.faults O.faults (source.old, out.old) (source.new, out.new)) }
 {
-    match command.plain() {
-        Some(command) => answer_lines(&PlainAnswerer { command }, source, out),
-        None => answer_lines(&LineAnswerer { command, alloc }, source, out),
+    match command {
+        Command::Plain(command) => answer_lines(&PlainAnswerer { command }, source, out),
+        Command::Memory(command) => answer_lines(&MemoryAnswerer { command, alloc }, source, out),
     }
 }

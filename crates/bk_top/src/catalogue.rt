@@ -1,20 +1,25 @@
 //! A listing of the catalogue.
 
-ghost use Rattle.std.specs.Prelude.{IfOk, OnErr, ◌≢◌, ◌≤◌};
+ghost use Rattle.std.specs.Prelude.{IfOk, OnErr, ◌<◌, ◌≡◌, ◌≤◌};
 ghost use Rattle.bk_ports.specs.Causes.{HasCause};
 ghost use Rattle.bk_word.specs.Word.{order_of};
 ghost use Rattle.bk_catalogue.specs.Following.{start_cursor};
-ghost use Rattle.bk_list.specs.Writing.{BeginsListing, WritesListing};
+ghost use Rattle.bk_list.specs.Walked.{listing_of};
+ghost use Rattle.bk_list.specs.Writing.{BeginsListing, StandsBehind, WritesListing};
+ghost use Rattle.bk_top.specs.Words.{listing_asked};
 
-use bk_list::write_new_listing;
+use bk_list::write_listing;
+use bk_members::Members;
+use bk_play::Steps;
 use bk_ports::{Failed, Sink};
 use bk_report::Last;
-use bk_walk::{LEAST_TABLED_ORDER, UntabledWalk, Walk};
+use bk_walk::Walk;
 use bk_word::{Class, Word};
 use std::alloc::Global;
+use std::marker::Brand;
+use std::sync::ledger::{Blank, Ledger};
 
-// Writes the listing of an order and a class after a word, up to a limit, by a walk that may make a table of members where it is done
-// sooner so.
+// Writes the listing of an order and a class after a word, up to a limit, by a walk through the catalogue.
 pub(crate) fn list_catalogue<O: Sink>(
     alloc: Global,
     order: u8,
@@ -26,13 +31,57 @@ pub(crate) fn list_catalogue<O: Sink>(
     requires least { 2 ≤ order }
     requires most { order ≤ 16 }
     requires few { order_of (start_cursor from) ≤ 16 }
-    ensures listed { IfOk result (λ last. WritesListing order class (start_cursor from) limit last (O.written out.old) (O.written out.new)) }
-    ensures narrow { IfOk result (λ last. last ≢ Last.Wide) }
-    ensures begun { OnErr result (BeginsListing order class (start_cursor from) limit (O.written out.old) (O.written out.new)) }
+    ensures listed { let l = listing_asked order class from limit in
+        IfOk result (λ last. WritesListing l last (O.written out.old) (O.written out.new)) }
+    ensures begun { let l = listing_asked order class from limit in OnErr result
+        (BeginsListing l (O.written out.old) (O.written out.new)) }
     ensures cause { HasCause (O.faults out.old) (O.faults out.new) result }
 {
-    if order >= LEAST_TABLED_ORDER {
-        return write_new_listing::<Walk, O>(alloc, order, class, from, limit, out);
-    }
-    write_new_listing::<UntabledWalk, O>(alloc, order, class, from, limit, out)
+    list_by::<Walk, O>(alloc, order, class, from, limit, out)
+}
+
+// Writes the listing of an order and a class after a word, up to a limit, by members of this kind.
+#[inline(never)]
+fn list_by<M: Members, O: Sink>(
+    alloc: Global,
+    order: u8,
+    class: Class,
+    from: Option<Word>,
+    limit: Option<u64>,
+    out: &mut O,
+) -> Result<Last, Failed>
+    requires least { 2 ≤ order }
+    requires most { order ≤ 16 }
+    requires few { order_of (start_cursor from) ≤ 16 }
+    ensures listed { let l = listing_asked order class from limit in
+        IfOk result (λ last. WritesListing l last (O.written out.old) (O.written out.new)) }
+    ensures begun { let l = listing_asked order class from limit in OnErr result
+        (BeginsListing l (O.written out.old) (O.written out.new)) }
+    ensures cause { HasCause (O.faults out.old) (O.faults out.new) result }
+{
+    let mut members = M::after(alloc, order, class, from);
+    list_members::<M, Brand, O>(Blank::new(1), &mut members, limit, out)
+}
+
+// Writes the listing of these members, whose steps nobody else counts.
+fn list_members<M: Members, L: Ledger, O: Sink>(
+    blank: Blank,
+    members: &mut M,
+    limit: Option<u64>,
+    out: &mut O,
+) -> Result<Last, Failed>
+    requires name { blank.name ≡ L.name }
+    requires parts { blank.parts ≡ L.parts }
+    requires some { 0 < L.parts }
+    requires most { (M.at members.old).order ≤ 16 }
+    ensures listed { let l = listing_of (M.at members.old) limit in
+        IfOk result (λ last. WritesListing l last (O.written out.old) (O.written out.new)) }
+    ensures begun { let l = listing_of (M.at members.old) limit in OnErr result
+        (BeginsListing l (O.written out.old) (O.written out.new)) }
+    ensures cause { HasCause (O.faults out.old) (O.faults out.new) result }
+    ensures stands { let l = listing_of (M.at members.old) limit in IfOk result
+        (λ last. StandsBehind l last (M.at members.new).cursor) }
+{
+    let mut steps = Steps::<L>::new(blank);
+    write_listing(members, limit, &mut steps, out)
 }

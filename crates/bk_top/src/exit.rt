@@ -1,17 +1,24 @@
 //! The status of the process.
 #![tactic(auto)]
 
-ghost use Rattle.std.specs.Prelude.{IfOk, ◌≡◌};
+ghost use Rattle.std.specs.IoError.{error_kind};
+ghost use Rattle.std.specs.Prelude.{Err, IfErr, IfOk, IsOk, drop, ◌≡◌, ◌≢◌};
 ghost use Rattle.std.specs.Process.{exit_status};
-ghost use Rattle.bk_top.specs.Ended.{EndsBy};
+ghost use Rattle.std.specs.Vec.Iter.{into_iter_items};
+ghost use Rattle.bk_top.specs.Ended.{ProcessEndsBy};
+ghost use Rattle.bk_top.specs.Outside.{outside};
 ghost use Rattle.bk_top.specs.Words.{AsksErrorsOnly, AsksNoLines};
 
 use crate::program::run;
-use bk_ports::{Sink, Source};
+use bk_ask::words_of;
+use bk_ports::{Sink, Source, StandardError, StandardOutput};
 use std::alloc::Global;
+use std::env::Args;
+use std::io;
+use std::io::ErrorKind;
 use std::process::ExitCode;
 
-/// Why there are no arguments. (Own.)
+/// Why there are no arguments.
 #[derive(Clone, Copy)]
 pub enum NoArguments {
     /// Memory for them was wanting.
@@ -20,32 +27,41 @@ pub enum NoArguments {
     NotText,
 }
 
-/// Runs what the arguments ask, and gives the status of the run as that of the process. If there are no arguments, nothing is
-/// read or written, and the status is 6 if memory was wanting, else 8. (Own.)
-pub fn run_to_exit<S: Source, O: Sink, E: Sink>(
+/// The words of the command line: the arguments of the process without the first, which is the program's name, or why
+/// there are none.
+pub fn arguments_of(alloc: Global, arguments: io::Result<Args>) -> Result<Vec<String>, NoArguments>
+    ensures words { IfOk result (λ words. IfOk arguments (λ args. words.items ≡ drop 1 (into_iter_items args))) }
+    ensures wanting { IsOk arguments → IfErr result (λ why. why ≡ NoArguments.NoMemory) }
+    ensures no_memory { IfErr arguments (λ error. error_kind error ≡ ErrorKind.OutOfMemory
+        → result ≡ Err NoArguments.NoMemory) }
+    ensures not_text { IfErr arguments (λ error. error_kind error ≢ ErrorKind.OutOfMemory
+        → result ≡ Err NoArguments.NotText) }
+{
+    match arguments {
+        Ok(args) => match words_of(alloc, args) {
+            Ok(words) => Ok(words),
+            Err(_) => Err(NoArguments::NoMemory),
+        },
+        Err(error) if error.kind() == ErrorKind::OutOfMemory => Err(NoArguments::NoMemory),
+        Err(_) => Err(NoArguments::NotText),
+    }
+}
+
+/// Runs what the arguments ask, and gives the status of the run as that of the process. If there are no arguments,
+/// nothing is read or written, and the status is 6 if memory was wanting, else 8. Standard output and standard error
+/// can't be exchanged by who calls it, since they are of different types.
+pub fn run_to_exit<S: Source, O: Sink + StandardOutput, E: Sink + StandardError>(
     alloc: Global,
     arguments: &Result<Vec<String>, NoArguments>,
     source: &mut S,
     out: &mut O,
     err: &mut E,
 ) -> ExitCode
-    ensures ended { EndsBy arguments.now
-        (record {
-          left = S.left source.old;
-          read_faults = S.faults source.old;
-          written = O.written out.old;
-          write_faults = O.faults out.old;
-          errors = E.written err.old;
-          error_faults = E.faults err.old;
-        })
-        (record {
-          left = S.left source.new;
-          read_faults = S.faults source.new;
-          written = O.written out.new;
-          write_faults = O.faults out.new;
-          errors = E.written err.new;
-          error_faults = E.faults err.new;
-        })
+    ensures ended { ProcessEndsBy arguments.now
+        (outside (S.left source.old) (S.faults source.old) (O.written out.old) (O.faults out.old)
+        (E.written err.old) (E.faults err.old))
+        (outside (S.left source.new) (S.faults source.new) (O.written out.new) (O.faults out.new)
+        (E.written err.new) (E.faults err.new))
         (exit_status result) }
     ensures unread { IfOk arguments.now (λ words. AsksNoLines words.items) → source.new ≡ source.old }
     ensures unwritten { IfOk arguments.now (λ words. AsksErrorsOnly words.items) → out.new ≡ out.old }

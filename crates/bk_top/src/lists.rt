@@ -1,8 +1,10 @@
 //! Lists that are read to their end.
 
 ghost use Rattle.std.specs.Prelude.{◌≤◌};
-ghost use Rattle.bk_alike.specs.Closing.{listing_of};
-ghost use Rattle.bk_verify_report.specs.Running.{report_of};
+ghost use Rattle.bk_ports.specs.Ending.{streams_between};
+ghost use Rattle.bk_ports.specs.Faults.{faults_between};
+ghost use Rattle.bk_alike.specs.GroupsEnd.{listing_of};
+ghost use Rattle.bk_verify_report.specs.VerifyRun.{report_of};
 ghost use Rattle.bk_top.specs.ReadsToEnd.{ReadsToEnd};
 
 use crate::lines::status;
@@ -21,18 +23,8 @@ pub(crate) fn list_to_end<S: Source, O: Sink>(
     out: &mut O,
 ) -> u8
     ensures { ReadsToEnd (listing_of wanted)
-        (record {
-          left = S.left source.old;
-          left_after = S.left source.new;
-          written = O.written out.old;
-          written_after = O.written out.new;
-        })
-        (record {
-          read = S.faults source.old;
-          read_after = S.faults source.new;
-          write = O.faults out.old;
-          write_after = O.faults out.new;
-        })
+        (streams_between S.left O.written (source.old, out.old) (source.new, out.new))
+        (faults_between S.faults O.faults (source.old, out.old) (source.new, out.new))
         result }
 {
     status(list_lines(alloc, wanted, source, out))
@@ -49,18 +41,8 @@ pub(crate) fn verify_list<S: Source, O: Sink>(
     requires least { 2 ≤ order }
     requires most { order ≤ 16 }
     ensures { ReadsToEnd (report_of order)
-        (record {
-          left = S.left source.old;
-          left_after = S.left source.new;
-          written = O.written out.old;
-          written_after = O.written out.new;
-        })
-        (record {
-          read = S.faults source.old;
-          read_after = S.faults source.new;
-          write = O.faults out.old;
-          write_after = O.faults out.new;
-        })
+        (streams_between S.left O.written (source.old, out.old) (source.new, out.new))
+        (faults_between S.faults O.faults (source.old, out.old) (source.new, out.new))
         result }
 {
     status(verify::<Walk, S, O>(alloc, order, source, out))

@@ -83,7 +83,7 @@ module _ (n : ℕ) (class : Class) (place next : Word) (up : Follows next place)
   pub moved_on : HasPassed n class cursor next met
   moved_on = record { passed = passed_on; after = after_on; words = p.words; each = each_on p.words p.each; ascending = p.ascending; count = p.count }
 
-  -- and past a word of the tree, which is met
+  -- a search goes on past a word of the tree, which is met
   module _ (word : Word) (tree : IsTreeWord n word) (some : 0 < length word) (from : Follows place word → ⊥) (to : Follows next word) where
     in_tree : IsInTree n cursor None word
     in_tree = record { legal = tree.legal; some = some; small = tree.small; after = p.after word tree from; within = tt }

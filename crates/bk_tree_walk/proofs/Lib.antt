@@ -15,5 +15,3 @@ pub mod UnfitFlows
 pub mod TakingUp
 -- A word's flow by hand.
 pub mod TreeWalkExamples
--- Walks worked by hand.
-pub mod WalkExamples

@@ -6,7 +6,7 @@ use Rattle.bk_word.specs.Word.{Word, order_of}
 use Rattle.bk_word.specs.declared.Class.{Class}
 use Rattle.bk_lay.proofs.WordPlay.{tiling_word_is_complete}
 use Rattle.bk_lay.specs.TilingWord.{IsWordOf}
-use Rattle.bk_word_net.proofs.PrimitiveTiling.{a_word_has_one_primitive_tiling}
+use Rattle.bk_word_net.proofs.PlacedSquares.PrimitiveTiling.{a_word_has_one_primitive_tiling}
 use Rattle.bk_catalogue.specs.Catalogue.{Entry, IsEntry, IsMember}
 use Rattle.bk_word_net.specs.Realised.{IsTilingOf}
 use Rattle.bk_catalogue.specs.Qualifying.{Qualifies}
@@ -49,7 +49,3 @@ member_realised n class w t m r = record { member = subst (IsMember n class) one
     one = a_word_has_one_primitive_tiling (m.entry).tiling t w ((m.is).member).tiling r.tiling
         (canonical_primitive (m.entry).tiling ((m.is).member).tiling ((m.is).member).canonical) r.primitive
         (subst (IsWordOf (m.entry).tiling) m.word_is (m.is).word) r.word
-
--- and there is one
-pub some_realised : (n : ℕ) (class : Class) (w : Word) → IsMembersWord n class w → ((t : Tiling) → IsTiling t → IsWordOf t w → ⊥) → ⊥
-some_realised n class w m none = none (m.entry).tiling ((m.is).member).tiling (subst (IsWordOf (m.entry).tiling) m.word_is (m.is).word)

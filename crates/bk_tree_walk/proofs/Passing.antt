@@ -3,12 +3,13 @@ use Rattle.std.specs.Ordering.{ordering_then}
 use Rattle.std.specs.declared.cmp.Ordering.{Ordering}
 use Rattle.std.specs.declared.cmp.Ordering.TheVariants.{Equal, Greater, Less}
 use Rattle.std.proofs.Common.{[], ap, append_assoc, arith, refl, subst, sym, ℕ, ◌++◌, ◌+◌, ◌∙◌, ◌∷◌, ◌≡◌, ◌≤◌}
+use Rattle.bk_laws.proofs.Orderings.{greater-is_not_less}
 use Rattle.bk_word.specs.Outline.{IsLegalMove, start}
 use Rattle.bk_word.specs.Play.{IsLegal, after_moves, outline_of}
 use Rattle.bk_word.specs.Word.{Follows, Move, Word, move_cmp, order_of, word_cmp}
 use Rattle.bk_word.proofs.StoredBytes.{order_append, order_more}
-use Rattle.bk_catalogue.proofs.MoveOrder.{Begins, greater, moves_between}
-use Rattle.bk_catalogue.proofs.Places.{IsLast, LiesBetween, before_first, before_one, lies_between, not_before_first, one_legal}
+use Rattle.bk_catalogue.proofs.TreeOfWords.MoveOrder.{Begins, moves_between}
+use Rattle.bk_catalogue.proofs.TreeOfWords.Places.{IsLast, LiesBetween, before_first, before_one, lies_between, not_before_first, one_legal}
 use Rattle.bk_word.proofs.PlayLaws.{legal_rest}
 use Rattle.bk_word.proofs.WordOrder.{move_itself, move_same}
 use Rattle.bk_catalogue.specs.NextMove.{IsLeastFrom, IsMoveFrom, first_move, move_after}
@@ -32,7 +33,7 @@ last_over n front x w [] tree last e from = from refl
 last_over n front x w (m ∷ rest) tree last e from =
     last m (goes_on n front m rest w tree e) (not_before_first m x rest [] from) (few_from n front m rest w tree e)
 
--- the same, where no move is played
+-- if no move is played and no legal one is left, no word of the tree begins with what is left
 pub end_over : (n : ℕ) (x : Move) (w : Word) → IsTreeWord n w → IsLast n [] x → (Follows (x ∷ []) w → ⊥) → ⊥
 end_over n x w tree last from = last_over n [] x w w tree last refl from
 
@@ -96,7 +97,7 @@ push_over n front x m w tree least from to =
       where
         by_order : (r : Ordering) → move_cmp k m ≡ r → w ≡ front ++ m ∷ []
         by_order Less g = absurd (least.least k (goes_on n front k rest w tree e) (not_before_first k x rest [] f) g)
-        by_order Greater g = absurd (greater (sym (ap (λ z. ordering_then z (word_cmp rest (first_move ∷ []))) g) ∙ t))
+        by_order Greater g = absurd (greater-is_not_less (sym (ap (λ z. ordering_then z (word_cmp rest (first_move ∷ []))) g) ∙ t))
         by_order Equal g = e ∙ ap (λ z. front ++ z ∷ rest) (move_same k m g) ∙ ap (λ z. front ++ m ∷ z) none
           where
             none : rest ≡ []

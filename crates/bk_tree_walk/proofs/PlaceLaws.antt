@@ -90,6 +90,7 @@ module _ {s now : SearchState} (view : s ≡ now) (kept : IsKeptSearch s) (m : M
   pub settled_stand : order_of s.front + m.count ≤ s.order → IsSearchState s.order s.front m
   settled_stand few = legal_stand s.order s.front s.next m kept.most kept.stand least.legal few
 
+  -- a next move with few enough squares settles the search as it is, with the legal move next
   pub settled_on : order_of s.front + m.count ≤ s.order → SettlesTo now (moved s.front m) None
   settled_on few = subst (λ (u : SearchState). SettlesTo u (moved s.front m) None) view
       (record { legal = least.legal; few = few }, step_from s.order s.class s.front s.next m least)
@@ -99,6 +100,7 @@ module _ {s now : SearchState} (view : s ≡ now) (kept : IsKeptSearch s) (m : M
       → Advances s.order s.class (place_of s) (new ++ next ∷ []) 0 × IsSearchState s.order new next
   settled_back_leads new next climbed many = step_climbs s.order s.class s.front s.next m kept.most kept.stand fit new next 0 climbed many (omega arith)
 
+  -- a next move with too many squares leads the search to the place to which it climbs back
   pub settled_back : (new : Word) (next : Move) → IsClimbed s.front new next → s.order < order_of s.front + m.count
       → SettlesTo now (moved new next) (Some On)
   settled_back new next climbed many = subst (λ (u : SearchState). SettlesTo u (moved new next) (Some On)) view (settled_back_leads new next climbed many)
@@ -122,7 +124,7 @@ settled_leads s then went steps settled = subst (λ (met : ℕ). StepLeadsTo s.o
     cases Met never = absurd never
     cases End leads = leads
 
--- and at no member's word
+-- a search that settles never does so at a member's word
 pub settled_unmet : (s then : SearchState) (went : Went) → SettlesTo s then (Some went) → went ≡ Met → ⊥
 settled_unmet s then On leads e = absurd (cc)
 settled_unmet s then Met never e = never

@@ -12,9 +12,9 @@ use Rattle.bk_word.specs.declared.Class.{Class}
 use Rattle.bk_word.proofs.StoredBytes.{order_append, order_more}
 use Rattle.bk_word.proofs.PlayLaws.{legal-snoc}
 use Rattle.bk_tree_walk.proofs.Advancing.{ended, entry_word, met_at, met_on, moved_on}
-use Rattle.bk_catalogue.proofs.MoveOrder.{begun_before, moves_between}
+use Rattle.bk_catalogue.proofs.TreeOfWords.MoveOrder.{begun_before, moves_between}
 use Rattle.bk_tree_walk.proofs.Passing.{IsOver, climb_over, end_over, move_over, push_over}
-use Rattle.bk_catalogue.proofs.Places.{IsLast, before_one, front_cmp, one_legal}
+use Rattle.bk_catalogue.proofs.TreeOfWords.Places.{IsLast, before_one, front_cmp, one_legal}
 use Rattle.bk_word.proofs.FollowLaws.{not_itself}
 use Rattle.bk_catalogue.specs.Catalogue.{Entry, IsEntry}
 use Rattle.bk_catalogue.specs.Cuts.{IsBarren}
@@ -28,12 +28,12 @@ pub fewer_met : (n : ℕ) (class : Class) (cursor place : Word) (more met : ℕ)
 fewer_met n class cursor place more met h p =
     record { passed = p.passed; after = p.after; words = p.words; each = p.each; ascending = p.ascending; count = omega (arith, p.count) }
 
--- the same at the end
+-- at the end of the walk fewer words count as met, too
 pub fewer_end : (n : ℕ) (class : Class) (cursor : Word) (more met : ℕ) → met ≤ more → IsEnd n class cursor more → IsEnd n class cursor met
 fewer_end n class cursor more met h p = let c = p.count in
     record { passed = p.passed; count = record { words = c.words; each = c.each; ascending = c.ascending; count = omega (arith, c.count) } }
 
--- and at a word
+-- at a word fewer words count as met, too
 pub fewer_at : (n : ℕ) (class : Class) (cursor word : Word) (more met : ℕ) → met ≤ more → IsMet n class cursor word more → IsMet n class cursor word met
 fewer_at n class cursor word more met h p = let c = p.count in
     record { after = p.after; passed = p.passed; count = record { words = c.words; each = c.each; ascending = c.ascending; count = omega (arith, c.count) } }

@@ -1,13 +1,12 @@
 -- The turns of a search: each is a step from where the last one led.
-use Rattle.std.proofs.Common.{arith, refl, subst, sym, ℕ, ◌+◌, ◌-◌, ◌<◌, ◌∙◌, ◌≤◌}
+use Rattle.std.proofs.Common.{arith, false, refl, subst, sym, true, ℕ, ◌+◌, ◌-◌, ◌<◌, ◌∙◌, ◌≤◌}
 use Rattle.bk_tiling.specs.Tiling.{Tiling}
 use Rattle.bk_word.specs.declared.Class.{Class}
 use Rattle.bk_catalogue.specs.Catalogue.{IsEntry}
 use Rattle.bk_tree_walk.proofs.MemberEntries.{same_entry}
-use Rattle.bk_catalogue.proofs.Ranks.{left_after}
+use Rattle.bk_catalogue.proofs.TreeOfWords.Ranks.{left_after}
 use Rattle.bk_tree_walk.proofs.SearchLoop.{Continues, continues_none, continues_on, counts_known, counts_none, counts_then, ends_then, meets_then, nearer}
 use Rattle.bk_tree_walk.specs.Search.{Finds, IsKeptSearch, IsSearchState, SearchState, StaysOf, StepLeadsTo, place_of}
-use Rattle.bk_tree_walk.specs.declared.Found.TheVariants.{Ended, Member}
 use Rattle.bk_tree_walk.specs.declared.Went.{Went}
 use Rattle.bk_tree_walk.specs.declared.Went.TheVariants.{End, Met, On}
 
@@ -15,9 +14,11 @@ use Rattle.bk_tree_walk.specs.declared.Went.TheVariants.{End, Met, On}
 pub turns_none : (s : SearchState) (steps : ℕ) → Continues s.order s.class (place_of s) (place_of s) (steps - steps)
 turns_none s steps = continues_none s.order s.class (place_of s) (steps - steps) (omega arith)
 
+-- a search that does nothing stays of its order and class and counts no push
 pub stays_same : (s : SearchState) (steps : ℕ) → IsKeptSearch s → StaysOf s s steps steps
 stays_same s steps kept = record { order = refl; class = refl; counts = counts_none s.pushes steps kept.known }
 
+-- two steps of a search in turn keep its order and class and count their pushes together
 pub stays_then : (s t u : SearchState) (a b c : ℕ) → StaysOf s t a b → StaysOf t u b c → StaysOf s u a c
 stays_then s t u a b c st tu = record {
   order = tu.order ∙ st.order;
@@ -36,9 +37,11 @@ module _ (s t u : SearchState) (a b c : ℕ) (kept_t : IsKeptSearch t)
   few : c - a ≤ (b - a) + (c - b)
   few = let k = (st.counts).more in let l = (tu.counts).more in omega arith
 
+  -- a turn that leads on leads the whole search on to where the turn ends
   pub turn_on : StepLeadsTo t.order t.class (place_of t) u.front u.next (c - b) On → Continues s.order s.class (place_of s) (place_of u) (c - a)
   turn_on leads = continues_on s.order s.class (place_of s) (place_of t) (place_of u) (b - a) (c - b) (c - a) on (in_order On leads).0 few
 
+  -- a turn that leads on leaves a search that holds what each does
   pub turn_kept : StepLeadsTo t.order t.class (place_of t) u.front u.next (c - b) On → IsKeptSearch u
   turn_kept leads = record {
     least = omega (arith, kept_t.least, tu.order);
@@ -47,19 +50,22 @@ module _ (s t u : SearchState) (a b c : ℕ) (kept_t : IsKeptSearch t)
     known = counts_known t.pushes u.pushes b c tu.counts;
   }
 
+  -- a turn that leads on comes to a place with fewer words left
   pub turn_nearer : StepLeadsTo t.order t.class (place_of t) u.front u.next (c - b) On → left_after (place_of u) < left_after (place_of t)
   turn_nearer leads = nearer t.order t.front u.front t.next u.next kept_t.most kept_t.stand leads.1 (leads.0).up
 
-  pub turn_ends : StepLeadsTo t.order t.class (place_of t) u.front u.next (c - b) End → Finds s.order s.class (place_of s) u.front (c - a) Ended
+  -- a turn that comes to the end ends the whole search
+  pub turn_ends : StepLeadsTo t.order t.class (place_of t) u.front u.next (c - b) End → Finds s.order s.class (place_of s) u.front (c - a) false
   turn_ends leads = (
     ends_then s.order s.class (place_of s) (place_of t) (b - a) (c - b) (c - a) on (in_order End leads).0 few,
     leads.1,
   )
 
-  pub turn_finds : StepLeadsTo t.order t.class (place_of t) u.front u.next (c - b) Met → Finds s.order s.class (place_of s) u.front (c - a) Member
+  -- a turn that meets a member's word finds it in the whole search
+  pub turn_finds : StepLeadsTo t.order t.class (place_of t) u.front u.next (c - b) Met → Finds s.order s.class (place_of s) u.front (c - a) true
   turn_finds leads = meets_then s.order s.class (place_of s) (place_of t) u.front (b - a) (c - b) (c - a) on (in_order Met leads) few
 
-  -- and the entry that it meets is one of its order and class
+  -- an entry that a turn meets is one of the search's order and class
   pub turn_entry : (tiling : Tiling) → IsEntry t.order t.class (record { tiling = tiling; word = u.front })
       → IsEntry s.order s.class (record { tiling = tiling; word = u.front })
   turn_entry tiling is = same_entry s.order t.order s.class t.class u.front u.front tiling st.order st.class refl is

@@ -1,9 +1,8 @@
 -- What a step of a search knows of the place where it stands, and where it leads.
-use Rattle.std.proofs.Common.{List, Some, [], ap, arith, inl, inr, length, slice_get, subst, sym, take, ℕ, ◌++◌, ◌+◌, ◌-◌, ◌<◌, ◌∙◌, ◌∷◌, ◌≡◌, ◌≤◌, ◌⊎◌}
+use Rattle.std.proofs.Common.{Some, [], ap, arith, inl, inr, length, slice_get, subst, sym, take, ℕ, ◌++◌, ◌+◌, ◌-◌, ◌<◌, ◌∙◌, ◌∷◌, ◌≡◌, ◌≤◌, ◌⊎◌}
 use Rattle.std.proofs.lemmas.Bool.{cases_lt}
 use Rattle.std.proofs.lemmas.List.{length-append, take_all, take_at}
-use Rattle.std.proofs.lemmas.Grind.{take_at_read}
-use Rattle.std.proofs.lemmas.Option.{get_or_from_slice_get, slice_get_within}
+use Rattle.bk_laws.proofs.ListPlaces.{take-snoc_next}
 use Rattle.bk_word.specs.Outline.{IsLegalMove, Outline, start}
 use Rattle.bk_word.specs.Play.{IsComplete, IsLegal, outline_of}
 use Rattle.bk_word.specs.Word.{Move, Word, move_cmp, order_of}
@@ -13,21 +12,17 @@ use Rattle.bk_word.specs.declared.Class.{Class}
 use Rattle.bk_word.proofs.StoredBytes.{order_append, order_more}
 use Rattle.bk_word.proofs.PlayLaws.{few_signs, legal_front, legal_rest}
 use Rattle.bk_walk_cuts.proofs.CutLaws.{after_near, whole_front}
-use Rattle.bk_catalogue.proofs.Fitting.{HasShape, IsFit, fit}
-use Rattle.bk_catalogue.proofs.MoveOrder.{less_from}
-use Rattle.bk_catalogue.proofs.Places.{IsLast}
+use Rattle.bk_catalogue.proofs.TreeOfWords.Fitting.{HasShape, IsFit, fit}
+use Rattle.bk_catalogue.proofs.TreeOfWords.MoveOrder.{less_from}
+use Rattle.bk_catalogue.proofs.TreeOfWords.Places.{IsLast}
 use Rattle.bk_tree_walk.proofs.SearchSteps.{climbs, cuts, ends, goes_down, meets, pushed_tree, turns_back}
 use Rattle.bk_catalogue.specs.Catalogue.{Entry, IsEntry}
-use Rattle.bk_catalogue.proofs.OneEntry.{entry_complete}
+use Rattle.bk_catalogue.proofs.Members.OneEntry.{entry_complete}
 use Rattle.bk_catalogue.specs.Cuts.{IsBarren}
 use Rattle.bk_walk_cuts.specs.MoveCuts.{GrowsByAtMostOne, IsCut}
 use Rattle.bk_catalogue.specs.NextMove.{IsLeastFrom, IsMoveFrom, first_move, fitted, move_after, open_sides}
 use Rattle.bk_catalogue.specs.Repeated.{HasNoMember}
 use Rattle.bk_tree_walk.specs.Search.{Advances, Ends, IsClimbed, IsSearchState, IsTreeWord, Meets}
-
--- the first items, with the next one
-pub take_next : {A : Type 0} (xs : List A) (i : ℕ) (x : A) → slice_get xs i ≡ Some x → take (i + 1) xs ≡ take i xs ++ x ∷ []
-take_next xs i x e = (take_at_read xs i x (slice_get_within xs i x e)).1 ∙ ap (λ y. take i xs ++ y ∷ []) (get_or_from_slice_get xs i x x e)
 
 shape_from : (o : Outline) (m : Move) → IsLegalMove o m → HasShape (open_sides o) m
 shape_from o m l = let some = l.some in record { some = l.some; long = omega (arith, l.signs) }
@@ -92,7 +87,7 @@ last_move before front m l few e = record {
 -- the last move is taken back
 pub taken_last : (before front : Word) (m : Move) (moves : ℕ) → moves ≡ length before → 0 < moves → slice_get before (moves - 1) ≡ Some m
     → front ≡ take (length before - 1) before → before ≡ front ++ m ∷ []
-taken_last before front m moves e some g f = sym (take_all (moves - 1 + 1) before (omega arith)) ∙ take_next before (moves - 1) m g
+taken_last before front m moves e some g f = sym (take_all (moves - 1 + 1) before (omega arith)) ∙ take-snoc_next before (moves - 1) m g
     ∙ ap (λ l. l ++ m ∷ []) (ap (λ k. take (k - 1) before) e ∙ sym f)
 
 front_of_more : (front : Word) (m : Move) → take (length (front ++ m ∷ []) - 1) (front ++ m ∷ []) ≡ front
@@ -177,7 +172,7 @@ module _ (n : ℕ) (class : Class) (front : Word) (m : Move) (few : n ≤ 16) (s
     tree : IsTreeWord n pushed
     tree = subst (IsTreeWord n) (sym push) (pushed_tree n class front m m met s.legal least small one)
 
-    -- and back, where no member's word begins so
+    -- a search goes back from moves where no member's word begins so
     pub step_turns_back : (popped : Word) (next : Move) → popped ≡ take (length pushed - 1) pushed → next ≡ move_after m → IsBarren n class pushed
         → Advances n class (front ++ m ∷ []) (popped ++ next ∷ []) met × IsSearchState n popped next
     step_turns_back popped next pop after barren = (

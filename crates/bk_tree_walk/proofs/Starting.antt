@@ -3,6 +3,7 @@ use Rattle.std.specs.declared.cmp.Ordering.{Ordering}
 use Rattle.std.specs.declared.cmp.Ordering.TheVariants.{Equal, Greater, Less}
 use Rattle.std.specs.Ordering.{ordering_reverse, ordering_then}
 use Rattle.std.proofs.Common.{[], ap, append-nil, arith, refl, subst, sym, ℕ, ◌++◌, ◌+◌, ◌∙◌, ◌∷◌, ◌≡◌, ◌≤◌}
+use Rattle.bk_laws.proofs.Orderings.{greater-is_not_less}
 use Rattle.bk_word.proofs.WordOrder.{follows_trans, word_total, move_itself, move_same}
 use Rattle.bk_word.specs.Outline.{IsLegalMove, start}
 use Rattle.bk_word.specs.Play.{IsLegal, outline_of}
@@ -10,8 +11,7 @@ use Rattle.bk_word.specs.Word.{Follows, Move, Word, move_cmp, order_of, word_cmp
 use Rattle.bk_word.specs.declared.Class.{Class}
 use Rattle.bk_word.proofs.StoredBytes.{order_append, order_more}
 use Rattle.bk_tree_walk.proofs.Advancing.{before_not_before, entry_word, not_both}
-use Rattle.bk_catalogue.proofs.MoveOrder.{greater}
-use Rattle.bk_catalogue.proofs.Places.{LiesBetween, before_first, front_cmp, lies_between, not_before_first, word_same}
+use Rattle.bk_catalogue.proofs.TreeOfWords.Places.{LiesBetween, before_first, front_cmp, lies_between, not_before_first, word_same}
 use Rattle.bk_word.proofs.PlayLaws.{legal_rest}
 use Rattle.bk_word.proofs.FollowLaws.{not_itself}
 use Rattle.bk_catalogue.specs.NextMove.{first_move}
@@ -73,7 +73,7 @@ begins_beside n class front x rest not = begins_at n class (front ++ x ∷ rest)
           where
             by_order : (r : Ordering) → move_cmp m x ≡ r → ⊥
             by_order Less g = not_before_first m x more [] f g
-            by_order Greater g = greater (sym (ap (λ z. ordering_then z (word_cmp more rest)) g) ∙ t)
+            by_order Greater g = greater-is_not_less (sym (ap (λ z. ordering_then z (word_cmp more rest)) g) ∙ t)
             by_order Equal g = never w more tree (e ∙ ap (λ z. front ++ z ∷ more) (move_same m x g))
 
         between : LiesBetween front (x ∷ []) (x ∷ rest) w → ⊥

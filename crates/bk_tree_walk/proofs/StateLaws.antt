@@ -13,14 +13,10 @@ use Rattle.bk_tiling.specs.Tiling.{Tiling}
 use Rattle.bk_tree_walk.proofs.MemberEntries.{same_entry}
 use Rattle.bk_walk_cuts.specs.MoveCuts.{GrowsByAtMostOne, IsCut}
 use Rattle.bk_catalogue.specs.Repeated.{HasNoMember}
-use Rattle.bk_tree_walk.specs.Search.{IsKeptSearch, IsReady, IsSearchState, PushesGrow, SearchState, StaysOf, StepLeadsTo, place_of}
+use Rattle.bk_tree_walk.specs.Search.{IsKeptSearch, IsReady, IsSearchState, SearchState, StaysOf, StepLeadsTo, place_of}
+use Rattle.bk_members.specs.Walking.{PushesGrow}
 use Rattle.bk_tree_walk.specs.declared.Went.TheVariants.{Met, On}
 use Rattle.bk_tree_walk.proofs.Standing.{step_cuts, step_goes_down, step_meets, step_turns_back}
-
--- the same order and class, where the search stands
-pub kept_of : (s : SearchState) (front : Word) (next : Move) (pushes : ℕ) → IsKeptSearch s → IsSearchState s.order front next → pushes < 2 ^ 64
-    → IsKeptSearch (record { order = s.order; class = s.class; front = front; next = next; pushes = pushes })
-kept_of s front next pushes kept stand known = record { least = kept.least; most = kept.most; stand = stand; known = known }
 
 -- nothing is pushed
 pub stays_none : (s then : SearchState) (steps : ℕ) → IsKeptSearch s → then.order ≡ s.order → then.class ≡ s.class → then.pushes ≡ s.pushes
@@ -52,6 +48,7 @@ module _ (s : SearchState) (kept : IsKeptSearch s) (ready : IsReady s) where
   pub count_few : s.next.count < 17
   count_few = omega (arith, ready.few, kept.most)
 
+  -- the next move of a ready search has at most 18 signs
   pub signs_few : length s.next.signs ≤ 18
   signs_few = omega (arith, ready.few, kept.most, few_signs (outline_of s.front) s.next ready.legal)
 
@@ -92,6 +89,7 @@ module _ (s : SearchState) (kept : IsKeptSearch s) (ready : IsReady s) where
 abbrev pub down_from : SearchState → Move → SearchState
 down_from s m = record { order = s.order; class = s.class; front = s.front ++ m ∷ []; next = m; pushes = min (s.pushes + 1) (2 ^ 64 - 1) }
 
+-- a move played in a search counts as one push and keeps its order and class
 pub stays_played : (s t : SearchState) (m : Move) (steps then : ℕ) → t ≡ down_from s m → then ≡ steps + 1 → StaysOf s t steps then
 stays_played s t m steps then is one = stays_one s t steps then (ap (λ (u : SearchState). u.order) is) (ap (λ (u : SearchState). u.class) is)
     (ap (λ (u : SearchState). u.pushes) is) one
@@ -114,20 +112,24 @@ module _ (s t : SearchState) (kept : IsKeptSearch s) (ready : IsReady s) (m : Mo
   order_is : t.order ≡ s.order
   order_is = ap (λ (u : SearchState). u.order) is
 
+  -- a barren move that is taken back leads the search on to the move after it
   pub walked_back : (popped : Word) (next : Move) → popped ≡ take (length t.front - 1) t.front → next ≡ move_after t.next → IsBarren t.order s.class t.front
       → StepLeadsTo s.order s.class (place_of s) popped next (then - steps) On
   walked_back popped next pop after barren = leads_back s kept ready t.front steps then front_is one popped next pop
       (after ∙ ap move_after (ap (λ (u : SearchState). u.next) is ∙ same)) (subst (λ (n : ℕ). IsBarren n s.class t.front) order_is barren)
 
+  -- a barren move taken back leaves a place of a search with the move after it next
   pub walked_back_stand : (popped : Word) (next : Move) → popped ≡ take (length t.front - 1) t.front → next ≡ move_after t.next
       → IsBarren t.order s.class t.front → IsSearchState t.order popped next
   walked_back_stand popped next pop after barren = subst (λ (n : ℕ). IsSearchState n popped next) (sym order_is) (walked_back popped next pop after barren).1
 
+  -- a move that is played, and is no member's whole word, leads the search on to a first move
   pub walked_down : (next : Move) → next ≡ first_move → (IsComplete t.front → order_of t.front ≡ t.order → HasNoMember t.class t.front)
       → StepLeadsTo s.order s.class (place_of s) t.front next (then - steps) On
   walked_down next first none = leads_down s kept ready t.front steps then front_is one next first
       (λ whole order. subst (λ (k : Class). HasNoMember k t.front) (ap (λ (u : SearchState). u.class) is) (none whole (order ∙ sym order_is)))
 
+  -- with the ready move played the search meets the word of the moves so far
   pub walked_to : (next : Move) → StepLeadsTo s.order s.class (place_of s) t.front next (then - steps) Met
   walked_to next = leads_to s kept ready t.front steps then front_is one next
 

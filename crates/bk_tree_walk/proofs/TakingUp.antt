@@ -1,6 +1,7 @@
 -- A walk takes up its cursor: it plays the moves that are legal and few, one after another.
-use Rattle.std.proofs.Common.{List, Some, [], ap, arith, drop, length, min, slice_get, subst, sym, take, ℕ, ◌++◌, ◌+◌, ◌-◌, ◌^◌, ◌∙◌, ◌∷◌, ◌≡◌, ◌≤◌}
-use Rattle.std.proofs.lemmas.List.{append_assoc, length-append, take-append-drop, take_all}
+use Rattle.std.proofs.Common.{Some, [], ap, arith, drop, length, min, slice_get, subst, sym, take, ℕ, ◌++◌, ◌+◌, ◌-◌, ◌^◌, ◌∙◌, ◌∷◌, ◌≡◌, ◌≤◌}
+use Rattle.std.proofs.lemmas.List.{length-append, take_all}
+use Rattle.bk_laws.proofs.ListPlaces.{take-cons_drop, take-snoc_next}
 use Rattle.bk_word.specs.KeptWord.{CanStand}
 use Rattle.bk_word.specs.Outline.{IsLegalMove, Outline, has_left_wall, has_right_wall, start}
 use Rattle.bk_word.specs.Play.{IsLegal, outline_of}
@@ -8,17 +9,13 @@ use Rattle.bk_word.specs.Word.{Move, Word, order_of}
 use Rattle.bk_word.specs.declared.Class.{Class}
 use Rattle.bk_word.proofs.StoredBytes.{order_append, order_more}
 use Rattle.bk_word.proofs.PlayLaws.{legal-snoc, legal_rest}
-use Rattle.bk_catalogue.proofs.Ranks.{IsSmallWord, open_one, small_from}
+use Rattle.bk_catalogue.proofs.TreeOfWords.Ranks.{IsSmallWord, open_one, small_from}
 use Rattle.bk_tree_walk.proofs.SearchLoop.{counts_then}
 use Rattle.bk_tree_walk.proofs.Starting.{begins_below, begins_beside}
 use Rattle.bk_catalogue.specs.NextMove.{first_move}
-use Rattle.bk_tree_walk.specs.Search.{HasPassed, IsSearchState, PushesGrow, SearchState}
+use Rattle.bk_tree_walk.specs.Search.{HasPassed, IsSearchState, SearchState}
+use Rattle.bk_members.specs.Walking.{PushesGrow}
 use Rattle.bk_tree_walk.proofs.StateLaws.{down_from}
-use Rattle.bk_tree_walk.proofs.Standing.{take_next}
-
-split_at : {A : Type 0} (xs : List A) (i : ℕ) (x : A) → slice_get xs i ≡ Some x → xs ≡ take i xs ++ x ∷ drop (i + 1) xs
-split_at xs i x e = sym (take-append-drop (i + 1) xs) ∙ ap (λ l. l ++ drop (i + 1) xs) (take_next xs i x e)
-    ∙ append_assoc (take i xs) (x ∷ []) (drop (i + 1) xs)
 
 -- as far as the cursor is taken up
 pub record TakesUp (n : ℕ) (cursor first played : Word) (i pushes pushes_now steps steps_now : ℕ) : Type 0 where
@@ -34,13 +31,14 @@ pub takes_more : (n : ℕ) (cursor first played more : Word) (m : Move) (i pushe
     → st ≡ sn + 1 → then ≡ min (now + 1) (2 ^ 64 - 1)
     → TakesUp n cursor first more (i + 1) pushes then steps st
 takes_more n cursor first played more m i pushes now then steps sn st t g legal few e s p = record {
-  begun = take_next cursor i m g ∙ ap (λ l. l ++ m ∷ []) t.begun ∙ sym e;
+  begun = take-snoc_next cursor i m g ∙ ap (λ l. l ++ m ∷ []) t.begun ∙ sym e;
   legal = subst IsLegal (sym e) (legal-snoc start played m t.legal legal);
   small = omega (arith, ap order_of e, order_append played (m ∷ []), order_more m []);
   one_each = omega (arith, t.one_each, ap length e, length-append played (m ∷ []));
   counts = counts_then pushes now then steps sn st t.counts (record { more = omega arith; counted = p ∙ ap (λ k. min (now + k) (2 ^ 64 - 1)) (omega arith) });
 }
 
+-- a legal move of the cursor that is played takes up one move more
 pub takes_down : (n : ℕ) (cursor first : Word) (s t : SearchState) (m : Move) (i pushes steps sn st : ℕ) → s.order ≡ n
     → TakesUp n cursor first s.front i pushes s.pushes steps sn → slice_get cursor i ≡ Some m → IsLegalMove (outline_of s.front) m
     → order_of s.front + m.count ≤ s.order → t ≡ down_from s m → st ≡ sn + 1 → TakesUp n cursor first t.front (i + 1) pushes t.pushes steps st
@@ -67,7 +65,13 @@ stuck_stand n cursor first played m i pushes now steps sn few t g stands = recor
 }
   where
     count : m.count ≤ 16
-    count = omega (arith, few, ap order_of (split_at cursor i m g), order_append (take i cursor) (m ∷ drop (i + 1) cursor), order_more m (drop (i + 1) cursor))
+    count = omega (
+      arith,
+      few,
+      ap order_of (take-cons_drop cursor i m g),
+      order_append (take i cursor) (m ∷ drop (i + 1) cursor),
+      order_more m (drop (i + 1) cursor),
+    )
 
 -- the search begins at this move
 pub stuck_place : (n : ℕ) (class : Class) (cursor first played : Word) (m : Move) (i pushes now steps sn : ℕ)
@@ -75,7 +79,7 @@ pub stuck_place : (n : ℕ) (class : Class) (cursor first played : Word) (m : Mo
     → (IsLegalMove (outline_of played) m → order_of played + m.count ≤ n → ⊥) → HasPassed n class cursor (played ++ m ∷ []) 0
 stuck_place n class cursor first played m i pushes now steps sn t g not =
     subst (λ (w : Word). HasPassed n class w (played ++ m ∷ []) 0)
-    (sym (split_at cursor i m g ∙ ap (λ l. l ++ m ∷ drop (i + 1) cursor) t.begun)) (begins_beside n class played m (drop (i + 1) cursor) not)
+    (sym (take-cons_drop cursor i m g ∙ ap (λ l. l ++ m ∷ drop (i + 1) cursor) t.begun)) (begins_beside n class played m (drop (i + 1) cursor) not)
 
 -- all of the cursor is played: the search begins with what begins with it
 pub whole_place : (n : ℕ) (class : Class) (cursor first played : Word) (x : Move) (i pushes now steps sn : ℕ)
@@ -87,7 +91,8 @@ whole_place n class cursor first played x i pushes now steps sn t h e =
 
 -- a legal move at its place can stand in a word
 pub legal_stands : (word : Word) (i : ℕ) (m : Move) → IsLegal word → slice_get word i ≡ Some m → CanStand m
-legal_stands word i m l g = stands (outline_of (take i word)) (legal_rest start (take i word) (m ∷ drop (i + 1) word) (subst IsLegal (split_at word i m g) l)).0
+legal_stands word i m l g =
+    stands (outline_of (take i word)) (legal_rest start (take i word) (m ∷ drop (i + 1) word) (subst IsLegal (take-cons_drop word i m g) l)).0
   where
     stands : (o : Outline) → IsLegalMove o m → CanStand m
     stands o k = record {
@@ -102,7 +107,7 @@ pub order_at : (word : Word) (i : ℕ) (m : Move) (k : ℕ) → slice_get word i
 order_at word i m k g few = omega (
   arith,
   few,
-  ap order_of (split_at word i m g),
+  ap order_of (take-cons_drop word i m g),
   order_append (take i word) (m ∷ drop (i + 1) word),
   order_more m (drop (i + 1) word),
 )

@@ -4,7 +4,7 @@ use Rattle.std.proofs.Common.{[], arith, inl, inr, refl, suc, zero, ◌∷◌, �
 use Rattle.std.proofs.lemmas.Int.{ints}
 use Rattle.bk_word.specs.declared.Class.TheVariants.{Imperfect, Perfect}
 use Rattle.bk_tree_walk.specs.WholeWords.{IsUnfit}
-use Rattle.bk_catalogue.proofs.RepeatedExamples.{row_alike}
+use Rattle.bk_catalogue.proofs.Members.RepeatedExamples.{row_alike}
 
 -- the currents of the row's net are one number twice, so they are unfit in the class perfect, and in the class imperfect they are fit
 row_unfit : IsUnfit Perfect (pos 1 ∷ pos 1 ∷ [])

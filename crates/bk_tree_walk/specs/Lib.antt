@@ -1,5 +1,3 @@
--- What the crate says.
+-- What the crate says. Its code is kept by what proofs/ says alone.
 pub mod Search
-pub mod Walking
--- How its code keeps it.
 pub mod WholeWords

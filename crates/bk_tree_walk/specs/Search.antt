@@ -1,26 +1,26 @@
--- How far a search through the tree of legal words has come. Its place is a word, which need not be legal: what is before
--- it is passed. What it meets are the words that it pushes, and each is one step.
+-- How far a search through the tree of legal words has come. Its place is a word, which need not be legal: what is
+-- before it is passed. What it meets are the words that it pushes, and each is one step.
 use Rattle.std.specs.List.{AllByRecursion}
-use Rattle.std.specs.Prelude.{List, None, Option, Some, [], length, min, ℕ, ◌++◌, ◌+◌, ◌-◌, ◌<◌, ◌^◌, ◌∷◌, ◌≡◌, ◌≤◌}
+use Rattle.std.specs.Prelude.{Bool, List, None, Option, Some, [], false, length, true, ℕ, ◌++◌, ◌+◌, ◌<◌, ◌^◌, ◌∷◌, ◌≡◌}
+use Rattle.std.specs.Prelude.{◌≤◌}
 use Rattle.bk_word.specs.Outline.{IsLegalMove}
 use Rattle.bk_word.specs.Play.{IsLegal, outline_of}
 use Rattle.bk_word.specs.Word.{Follows, Move, Word, order_of}
 use Rattle.bk_word.specs.declared.Class.{Class}
-use Rattle.bk_tree_walk.specs.declared.Found.{Found}
-use Rattle.bk_tree_walk.specs.declared.Found.TheVariants.{Ended, Member}
 use Rattle.bk_catalogue.specs.NextMove.{move_after}
 use Rattle.bk_tree_walk.specs.declared.Went.{Went}
 use Rattle.bk_tree_walk.specs.declared.Went.TheVariants.{End, Met, On}
 use Rattle.bk_catalogue.specs.Following.{HasNoneAfter, HasNoneBetween}
 use Rattle.bk_catalogue.specs.Tree.{AreAscendingWords, HasAtLeast, IsInTree}
+use Rattle.bk_members.specs.Walking.{PushesGrow}
 
 -- a legal word of at most so many squares
 pub record IsTreeWord (n : ℕ) (w : Word) : Type 0 where
   pub legal : IsLegal w
   pub small : order_of w ≤ n
 
--- no member's word is after the cursor and before the place; each word of the tree that is not before the place is after
--- the cursor; and so many words of the tree were met, each after the cursor and before the place, each once
+-- no member's word is after the cursor and before the place; each word of the tree that is not before the place is
+-- after the cursor; and so many words of the tree were met, each after the cursor and before the place, each once
 pub record HasPassed (n : ℕ) (class : Class) (cursor place : Word) (met : ℕ) : Type 0 where
   pub passed : HasNoneBetween n class cursor place
   pub after : (w : Word) → IsTreeWord n w → (Follows place w → ⊥) → Follows w cursor
@@ -38,7 +38,8 @@ pub record IsMet (n : ℕ) (class : Class) (cursor word : Word) (met : ℕ) : Ty
 -- from one place to a later one, with so many words met on the way
 pub record Advances (n : ℕ) (class : Class) (place next : Word) (met : ℕ) : Type 0 where
   pub up : Follows next place
-  pub on : (cursor : Word) (before : ℕ) → HasPassed n class cursor place before → HasPassed n class cursor next (before + met)
+  pub on : (cursor : Word) (before : ℕ) → HasPassed n class cursor place before
+      → HasPassed n class cursor next (before + met)
 
 -- no member's word is after the cursor, and so many words of the tree were met
 pub record IsEnd (n : ℕ) (class : Class) (cursor : Word) (met : ℕ) : Type 0 where
@@ -72,13 +73,9 @@ StepLeadsTo n class place front x met End = Ends n class place met × (front ≡
 
 -- from the one place a step leads wherever it leads from the other
 abbrev pub GoesOnFrom : ℕ → Class → Word → Word → Type 0
-GoesOnFrom n class place then = (front : Word) (next : Move) (met : ℕ) (went : Went) → StepLeadsTo n class then front next met went
+GoesOnFrom n class place then = (front : Word) (next : Move) (met : ℕ) (went : Went)
+    → StepLeadsTo n class then front next met went
     → StepLeadsTo n class place front next met went
-
--- the count of pushes goes on by the steps, up to the last number that it holds
-pub record PushesGrow (pushes pushes_then steps steps_then : ℕ) : Type 0 where
-  pub more : steps ≤ steps_then
-  pub counted : pushes_then ≡ min (pushes + (steps_then - steps)) (2 ^ 64 - 1)
 
 -- the last move was taken back, and the other is the next after it
 pub record IsClimbed (before front : Word) (x : Move) : Type 0 where
@@ -86,8 +83,8 @@ pub record IsClimbed (before front : Word) (x : Move) : Type 0 where
   pub was : before ≡ front ++ last ∷ []
   pub next : x ≡ move_after last
 
--- a search: its order and class, the moves that it has played, the move from which it looks for the next legal one, and how
--- many moves it has pushed, up to the last number of 64 bits
+-- a search: its order and class, the moves that it has played, the move from which it looks for the next legal one, and
+-- how many moves it has pushed, up to the last number of 64 bits
 pub record SearchState : Type 0 where
   pub order : ℕ
   pub class : Class
@@ -111,8 +108,8 @@ pub record IsReady (s : SearchState) : Type 0 where
   pub legal : IsLegalMove (outline_of s.front) s.next
   pub few : order_of s.front + s.next.count ≤ s.order
 
--- where a search is, that makes its next move legal: ready to go on from there as from where it was, or back from moves after which
--- none is left, or at the end
+-- where a search is, that makes its next move legal: ready to go on from there as from where it was, or back from moves
+-- after which none is left, or at the end
 abbrev pub SettlesTo : SearchState → SearchState → Option Went → Type 0
 SettlesTo s then None = IsReady then × GoesOnFrom s.order s.class (place_of s) (place_of then)
 SettlesTo s then (Some On) = StepLeadsTo s.order s.class (place_of s) then.front then.next 0 On
@@ -125,7 +122,7 @@ pub record StaysOf (s then : SearchState) (steps steps_then : ℕ) : Type 0 wher
   pub class : then.class ≡ s.class
   pub counts : PushesGrow s.pushes then.pushes steps steps_then
 
--- what a search finds from a place: the word of a member, or the end
-abbrev pub Finds : ℕ → Class → Word → Word → ℕ → Found → Type 0
-Finds n class place front met Member = Meets n class place front met
-Finds n class place front met Ended = Ends n class place met × (front ≡ [])
+-- what a search finds from a place: the word of a member, or there is none, and it is at the end
+abbrev pub Finds : ℕ → Class → Word → Word → ℕ → Bool → Type 0
+Finds n class place front met true = Meets n class place front met
+Finds n class place front met false = Ends n class place met × (front ≡ [])

@@ -1,6 +1,6 @@
 -- What a complete word tells: by its flow, and where a member has it.
--- Example (TreeWalkExamples): the word 2e, whose net has the currents 1 and 1, is that of no member of the class perfect; these are unfit in
--- that class alone.
+-- Example (TreeWalkExamples): the word 2e, whose net has the currents 1 and 1, is that of no member of the class
+-- perfect; these are unfit in that class alone.
 use Rattle.std.specs.Prelude.{Any, List, pos, ℕ, ℤ, ◌<ℤ◌, ◌≡◌, ◌⊎◌}
 use Rattle.bk_word.specs.Word.{Word}
 use Rattle.bk_word.specs.declared.Class.{Class}

@@ -7,15 +7,17 @@ ghost use Rattle.bk_tiling.specs.Tiling.{IsTiling, Tiling as Tiled};
 
 use bk_tiling::{Square, Tiling};
 
-// Whether no square in a corner is longer than the one in the top left corner. Where one is, an image has a greater flat list.
+// Whether no square in a corner is longer than the one in the top left corner. Where one is, an image has a greater
+// flat list.
 pub(crate) fn begins_greatest(tiling: &Tiling) -> bool
     ensures { result ≡ false → IsCanonical tiling.now → ⊥ }
 {
-    corners_allow(tiling.squares(), tiling.width(), tiling.height())
+    is_longest_first(tiling.squares(), tiling.width(), tiling.height())
 }
 
-// Whether this can be said of the squares of a rectangle in any order, the first of which is asked for in the top left corner.
-pub(crate) fn corners_allow(squares: &[Square], width: u64, height: u64) -> bool
+// Whether this can be said of the squares of a rectangle in any order, the first of which is asked for in the top left
+// corner.
+pub(crate) fn is_longest_first(squares: &[Square], width: u64, height: u64) -> bool
     ensures { result ≡ false → (t : Tiled) → IsTiling t → width ≡ t.width → height ≡ t.height
         → in_code_order squares.now ≡ t.squares → IsCanonical t → ⊥ }
 {

@@ -18,8 +18,8 @@ use bk_skel::{Realised, flow_of, realise_by_in};
 use bk_tiling::{MOST_SQUARES, Square, Tiling};
 use bk_word::Class;
 
-// Whether a member of the class has a complete word of at most 16 squares. Where one has, `tiling` becomes that member. In
-// `laid` is room for the squares that are laid.
+// Whether a member of the class has a complete word of at most 16 squares. Where one has, `tiling` becomes that member.
+// In `laid` is room for the squares that are laid.
 pub(crate) fn find_member(
     skel: &Skel,
     class: Class,
@@ -37,8 +37,8 @@ pub(crate) fn find_member(
     }
 }
 
-// The flow of the net of a complete word of at most 16 squares, where it is fit: no current is less than 1, and in the class
-// perfect no two are the same. Of a word without such a flow no member of the class has it.
+// The flow of the net of a complete word of at most 16 squares, where it is fit: no current is less than 1, and in the
+// class perfect no two are the same. Of a word without such a flow no member of the class has it.
 fn fit_flow(skel: &Skel, class: Class) -> Option<NarrowFlow>
     requires whole { IsComplete skel.now }
     requires few { order_of skel.now ≤ 16 }

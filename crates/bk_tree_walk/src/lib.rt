@@ -1,16 +1,13 @@
-//! A walk through the tree of legal words, in ascending order, that looks for the words of a catalogue's members; and these members, one after
-//! another.
+//! A walk through the tree of legal words, in ascending order, that looks for the words of a catalogue's members.
 #![tactic(auto)]
 
 mod corners;
 mod judging;
-mod members;
 mod qualifying;
 mod realising;
 mod resuming;
 mod tree_walk;
 
-pub use members::{Entry, Members, WideAt};
 pub use qualifying::{is_simple_of, qualifies};
 pub use resuming::{copy_of, word_played};
 pub use tree_walk::TreeWalk;
@@ -23,12 +20,4 @@ pub enum Went {
     Met,
     /// to the end of the tree
     End,
-}
-
-/// What a search finds.
-pub enum Found {
-    /// a member, whose word is that of the moves played
-    Member,
-    /// nothing more
-    Ended,
 }

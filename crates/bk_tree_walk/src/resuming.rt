@@ -15,8 +15,8 @@ use std::alloc::Global;
 use std::sync::ledger::Ledger;
 
 impl TreeWalk {
-    /// Plays the moves of the cursor that are not played yet, as far as they are legal and hang at most as many squares as the
-    /// order, and goes to the place from which nothing is passed but what isn't after the cursor.
+    /// Plays the moves of the cursor that are not played yet, as far as they are legal and hang at most as many squares
+    /// as the order, and goes to the place from which nothing is passed but what isn't after the cursor.
     #[inline(never)]
     pub fn resume<L: Ledger>(&mut self, cursor: &Word, steps: &mut Steps<L>)
         requires begun { take (length self.old.front) cursor.now ≡ self.old.front }
@@ -41,7 +41,8 @@ fn can_play(lined: &LinedSkel, m: &Move, order: u8) -> bool
     requires { m.now.count ≤ 200 }
     ensures legal { IsTrue result → IsLegalMove (outline_of lined.now) m.now }
     ensures few { IsTrue result → order_of lined.now + m.now.count ≤ order }
-    ensures no { result ≡ false → IsLegalMove (outline_of lined.now) m.now → order_of lined.now + m.now.count ≤ order → ⊥ }
+    ensures no { result ≡ false → IsLegalMove (outline_of lined.now) m.now → order_of lined.now + m.now.count ≤ order
+        → ⊥ }
 {
     let skel = lined.skel();
     skel.order() + usize::from(m.count) <= usize::from(order) && skel.legal(m)

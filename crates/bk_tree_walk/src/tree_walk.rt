@@ -1,7 +1,8 @@
 //! The walk through the tree of legal words, step by step.
 #![tactic(auto)]
 
-ghost use Rattle.std.specs.Prelude.{IfNone, IfSome, IsTrue, [], false, length, min, take, ℕ, ◌++◌, ◌+◌, ◌-◌, ◌<◌, ◌^◌, ◌∷◌, ◌≡◌, ◌≤◌};
+ghost use Rattle.std.specs.Prelude.{IfNone, IfSome, IsTrue, [], false, length, min, take, ℕ, ◌++◌, ◌+◌, ◌-◌, ◌<◌, ◌^◌};
+ghost use Rattle.std.specs.Prelude.{◌∷◌, ◌≡◌, ◌≤◌};
 ghost use Rattle.bk_word.specs.Outline.{IsLegalMove};
 ghost use Rattle.bk_word.specs.Play.{IsComplete, outline_of};
 ghost use Rattle.bk_word.specs.Word.{order_of};
@@ -9,7 +10,8 @@ ghost use Rattle.bk_catalogue.specs.NextMove.{first_move as first_of_all, open_s
 ghost use Rattle.bk_catalogue.specs.Catalogue.{IsEntry};
 ghost use Rattle.bk_catalogue.specs.Repeated.{HasNoMember};
 ghost use Rattle.bk_tree_walk.specs.declared.Went.TheVariants.{Met};
-ghost use Rattle.bk_tree_walk.specs.Search.{GoesOnFrom, IsClimbed, IsKeptSearch, IsReady, SettlesTo, StaysOf, StepLeadsTo, place_of};
+ghost use Rattle.bk_tree_walk.specs.Search.{GoesOnFrom, IsClimbed, IsKeptSearch, IsReady, SettlesTo, StaysOf};
+ghost use Rattle.bk_tree_walk.specs.Search.{StepLeadsTo, place_of};
 
 use crate::Went;
 use crate::judging::find_member;
@@ -23,9 +25,9 @@ use bk_word::{Class, Move};
 use std::marker::Model;
 use std::sync::ledger::Ledger;
 
-/// A search for the words of members of an order and a class. It is seen as the order, the class, the moves that it has played,
-/// the move from which it looks for the next legal one, and how many moves it has pushed. It has room for the squares of a
-/// tiling. (Own.)
+/// A search for the words of members of an order and a class. It is seen as the order, the class, the moves that it has
+/// played, the move from which it looks for the next legal one, and how many moves it has pushed. It has room for the
+/// squares of a tiling.
 #[derive(Drop)]
 pub struct TreeWalk {
     pub(crate) order: u8,
@@ -41,9 +43,16 @@ impl Model for TreeWalk {
 
     ghost Value = { SearchState };
 
-    ghost view = { λ s. record { order = s.order; class = s.class; front = s.lined; next = s.next; pushes = s.pushes } };
+    ghost view = { λ s. record {
+      order = s.order;
+      class = s.class;
+      front = s.lined;
+      next = s.next;
+      pushes = s.pushes;
+    } };
 
-    ghost invariant = { λ s. IsKeptSearch (record { order = s.order; class = s.class; front = s.lined; next = s.next; pushes = s.pushes }) };
+    ghost invariant = { λ s. IsKeptSearch
+        (record { order = s.order; class = s.class; front = s.lined; next = s.next; pushes = s.pushes }) };
 }
 
 impl TreeWalk {
@@ -100,8 +109,9 @@ impl TreeWalk {
         self.pushes
     }
 
-    /// Makes the next move legal, so that the search can go on by it: nothing lies between. Where each legal one that is left hangs
-    /// more squares than the order, it takes the last move back, or is at the end, and says where that leads.
+    /// Makes the next move legal, so that the search can go on by it: nothing lies between. Where each legal one that
+    /// is left hangs more squares than the order, it takes the last move back, or is at the end, and says where that
+    /// leads.
     pub fn settle(&mut self) -> Option<Went>
         ensures settles { SettlesTo self.old self.new result }
         ensures stays { (steps : ℕ) → StaysOf self.old self.new steps steps }
@@ -117,12 +127,14 @@ impl TreeWalk {
         Some(Went::End)
     }
 
-    /// Goes one step on through the tree: over moves that are cut, or down by the next move. Where that is to the word of a member,
-    /// `tiling` becomes that member.
+    /// Goes one step on through the tree: over moves that are cut, or down by the next move. Where that is to the word
+    /// of a member, `tiling` becomes that member.
     pub fn walk_on<L: Ledger>(&mut self, steps: &mut Steps<L>, tiling: &mut Tiling) -> Went
         requires { IsReady self.old }
-        ensures leads { StepLeadsTo self.old.order self.old.class (place_of self.old) self.new.front self.new.next (steps.new - steps.old) result }
-        ensures member { result ≡ Met → IsEntry self.old.order self.old.class (record { tiling = tiling.new; word = self.new.front }) }
+        ensures leads { StepLeadsTo self.old.order self.old.class (place_of self.old) self.new.front self.new.next
+            (steps.new - steps.old) result }
+        ensures member { result ≡ Met
+            → IsEntry self.old.order self.old.class (record { tiling = tiling.new; word = self.new.front }) }
         ensures stays { StaysOf self.old self.new steps.old steps.new }
     {
         if skip(&self.lined, self.class, self.order, &mut self.next) {
@@ -155,7 +167,12 @@ impl TreeWalk {
     pub fn play<L: Ledger>(&mut self, m: Move, steps: &mut Steps<L>)
         requires legal { IsLegalMove (outline_of self.old.front) m }
         requires few { order_of self.old.front + m.count ≤ self.old.order }
-        ensures state { self.new ≡ record self.old { front = self.old.front ++ m ∷ []; next = m; pushes = min (self.old.pushes + 1) (2 ^ 64 - 1) } }
+        ensures state { self.new
+            ≡ record self.old {
+              front = self.old.front ++ m ∷ [];
+              next = m;
+              pushes = min (self.old.pushes + 1) (2 ^ 64 - 1);
+            } }
         ensures step { steps.new ≡ steps.old + 1 }
     {
         self.next = m;
@@ -165,7 +182,11 @@ impl TreeWalk {
     // Pushes the next move, and counts it. It stays the next.
     pub(crate) fn go_down<L: Ledger>(&mut self, steps: &mut Steps<L>)
         requires { IsReady self.old }
-        ensures state { self.new ≡ record self.old { front = self.old.front ++ self.old.next ∷ []; pushes = min (self.old.pushes + 1) (2 ^ 64 - 1) } }
+        ensures state { self.new
+            ≡ record self.old {
+              front = self.old.front ++ self.old.next ∷ [];
+              pushes = min (self.old.pushes + 1) (2 ^ 64 - 1);
+            } }
         ensures step { steps.new ≡ steps.old + 1 }
     {
         self.lined.push(&self.next, steps);
@@ -207,8 +228,8 @@ fn climb(lined: &mut LinedSkel, next: &mut Move) -> bool
     true
 }
 
-// Whether the moves are the word of a member of the order. Where they are, `tiling` becomes that member. In `laid` is room for
-// the squares that are laid.
+// Whether the moves are the word of a member of the order. Where they are, `tiling` becomes that member. In `laid` is
+// room for the squares that are laid.
 fn is_members(
     lined: &LinedSkel,
     class: Class,

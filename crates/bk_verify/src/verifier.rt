@@ -1,7 +1,7 @@
 //! A verifier: it is fed the entries of a list, tells what each of them is, and hands on what it keeps.
 
 ghost use Rattle.std.specs.Prelude.{IfOk, OnErr, [], ◌≡◌, ◌≤◌};
-ghost use Rattle.bk_verify_report.specs.Kept.{IsFed, IsFirstSight, AreKeptEntries};
+ghost use Rattle.bk_verify_report.specs.KeptEntries.{IsFed, IsFirstSight, AreKeptEntries};
 ghost use Rattle.bk_verify_report.specs.Rest.{rest_of};
 
 use crate::Rest;
@@ -10,8 +10,8 @@ use bk_verify_report::{Entries, Fed, NoMemory};
 use std::alloc::Global;
 use std::marker::Model;
 
-/// A verifier of a list against the perfect catalogue of an order. It is seen as the order and the list of the pairs, each a
-/// line and the canonical tiling that was new there, in the order of first sight.
+/// A verifier of a list against the perfect catalogue of an order. It is seen as the order and the list of the pairs,
+/// each a line and the canonical tiling that was new there, in the order of first sight.
 #[derive(Drop)]
 pub struct Verifier {
     alloc: Global,
@@ -19,7 +19,7 @@ pub struct Verifier {
 }
 
 impl Model for Verifier {
-    ghost use Rattle.bk_verify_report.specs.Kept.{AreKeptEntries, EntriesState};
+    ghost use Rattle.bk_verify_report.specs.KeptEntries.{AreKeptEntries, EntriesState};
 
     ghost Value = { EntriesState };
 
@@ -39,9 +39,9 @@ impl Verifier {
         Verifier { alloc, entries }
     }
 
-    /// Feeds the entry of a line, and tells what it is: by its canonical tiling alone, which is a member where it has as many
-    /// squares as the order and is perfect and simple. A member that isn't kept is kept from this line, unless there is no
-    /// memory for it: then, as after each other answer, the verifier is as before.
+    /// Feeds the entry of a line, and tells what it is: by its canonical tiling alone, which is a member where it has
+    /// as many squares as the order and is perfect and simple. A member that isn't kept is kept from this line, unless
+    /// there is no memory for it: then, as after each other answer, the verifier is as before.
     pub fn feed(&mut self, line: u64, tiling: &Tiling) -> Result<Fed, NoMemory>
         ensures fed { IfOk result (λ fed. IsFed self.old line tiling.now fed self.new) }
         ensures unchanged { OnErr result (self.new ≡ self.old) }

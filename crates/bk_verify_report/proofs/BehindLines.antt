@@ -12,12 +12,12 @@ use Rattle.bk_word.specs.declared.Class.TheVariants.{Perfect}
 use Rattle.bk_catalogue.specs.Catalogue.{Entry, IsEntry}
 use Rattle.bk_verify_report.proofs.Firsts.{missing_ones_are_not_kept}
 use Rattle.bk_verify_report.proofs.MembersUpTo.{after_or_up, before}
-use Rattle.bk_verify_report.specs.Kept.{AreKeptAfter, AreUpTo, CountsMembers, IsNotKept, Kept}
+use Rattle.bk_verify_report.specs.KeptEntries.{AreKeptAfter, AreUpTo, CountsMembers, IsNotKept, Kept}
 use Rattle.bk_verify_report.specs.Verify.{Accepted, AreNotOf}
 use Rattle.bk_verify_report.specs.VerifyLaws.{KeepsFirsts}
-use Rattle.bk_verify_report.specs.Listing.{ClosesReport, IsClosing, IsClosingBegun, IsListed}
-use Rattle.bk_verify_report.specs.Report.{AreAllMissing, AreFirstMissing, Counts, counts_line, line_of}
-use Rattle.bk_verify_report.specs.Running.{TellsFaults}
+use Rattle.bk_verify_report.specs.MissingLines.{AreMissingListed, ClosesReport, IsClosing, IsClosingBegun}
+use Rattle.bk_verify_report.specs.Report.{AreAllMissing, AreFirstMissing, ReportCounts, counts_line, missing_line_of}
+use Rattle.bk_verify_report.specs.VerifyRun.{TellsFaults}
 use Rattle.bk_verify_report.specs.declared.entering.Verifying.{Verifying}
 
 -- what is listed are the first missing members
@@ -36,7 +36,7 @@ module _ (n : ℕ) (pairs : List Kept) (entries : List Accepted) (keeps : KeepsF
   later e after [] up = tt
   later e after (f ∷ some) up = (before cursor f.word e.word up.0 after, later e after some up.1)
 
-  -- those up to the cursor come before all others
+  -- the missing members up to the cursor come before all others
   pub first_missing : AreFirstMissing n entries missing
   first_missing = record {
     each = are.each;
@@ -50,7 +50,7 @@ module _ (n : ℕ) (pairs : List Kept) (entries : List Accepted) (keeps : KeepsF
       cases e is none (inl after) = inr (later e after missing are.up)
       cases e is none (inr up) = inl (are.all e is (not_kept e is none) up)
 
-  -- and all of them, where none is left behind the cursor
+  -- all missing members are listed, where none is left behind the cursor
   pub all_missing : AreKeptAfter n pairs cursor → AreAllMissing n entries missing
   all_missing kept e is none = cases (after_or_up cursor e.word)
     where
@@ -59,13 +59,14 @@ module _ (n : ℕ) (pairs : List Kept) (entries : List Accepted) (keeps : KeepsF
       cases (inr up) = are.all e is (not_kept e is none) up
 
 -- what is written behind the lines
-module _ (n : ℕ) (s : Verifying) (cursor : Word) (missing members : ℕ) (a b : Option (List ℕ)) (listed : IsListed n (s.entries).pairs cursor missing a b)
+module _ (n : ℕ) (s : Verifying) (cursor : Word) (missing members : ℕ) (a b : Option (List ℕ))
+    (listed : AreMissingListed n (s.entries).pairs cursor missing a b)
     (kept : AreKeptAfter n (s.entries).pairs cursor) (all_members : CountsMembers n (λ word. ⊤) members) where
   -- what the last line tells
-  abbrev pub the_counts : Counts
+  abbrev pub the_counts : ReportCounts
   the_counts = record { members = members; missing = missing; foreign = s.foreign; repeated = s.repeated; refused = s.refused }
 
-  is_closing : (line : List ℕ) → line ≡ counts_line n the_counts → IsClosing n s the_counts (flat_map line_of listed.entries ++ line)
+  is_closing : (line : List ℕ) → line ≡ counts_line n the_counts → IsClosing n s the_counts (flat_map missing_line_of listed.entries ++ line)
   is_closing line is = record {
     cursor = cursor;
     entries = listed.entries;
@@ -76,7 +77,7 @@ module _ (n : ℕ) (s : Verifying) (cursor : Word) (missing members : ℕ) (a b 
     foreign = refl;
     repeated = refl;
     refused = refl;
-    text = ap (λ (l : List ℕ). flat_map line_of listed.entries ++ l) is;
+    text = ap (λ (l : List ℕ). flat_map missing_line_of listed.entries ++ l) is;
   }
 
   -- the last line is written, and the report is whole
@@ -84,9 +85,9 @@ module _ (n : ℕ) (s : Verifying) (cursor : Word) (missing members : ℕ) (a b 
       → TellsFaults differs (missing + s.foreign + s.repeated + s.refused) → ClosesReport n s differs a c
   closes_report line is c p differs says = record {
     counts = the_counts;
-    bytes = flat_map line_of listed.entries ++ line;
+    bytes = flat_map missing_line_of listed.entries ++ line;
     closing = is_closing line is;
-    appends = Appends-trans a b c (flat_map line_of listed.entries) line listed.appends p;
+    appends = Appends-trans a b c (flat_map missing_line_of listed.entries) line listed.appends p;
     verdict = says;
   }
 
@@ -94,7 +95,7 @@ module _ (n : ℕ) (s : Verifying) (cursor : Word) (missing members : ℕ) (a b 
   pub closing_begun : (line : List ℕ) → line ≡ counts_line n the_counts → (c : Option (List ℕ)) → AppendsPrefix b c line → IsClosingBegun n s a c
   closing_begun line is c p = inr (record {
     counts = the_counts;
-    bytes = flat_map line_of listed.entries ++ line;
+    bytes = flat_map missing_line_of listed.entries ++ line;
     closing = is_closing line is;
-    begins = prefix_after a b c (flat_map line_of listed.entries) line listed.appends p;
+    begins = prefix_after a b c (flat_map missing_line_of listed.entries) line listed.appends p;
   })

@@ -9,8 +9,8 @@ use Rattle.bk_word.specs.Word.{Word}
 use Rattle.bk_word.specs.declared.Class.TheVariants.{Perfect}
 use Rattle.bk_catalogue.specs.Catalogue.{Entry}
 use Rattle.bk_catalogue.specs.Following.{HasNoneAfter}
-use Rattle.bk_catalogue.proofs.WordCounts.{few_entries}
-use Rattle.bk_verify_report.specs.Kept.{AreUpTo, CountsMembers, IsUpTo}
+use Rattle.bk_catalogue.proofs.TreeOfWords.WordCounts.{few_entries}
+use Rattle.bk_verify_report.specs.KeptEntries.{AreUpTo, CountsMembers, IsUpTo}
 use Rattle.bk_verify_report.proofs.MembersUpTo.{IsNextSuch, up_to_more, up_to_none}
 
 -- all members

@@ -5,7 +5,7 @@ use Rattle.std.proofs.KnownBytes.{Appends-trans}
 use Rattle.std.proofs.Common.{Bool, List, [], arith, false, inl, inr, subst, sym, true, ℕ, ◌++◌, ◌≡◌, ◌⊎◌}
 use Rattle.bk_ports.proofs.KnownSteps.{prefix_after}
 use Rattle.bk_ports.proofs.OtherOutputs.{IsStop, broken_behind, whole_behind}
-use Rattle.bk_ports.specs.Ending.{EndsWith, IsBrokenBehind, IsWhole, Output, Streams}
+use Rattle.bk_ports.specs.Ending.{EndsWith, IsBrokenBehind, IsWholeOutput, Output, Streams}
 use Rattle.bk_ports.specs.Entering.{AreAllEntered, entries_of}
 use Rattle.bk_ports.specs.Reply.{text_of}
 use Rattle.bk_ports.specs.Faults.{CountsTell, Faults}
@@ -14,11 +14,11 @@ use Rattle.bk_ports.specs.declared.Ended.TheVariants.{NoMemory, NoneRefused, Rea
 use Rattle.bk_verify_report.proofs.BehindLines.{all_missing, first_missing}
 use Rattle.bk_verify_report.proofs.EndingAtLines.{at_first}
 use Rattle.bk_verify_report.proofs.Following.{AreFollowed, followed}
-use Rattle.bk_verify_report.specs.Entering.{none_entered}
-use Rattle.bk_verify_report.specs.Listing.{ClosesReport, IsClosing, IsClosingBegun}
-use Rattle.bk_verify_report.specs.Reading.{IsListRead, rules}
-use Rattle.bk_verify_report.specs.Report.{Counts, IsReport, line_of}
-use Rattle.bk_verify_report.specs.Running.{TellsFront, TellsReport, report_of}
+use Rattle.bk_verify_report.specs.ListLine.{none_entered}
+use Rattle.bk_verify_report.specs.MissingLines.{ClosesReport, IsClosing, IsClosingBegun}
+use Rattle.bk_verify_report.specs.ListReading.{IsListRead, rules}
+use Rattle.bk_verify_report.specs.Report.{IsReport, ReportCounts, missing_line_of}
+use Rattle.bk_verify_report.specs.VerifyRun.{TellsFront, TellsReport, report_of}
 use Rattle.bk_verify_report.specs.declared.entering.Verifying.{Verifying}
 
 -- the lines were entered
@@ -37,7 +37,7 @@ lines_done n last lines a b refused all = record {
 
 -- behind the lines
 module _ (n : ℕ) (last : Verifying) (lines : List (List ℕ)) (a b c : Option (List ℕ)) (d : AreLinesDone n lines last a b) where
-  the_report : (counts : Counts) (bytes : List ℕ) → IsClosing n last counts bytes → IsReport n lines counts (d.text ++ bytes)
+  the_report : (counts : ReportCounts) (bytes : List ℕ) → IsClosing n last counts bytes → IsReport n lines counts (d.text ++ bytes)
   the_report counts bytes k =
       let f = d.followed in
       let foreign = f.foreign_is in
@@ -75,7 +75,7 @@ module _ (n : ℕ) (last : Verifying) (lines : List (List ℕ)) (a b c : Option 
   told_front : IsClosingBegun n last b c → TellsFront n lines a c
   told_front (inl k) =
       let f = d.followed in record {
-        front = d.text ++ flat_map line_of k.entries;
+        front = d.text ++ flat_map missing_line_of k.entries;
         is_front = inl (record {
           entries = f.entries;
           tolds = f.tolds;
@@ -83,9 +83,9 @@ module _ (n : ℕ) (last : Verifying) (lines : List (List ℕ)) (a b c : Option 
           are_entries = f.are_entries;
           told = f.told;
           first_missing = first_missing n (last.entries).pairs f.entries f.keeps k.cursor k.entries k.are;
-          text = λ i. f.text_is i ++ flat_map line_of k.entries;
+          text = λ i. f.text_is i ++ flat_map missing_line_of k.entries;
         });
-        begins = prefix_after a b c d.text (flat_map line_of k.entries) d.written k.begins;
+        begins = prefix_after a b c d.text (flat_map missing_line_of k.entries) d.written k.begins;
       }
   told_front (inr w) = record {
     front = d.text ++ w.bytes;
@@ -102,7 +102,7 @@ module _ (n : ℕ) (last : Verifying) (left left_after a b : Option (List ℕ))
 
   -- its report was written
   pub ends_whole : (c : Option (List ℕ)) (differs told : Bool) → told ≡ differs → ClosesReport n last told b c
-      → IsWhole (report_of n) (record { left = left; left_after = left_after; written = a; written_after = c }) differs
+      → IsWholeOutput (report_of n) (record { left = left; left_after = left_after; written = a; written_after = c }) differs
   ends_whole c differs told e k =
       whole_behind (entries_of rules (none_entered n) last) (report_of n) left left_after a b c r.refused r.whole differs
       (λ lines entered. told_report n last lines a b c (lines_done n last lines a b r.refused entered) differs
@@ -117,11 +117,11 @@ module _ (n : ℕ) (last : Verifying) (left left_after a b : Option (List ℕ))
 
 -- all was read where the lines end so
 pub whole_at : (output : Output) (streams : Streams) (ended : Ended) → (ended ≡ NoneRefused) ⊎ (ended ≡ SomeRefused) → EndsWith output streams ended
-    → (refused : Bool) × IsWhole output streams refused
+    → (refused : Bool) × IsWholeOutput output streams refused
 whole_at output streams ended (inl e) h = (false, subst (EndsWith output streams) e h)
 whole_at output streams ended (inr e) h = (true, subst (EndsWith output streams) e h)
 
--- and the run stopped where they end otherwise
+-- the run stopped where the lines end otherwise
 pub stop_told : (ended : Ended) → (ended ≡ ReadFailed) ⊎ ((ended ≡ WriteFailed) ⊎ ((ended ≡ NoMemory) ⊎ (ended ≡ TooMany))) → IsStop ended
 stop_told ended (inl e) = subst IsStop (sym e) tt
 stop_told ended (inr (inl e)) = subst IsStop (sym e) tt

@@ -15,9 +15,9 @@ use Rattle.bk_verify_report.proofs.Firsts.{a_verifier_tells_the_truth}
 use Rattle.bk_verify_report.specs.Verify.{Accepted, IsNew}
 use Rattle.bk_verify_report.specs.VerifyLaws.{KeepsFirsts}
 use Rattle.bk_verify_report.proofs.Following.{AreFollowed, IsAfter, followed}
-use Rattle.bk_verify_report.specs.Entering.{MayWantAt, none_entered}
-use Rattle.bk_verify_report.specs.Reading.{rules}
-use Rattle.bk_verify_report.specs.Running.{TellsBefore, TellsFirst, TellsLines, report_of}
+use Rattle.bk_verify_report.specs.ListLine.{MayWantAt, none_entered}
+use Rattle.bk_verify_report.specs.ListReading.{rules}
+use Rattle.bk_verify_report.specs.VerifyRun.{TellsBefore, TellsFirst, TellsLines, report_of}
 use Rattle.bk_verify_report.specs.Told.{HasEntry, IsToldOf}
 use Rattle.bk_verify_report.specs.declared.entering.Verifying.{Verifying}
 

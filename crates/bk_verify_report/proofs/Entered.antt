@@ -4,12 +4,13 @@ use Rattle.std.specs.Io.KnownBytes.{Appends}
 use Rattle.std.proofs.KnownBytes.{Appends-nil}
 use Rattle.std.proofs.Common.{Bool, List, [], append-nil, subst, sym, ℕ, ◌∙◌, ◌∷◌, ◌≡◌}
 use Rattle.bk_ports.specs.Causes.{AppendsPrefix}
-use Rattle.bk_ports.specs.Answer.{IsBegun, IsWritten}
-use Rattle.bk_verify_report.specs.Entering.{EntersLine}
+use Rattle.bk_ports.specs.WrittenAnswer.{IsAnswerBegun, IsWritten}
+use Rattle.bk_verify_report.specs.ListLine.{EntersLine}
 use Rattle.bk_verify_report.specs.declared.entering.Verifying.{Verifying}
 
 -- the line is entered so, and what was written is this
 module _ (s : Verifying) (number : ℕ) (line : List ℕ) (is_refused : Bool) (next : Verifying) (a b : Option (List ℕ)) where
+  -- a line that is entered without a piece is written with nothing added
   pub written_none : EntersLine s number line [] is_refused next → b ≡ a
       → IsWritten (λ pieces refused. EntersLine s number line pieces refused next) a b is_refused
   written_none enters same = record { pieces = []; answer = enters; written = subst (λ (c : Option (List ℕ)). Appends a c []) (sym same) (Appends-nil a) }
@@ -18,7 +19,7 @@ module _ (s : Verifying) (number : ℕ) (line : List ℕ) (is_refused : Bool) (n
     pub written_one : Appends a b bytes → IsWritten (λ pieces refused. EntersLine s number line pieces refused next) a b is_refused
     written_one p = record { pieces = piece ∷ []; answer = enters; written = subst (Appends a b) (is ∙ sym (append-nil piece)) p }
 
-    pub begun_one : AppendsPrefix a b bytes → IsBegun (λ pieces refused. (last : Verifying) × EntersLine s number line pieces refused last) a b
+    pub begun_one : AppendsPrefix a b bytes → IsAnswerBegun (λ pieces refused. (last : Verifying) × EntersLine s number line pieces refused last) a b
     begun_one p = record {
       pieces = piece ∷ [];
       refused = is_refused;

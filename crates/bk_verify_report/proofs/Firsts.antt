@@ -3,12 +3,12 @@ use Rattle.std.specs.List.{AllByRecursion}
 use Rattle.std.proofs.Common.{Contains, List, [], ap, append_assoc, arith, inl, inr, refl, subst, suc, sym, zero, ℕ, ◌++◌, ◌∙◌, ◌∷◌, ◌≡◌, ◌≢◌, ◌⊎◌}
 use Rattle.std.proofs.lemmas.List.Elements.{Contains-push_cases}
 use Rattle.bk_laws.proofs.AllOfLists.{all_append, all_left, all_right}
+use Rattle.bk_laws.proofs.Membership.{all-contains}
 use Rattle.bk_tiling.specs.Tiling.{IsTiling, Tiling}
 use Rattle.bk_sym.proofs.CanonicalLaws.{a_canonical_tiling_is_one}
 use Rattle.bk_word.specs.declared.Class.TheVariants.{Perfect}
 use Rattle.bk_catalogue.specs.Catalogue.{IsMember}
-use Rattle.bk_verify_report.proofs.Storing.{all_at}
-use Rattle.bk_verify_report.specs.Kept.{IsFed, IsKeptFrom, IsNotKept, Kept, EntriesState}
+use Rattle.bk_verify_report.specs.KeptEntries.{IsFed, IsKeptFrom, IsNotKept, Kept, EntriesState}
 use Rattle.bk_verify_report.specs.Verify.{Accepted, AreNotOf, IsFirstOf, IsOf}
 use Rattle.bk_verify_report.specs.VerifyLaws.{AVerifierTellsTheTruth, IsFirstLine, IsTrueOf, KeepsFirsts, MissingOnesAreNotKept, TruthsStay}
 use Rattle.bk_verify_report.specs.declared.entries.Fed.{Fed}
@@ -27,6 +27,7 @@ first_stays entries more u first is = record {
 line_stays : (entries more : List Accepted) (u : Tiling) (line : ℕ) → IsFirstLine entries u line → IsFirstLine (entries ++ more) u line
 line_stays entries more u line is = record { first = is.first; is_first = first_stays entries more u is.first is.is_first; line_is = is.line_is }
 
+-- what is true of an entry stays true when entries follow
 pub truths_stay : TruthsStay
 truths_stay n entries more e New is = record { tiling = is.tiling; member = is.member; first = first_stays entries more is.tiling e is.first }
 truths_stay n entries more e (Repeats earlier) is = record {
@@ -83,7 +84,7 @@ module _ (n : ℕ) (pairs : List Kept) (entries : List Accepted) (keeps : KeepsF
   keeps_again line kept = record {
     firsts = λ v other from. line_stays entries (e ∷ []) v other (keeps.firsts v other from);
     all = λ v is not. all_append (λ f. IsOf v f → ⊥) entries (e ∷ []) (keeps.all v is not)
-        ((λ of. all_at (λ (p : Kept). p.tiling ≢ v) pairs (record { line = line; tiling = u }) not kept (sym (one v of))), tt);
+        ((λ of. all-contains (λ (p : Kept). p.tiling ≢ v) pairs (record { line = line; tiling = u }) not kept (sym (one v of))), tt);
   }
 
 keeps_foreign : (n : ℕ) (pairs : List Kept) (entries : List Accepted) (e : Accepted) → KeepsFirsts n entries pairs
@@ -134,6 +135,7 @@ kept old entries e Foreign new tiling keeps is =
     subst (λ (s : EntriesState). KeepsFirsts s.order (entries ++ e ∷ []) s.pairs) (sym is.1)
     (keeps_foreign old.order old.pairs entries e keeps (λ u of member. is.0 u (record { canonical = of; member = member })))
 
+-- what a verifier tells of an entry is true, and what it keeps are the first entries
 pub a_verifier_tells_the_truth : AVerifierTellsTheTruth
 a_verifier_tells_the_truth = record { at_first = nothing; told = told; kept = kept }
   where
@@ -148,6 +150,7 @@ none_kept u entries (p ∷ pairs) not = (
   none_kept u entries pairs (λ line from. not line (suc from.0, omega (arith, from.1), from.2)),
 )
 
+-- a perfect member is not kept exactly where no entry has it as its canonical tiling
 pub missing_ones_are_not_kept : MissingOnesAreNotKept
 missing_ones_are_not_kept n entries pairs u keeps member = (keeps.all u member, λ none. none_kept u entries pairs (λ line from. unseen line from none))
   where

@@ -4,6 +4,7 @@ use Rattle.std.proofs.Common.{Bool, List, [], ap, append-nil, append_assoc, arit
 use Rattle.std.proofs.Common.{◌<◌, ◌∙◌, ◌∷◌, ◌≡◌, ◌≢◌}
 use Rattle.std.proofs.lemmas.List.Sums.{sum_by-cons}
 use Rattle.bk_laws.proofs.AllOfLists.{all_append}
+use Rattle.bk_laws.proofs.NumberOrder.{lt-differs}
 use Rattle.bk_tiling.specs.Tiling.{IsTiling, Tiling}
 use Rattle.bk_text.specs.CodeLine.{Skip}
 use Rattle.bk_ports.specs.Entering.{AreEntered}
@@ -14,13 +15,13 @@ use Rattle.bk_answer.proofs.OneAnswer.{cause_of, is_tiling, not_refused, skip_no
 use Rattle.bk_answer.specs.Item.{HasItem, HasTiling}
 use Rattle.bk_answer.specs.Refusing.{IsLineRefused}
 use Rattle.bk_verify_report.proofs.Firsts.{a_verifier_tells_the_truth, truths_stay}
-use Rattle.bk_verify_report.specs.Kept.{IsFed, EntriesState}
+use Rattle.bk_verify_report.specs.KeptEntries.{IsFed, EntriesState}
 use Rattle.bk_verify_report.specs.Verify.{Accepted}
 use Rattle.bk_verify_report.specs.VerifyLaws.{IsTrueOf, KeepsFirsts}
 use Rattle.bk_verify_report.specs.declared.entries.Fed.{Fed}
 use Rattle.bk_verify_report.specs.declared.entries.Fed.TheVariants.{Foreign, New, Repeats}
-use Rattle.bk_verify_report.specs.Entering.{EntersLine, MayWantAt, after_fed, fed_pieces, feeds, no_item, refuses}
-use Rattle.bk_verify_report.specs.Told.{AreEntries, AreTold, IsTold, Told, accepted, foreign, is_foreign, is_refused, is_repeat, no_line}
+use Rattle.bk_verify_report.specs.ListLine.{EntersLine, MayWantAt, after_fed, fed_pieces, feeds, no_item, refuses}
+use Rattle.bk_verify_report.specs.Told.{AreEntries, AreTold, IsTold, Told, accepted, foreign, is_foreign, is_line_refused, is_repeat, no_line}
 use Rattle.bk_verify_report.specs.Told.{nothing, passed, refused, repeats, texts_from, told_text}
 use Rattle.bk_verify_report.specs.declared.entering.Verifying.{Verifying}
 
@@ -52,11 +53,12 @@ fed_is_told n number entries line t Foreign has is = record { tiling = t; has = 
 record CountsOne (s next : Verifying) (told : Told) : Type 0 where
   foreign : (tolds : List Told) → next.foreign + count_by is_foreign tolds ≡ s.foreign + count_by is_foreign (told ∷ tolds)
   repeated : (tolds : List Told) → next.repeated + count_by is_repeat tolds ≡ s.repeated + count_by is_repeat (told ∷ tolds)
-  refused : (tolds : List Told) → next.refused + count_by is_refused tolds ≡ s.refused + count_by is_refused (told ∷ tolds)
+  refused : (tolds : List Told) → next.refused + count_by is_line_refused tolds ≡ s.refused + count_by is_line_refused (told ∷ tolds)
 
 counts_nothing : (s : Verifying) (v : EntriesState) → CountsOne s (record s { entries = v }) nothing
 counts_nothing s v = record { foreign = λ tolds. refl; repeated = λ tolds. refl; refused = λ tolds. refl }
 
+-- a count of what passes a test rises by one where one more passes it
 pub count_yes : (p : Told → Bool) (told : Told) (tolds : List Told) (k : ℕ) → p told ≡ true → (k + 1) + count_by p tolds ≡ k + count_by p (told ∷ tolds)
 count_yes p told tolds k e =
     let cons : count_by p (told ∷ tolds) ≡ cond {A = ℕ} (p told) 1 0 + count_by p tolds = sum_by-cons (λ (t : Told). cond {A = ℕ} (p t) 1 0) told tolds in
@@ -77,7 +79,7 @@ counts_refused : (s : Verifying) (cause : Refused) → CountsOne s (record s { r
 counts_refused s cause = record {
   foreign = λ tolds. refl;
   repeated = λ tolds. refl;
-  refused = λ tolds. count_yes is_refused (refused cause) tolds s.refused refl;
+  refused = λ tolds. count_yes is_line_refused (refused cause) tolds s.refused refl;
 }
 
 -- the state keeps the first of the entries seen before, whose lines are before this number
@@ -90,12 +92,9 @@ still_before : (seen : List Accepted) (number : ℕ) → AllByRecursion (λ e. e
 still_before [] number all = tt
 still_before (e ∷ seen) number all = (omega (arith, all.0), still_before seen number all.1)
 
-below_differs : (a b : ℕ) → a < b → a ≢ b
-below_differs a b h e = absurd (omega arith)
-
 apart_from : (seen : List Accepted) (number : ℕ) → AllByRecursion (λ e. e.line < number) seen → AllByRecursion (λ e. e.line ≢ number) seen
 apart_from [] number all = tt
-apart_from (e ∷ seen) number all = (below_differs e.line number all.0, apart_from seen number all.1)
+apart_from (e ∷ seen) number all = (lt-differs e.line number all.0, apart_from seen number all.1)
 
 -- what is told of lines from this number on, behind the entries seen before
 pub record AreFollowed (n : ℕ) (seen : List Accepted) (number : ℕ) (lines : List (List ℕ)) (s : Verifying) (text : List ℕ) (last : Verifying) : Type 0 where
@@ -108,7 +107,7 @@ pub record AreFollowed (n : ℕ) (seen : List Accepted) (number : ℕ) (lines : 
   pub order : (last.entries).order ≡ n
   pub foreign_is : last.foreign ≡ s.foreign + count_by is_foreign tolds
   pub repeated_is : last.repeated ≡ s.repeated + count_by is_repeat tolds
-  pub refused_is : last.refused ≡ s.refused + count_by is_refused tolds
+  pub refused_is : last.refused ≡ s.refused + count_by is_line_refused tolds
 
 module _ (n : ℕ) (seen : List Accepted) (number : ℕ) (line : List ℕ) (lines : List (List ℕ)) (s next : Verifying) (told : Told)
     (counts : CountsOne s next told) (text : List ℕ) (last : Verifying) where
@@ -197,8 +196,8 @@ fed_text number Foreign = append-nil (told_text number foreign)
 
 -- one line that is entered, and the lines behind it
 one_line : (n : ℕ) (seen : List Accepted) (number : ℕ) (line : List ℕ) (lines : List (List ℕ)) (s : Verifying) (pieces : List (List ℕ))
-    (is_refused : Bool) (next : Verifying) (text : List ℕ) (last : Verifying)
-    → IsAfter n seen number s → EntersLine s number (kept_front line) pieces is_refused next
+    (is_line_refused : Bool) (next : Verifying) (text : List ℕ) (last : Verifying)
+    → IsAfter n seen number s → EntersLine s number (kept_front line) pieces is_line_refused next
     → ((now : List Accepted) → IsAfter n now (number + 1) next → AreFollowed n now (number + 1) lines next text last)
     → AreFollowed n seen number (line ∷ lines) s (concat pieces ++ text) last
 one_line n seen number line lines s _ _ _ text last after (no_item skip) rest =

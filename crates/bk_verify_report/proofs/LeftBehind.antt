@@ -8,23 +8,24 @@ use Rattle.bk_word.specs.declared.Class.TheVariants.{Perfect}
 use Rattle.bk_catalogue.specs.Following.{HasNoneAfter}
 use Rattle.bk_report.specs.declared.listing.Last.TheVariants.{End, Limit, Wide}
 use Rattle.bk_verify_report.proofs.CountedMembers.{count_all}
-use Rattle.bk_verify_report.specs.Kept.{AreKeptAfter, CountsMembers, IsUpTo, Kept}
+use Rattle.bk_verify_report.specs.KeptEntries.{AreKeptAfter, CountsMembers, IsUpTo, Kept}
 use Rattle.bk_verify_report.specs.Rest.{RestState}
 use Rattle.bk_verify_report.proofs.BehindLines as behind
-use Rattle.bk_verify_report.specs.Listing.{ClosesReport, IsClosingBegun, IsListed, IsListingBegun}
+use Rattle.bk_verify_report.specs.MissingLines.{AreMissingListed, ClosesReport, IsClosingBegun, IsListingBegun}
 use Rattle.bk_verify_report.specs.Report.{counts_line}
-use Rattle.bk_verify_report.specs.Running.{TellsFaults}
+use Rattle.bk_verify_report.specs.VerifyRun.{TellsFaults}
 use Rattle.bk_verify_report.specs.declared.entering.Verifying.{Verifying}
 
 -- the order has so many members; the lines of those that aren't kept were written, and they are so many
 pub record AreLacking (n : ℕ) (pairs : List Kept) (members missing : ℕ) (written written_after : Option (List ℕ)) : Type 0 where
   pub cursor : Word
-  pub listed : IsListed n pairs cursor missing written written_after
+  pub listed : AreMissingListed n pairs cursor missing written written_after
   pub kept : AreKeptAfter n pairs cursor
   pub all : CountsMembers n (λ word. ⊤) members
 
 -- the missing members are listed, and all members are counted
-pub lacking : (first now : RestState) (missing members : ℕ) (a b : Option (List ℕ)) → IsListed (first.walk).order first.pairs (now.walk).cursor missing a b
+pub lacking : (first now : RestState) (missing members : ℕ) (a b : Option (List ℕ)) → AreMissingListed (first.walk).order first.pairs (now.walk).cursor missing
+    a b
     → AreKeptAfter (first.walk).order first.pairs (now.walk).cursor → HasNoneAfter (first.walk).order Perfect (now.walk).cursor
     → (now.walk).order ≡ (first.walk).order → CountsMembers (now.walk).order (IsUpTo (now.walk).cursor) members
     → AreLacking (first.walk).order first.pairs members missing a b

@@ -7,10 +7,10 @@ use Rattle.bk_word.specs.Word.{Word}
 use Rattle.bk_word.specs.declared.Class.TheVariants.{Perfect}
 use Rattle.bk_catalogue.specs.Following.{HasNoneAfter}
 use Rattle.bk_report.specs.ListLines.{missing_line}
-use Rattle.bk_verify_report.specs.Kept.{AreKeptAfter, IsNextMissing, Kept}
+use Rattle.bk_verify_report.specs.KeptEntries.{AreKeptAfter, IsNextMissing, Kept}
 use Rattle.bk_verify_report.specs.Rest.{RestState}
 use Rattle.bk_verify_report.proofs.MissingListed.{listed_all, listed_more, listed_none, listing_begun}
-use Rattle.bk_verify_report.specs.Listing.{IsListed, IsListingBegun, IsNextBegun, IsWrittenNext}
+use Rattle.bk_verify_report.specs.MissingLines.{AreMissingListed, IsListingBegun, IsMissingBegun, IsWrittenNext}
 
 -- the line of the next member that isn't kept is written
 pub next_written : (n : ℕ) (pairs : List Kept) (cursor new : Word) (t : Tiling) (word : Word) (a b : Option (List ℕ))
@@ -20,7 +20,7 @@ next_written n pairs cursor new t word a b next e p = subst (λ (w : Word). IsWr
 
 -- a walk lists what isn't kept, from where it was first, and no write has failed
 pub record IsListingOn (first now : RestState) (missing : ℕ) (a b : Option (List ℕ)) (before after : ℕ) : Type 0 where
-  pub listed : IsListed (first.walk).order first.pairs (now.walk).cursor missing a b
+  pub listed : AreMissingListed (first.walk).order first.pairs (now.walk).cursor missing a b
   pub order : (now.walk).order ≡ (first.walk).order
   pub pairs : now.pairs ≡ first.pairs
   pub faults : after ≡ before
@@ -28,7 +28,7 @@ pub record IsListingOn (first now : RestState) (missing : ℕ) (a b : Option (Li
 -- before the first one nothing is listed
 pub listing_none : (first : RestState) (a : Option (List ℕ)) (before : ℕ) → (first.walk).cursor ≡ [] → IsListingOn first first 0 a a before before
 listing_none first a before start = record {
-  listed = subst (λ (w : Word). IsListed (first.walk).order first.pairs w 0 a a) (sym start) (listed_none (first.walk).order first.pairs a);
+  listed = subst (λ (w : Word). AreMissingListed (first.walk).order first.pairs w 0 a a) (sym start) (listed_none (first.walk).order first.pairs a);
   order = refl;
   pairs = refl;
   faults = refl;
@@ -54,7 +54,7 @@ module _ (first now : RestState) (missing : ℕ) (a b : Option (List ℕ)) (befo
       }
 
   -- the write of one failed
-  pub listing_broken : (c : Option (List ℕ)) → IsNextBegun (now.walk).order now.pairs (now.walk).cursor b c
+  pub listing_broken : (c : Option (List ℕ)) → IsMissingBegun (now.walk).order now.pairs (now.walk).cursor b c
       → IsListingBegun (first.walk).order first.pairs a c
   listing_broken c begun = listing_begun (first.walk).order first.pairs (now.walk).cursor missing a b s.listed begun.tiling begun.word
       (at_first (λ n pairs. IsNextMissing n pairs (now.walk).cursor begun.tiling begun.word) begun.next) c begun.begins
@@ -68,8 +68,8 @@ module _ (first now : RestState) (missing : ℕ) (a b : Option (List ℕ)) (befo
     pub none_behind : HasNoneAfter (first.walk).order Perfect then
     none_behind = subst (λ (n : ℕ). HasNoneAfter n Perfect then) s.order next.1
 
-    pub listing_end : IsListed (first.walk).order first.pairs then missing a c
-    listing_end = subst (λ (c : Option (List ℕ)). IsListed (first.walk).order first.pairs then missing a c) (sym next.2)
+    pub listing_end : AreMissingListed (first.walk).order first.pairs then missing a c
+    listing_end = subst (λ (c : Option (List ℕ)). AreMissingListed (first.walk).order first.pairs then missing a c) (sym next.2)
         (listed_all (first.walk).order first.pairs (now.walk).cursor missing a b s.listed
         (at_first (λ n pairs. AreKeptAfter n pairs (now.walk).cursor) next.0) then none_behind)
 

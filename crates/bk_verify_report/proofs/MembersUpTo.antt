@@ -11,11 +11,11 @@ use Rattle.bk_word.proofs.WordOrder.{follows_trans}
 use Rattle.bk_word.specs.Word.{Follows, Word, word_cmp}
 use Rattle.bk_word.specs.declared.Class.TheVariants.{Perfect}
 use Rattle.bk_lay.proofs.WordPlay.{tiling_word_is_complete}
-use Rattle.bk_catalogue.proofs.Places.{word_same}
+use Rattle.bk_catalogue.proofs.TreeOfWords.Places.{word_same}
 use Rattle.bk_word.proofs.FollowLaws.{after_none, not_itself, turned}
 use Rattle.bk_catalogue.specs.Catalogue.{AreAscending, Entry, IsEntry}
-use Rattle.bk_catalogue.proofs.OneEntry.{one_entry}
-use Rattle.bk_verify_report.specs.Kept.{AreUpTo, IsUpTo}
+use Rattle.bk_catalogue.proofs.Members.OneEntry.{one_entry}
+use Rattle.bk_verify_report.specs.KeptEntries.{AreUpTo, IsUpTo}
 
 compared : (v w : Word) → Follows w v ⊎ ((v ≡ w) ⊎ Follows v w)
 compared v w = cases (word_cmp v w) refl

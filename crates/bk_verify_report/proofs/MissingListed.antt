@@ -14,13 +14,13 @@ use Rattle.bk_report.specs.ListLines.{missing_line}
 use Rattle.bk_tiling.specs.Tiling.{Tiling}
 use Rattle.bk_word.specs.Word.{Follows, Word}
 use Rattle.bk_word.specs.declared.Class.TheVariants.{Perfect}
-use Rattle.bk_catalogue.proofs.WordCounts.{few_entries}
+use Rattle.bk_catalogue.proofs.TreeOfWords.WordCounts.{few_entries}
 use Rattle.bk_catalogue.specs.Catalogue.{Entry, IsEntry}
 use Rattle.bk_catalogue.specs.Following.{HasNoneAfter}
 use Rattle.bk_verify_report.proofs.MembersUpTo.{IsNextSuch, after_or_up, up_to_more, up_to_none}
-use Rattle.bk_verify_report.specs.Kept.{AreKeptAfter, AreUpTo, IsNextMissing, IsNotKept, Kept}
-use Rattle.bk_verify_report.specs.Listing.{IsListed, IsListingBegun}
-use Rattle.bk_verify_report.specs.Report.{line_of}
+use Rattle.bk_verify_report.specs.KeptEntries.{AreKeptAfter, AreUpTo, IsNextMissing, IsNotKept, Kept}
+use Rattle.bk_verify_report.specs.MissingLines.{AreMissingListed, IsListingBegun}
+use Rattle.bk_verify_report.specs.Report.{missing_line_of}
 
 -- the least member that isn't kept, as the next one of that kind
 next_such : (n : ℕ) (pairs : List Kept) (cursor : Word) (t : Tiling) (word : Word) → IsNextMissing n pairs cursor t word
@@ -36,11 +36,11 @@ next_such n pairs cursor t word next = record {
 pub word_some : (n : ℕ) (pairs : List Kept) (cursor : Word) (t : Tiling) (word : Word) → IsNextMissing n pairs cursor t word → 0 < length word
 word_some n pairs cursor t word next = ((tiling_word_is_complete t word (next.member).tiling next.word_is).0).some
 
-lines_more : (entries : List Entry) (e : Entry) → flat_map line_of (entries ++ e ∷ []) ≡ flat_map line_of entries ++ line_of e
-lines_more entries e = flat_map-append line_of entries (e ∷ []) ∙ ap (λ l. flat_map line_of entries ++ l) (append-nil (line_of e))
+lines_more : (entries : List Entry) (e : Entry) → flat_map missing_line_of (entries ++ e ∷ []) ≡ flat_map missing_line_of entries ++ missing_line_of e
+lines_more entries e = flat_map-append missing_line_of entries (e ∷ []) ∙ ap (λ l. flat_map missing_line_of entries ++ l) (append-nil (missing_line_of e))
 
 -- before the first one nothing is listed
-pub listed_none : (n : ℕ) (pairs : List Kept) (written : Option (List ℕ)) → IsListed n pairs [] 0 written written
+pub listed_none : (n : ℕ) (pairs : List Kept) (written : Option (List ℕ)) → AreMissingListed n pairs [] 0 written written
 listed_none n pairs written = record {
   entries = [];
   are = up_to_none n (IsNotKept pairs);
@@ -49,8 +49,8 @@ listed_none n pairs written = record {
   appends = Appends-nil written;
 }
 
--- those up to a cursor are listed
-module _ (n : ℕ) (pairs : List Kept) (cursor : Word) (missing : ℕ) (a b : Option (List ℕ)) (l : IsListed n pairs cursor missing a b) where
+-- the missing members up to a cursor are listed
+module _ (n : ℕ) (pairs : List Kept) (cursor : Word) (missing : ℕ) (a b : Option (List ℕ)) (l : AreMissingListed n pairs cursor missing a b) where
   -- a line more is written, or begun
   module _ (t : Tiling) (word : Word) (next : IsNextMissing n pairs cursor t word) (c : Option (List ℕ)) where
     abbrev more : List Entry
@@ -59,11 +59,11 @@ module _ (n : ℕ) (pairs : List Kept) (cursor : Word) (missing : ℕ) (a b : Op
     are_more : AreUpTo n (IsNotKept pairs) word more
     are_more = up_to_more n (IsNotKept pairs) cursor (record { tiling = t; word = word }) (next_such n pairs cursor t word next) l.entries l.are
 
-    text_more : flat_map line_of l.entries ++ missing_line t word ≡ flat_map line_of more
+    text_more : flat_map missing_line_of l.entries ++ missing_line t word ≡ flat_map missing_line_of more
     text_more = sym (lines_more l.entries (record { tiling = t; word = word }))
 
     -- the line is written
-    pub listed_more : n ≤ 16 → Appends b c (missing_line t word) → IsListed n pairs word (missing + 1) a c
+    pub listed_more : n ≤ 16 → Appends b c (missing_line t word) → AreMissingListed n pairs word (missing + 1) a c
     listed_more small p =
         let are = are_more in
         let count = l.count in
@@ -74,13 +74,13 @@ module _ (n : ℕ) (pairs : List Kept) (cursor : Word) (missing : ℕ) (a b : Op
           are = are;
           count = one_more;
           few = omega (arith, one_more, fits);
-          appends = subst (Appends a c) text_more (Appends-trans a b c (flat_map line_of l.entries) (missing_line t word) l.appends p);
+          appends = subst (Appends a c) text_more (Appends-trans a b c (flat_map missing_line_of l.entries) (missing_line t word) l.appends p);
         }
 
     -- or begun
     pub listing_begun : AppendsPrefix b c (missing_line t word) → IsListingBegun n pairs a c
     listing_begun p =
-        let begun = prefix_after a b c (flat_map line_of l.entries) (missing_line t word) l.appends p in
+        let begun = prefix_after a b c (flat_map missing_line_of l.entries) (missing_line t word) l.appends p in
         record {
           cursor = word;
           entries = more;
@@ -89,7 +89,7 @@ module _ (n : ℕ) (pairs : List Kept) (cursor : Word) (missing : ℕ) (a b : Op
         }
 
   -- no member is left that isn't kept, and the walk has gone to its end
-  pub listed_all : AreKeptAfter n pairs cursor → (then : Word) → HasNoneAfter n Perfect then → IsListed n pairs then missing a b
+  pub listed_all : AreKeptAfter n pairs cursor → (then : Word) → HasNoneAfter n Perfect then → AreMissingListed n pairs then missing a b
   listed_all kept then none =
       let are = l.are in
       record {

@@ -8,7 +8,7 @@ use Rattle.bk_word.proofs.WordOrder.{follows_trans}
 use Rattle.bk_word.specs.Word.{Follows}
 use Rattle.bk_word.specs.declared.Class.TheVariants.{Perfect}
 use Rattle.bk_catalogue.specs.Catalogue.{AreAscending, Entry, IsEntry}
-use Rattle.bk_verify_report.specs.Kept.{CountsMembers}
+use Rattle.bk_verify_report.specs.KeptEntries.{CountsMembers}
 
 -- what holds of each entry holds of one that is among them
 pub held : (P : Entry → Type 0) (entries : List Entry) (e : Entry) → AllByRecursion P entries → Contains entries e → P e

@@ -14,9 +14,10 @@ use Rattle.bk_answer.specs.Item.{HasItem}
 use Rattle.bk_answer.specs.Refusing.{IsLineRefused}
 use Rattle.bk_verify_report.specs.Verify.{Accepted, AreNotOf, IsFirstOf, IsForeign, IsNew, IsOf, IsRepeat}
 use Rattle.bk_verify_report.proofs.OneAscending.{held, one_count, same_ascending}
-use Rattle.bk_verify_report.specs.Report.{Counts, HasFault, IsReport, counts_line, faults, line_of}
+use Rattle.bk_verify_report.specs.Report.{HasFault, IsReport, ReportCounts, counts_line, faults, missing_line_of}
 use Rattle.bk_verify_report.specs.ReportLaw.{AListHasOneReport}
-use Rattle.bk_verify_report.specs.Told.{AreEntries, AreTold, HasEntry, IsTold, IsToldOf, Told, accepted, foreign, is_foreign, is_refused, is_repeat, no_line}
+use Rattle.bk_verify_report.specs.Told.{AreEntries, AreTold, HasEntry, IsTold, IsToldOf, Told, accepted, foreign, is_foreign, is_line_refused, is_repeat}
+use Rattle.bk_verify_report.specs.Told.{no_line}
 use Rattle.bk_verify_report.specs.Told.{nothing, passed, refused, repeats, texts_from}
 
 -- lines have one list of entries
@@ -128,7 +129,7 @@ same_tolds n entries k (line ∷ lines) (t ∷ ts) (u ∷ us) p q =
     λ i. here i ∷ later i
 
 -- two reports on the same lines
-module _ (n : ℕ) (lines : List (List ℕ)) (c d : Counts) (a b : List ℕ) (r : IsReport n lines c a) (s : IsReport n lines d b) where
+module _ (n : ℕ) (lines : List (List ℕ)) (c d : ReportCounts) (a b : List ℕ) (r : IsReport n lines c a) (s : IsReport n lines d b) where
   same_list : s.entries ≡ r.entries
   same_list = same_entries 1 lines s.entries r.entries s.are_entries r.are_entries
 
@@ -149,11 +150,12 @@ module _ (n : ℕ) (lines : List (List ℕ)) (c d : Counts) (a b : List ℕ) (r 
     missing = (r.missing_is ∙ ap (λ (l : List Entry). length l) missing ∙ sym s.missing_is) i;
     foreign = (r.foreign_is ∙ ap (λ (l : List Told). count_by is_foreign l) tolds ∙ sym s.foreign_is) i;
     repeated = (r.repeated_is ∙ ap (λ (l : List Told). count_by is_repeat l) tolds ∙ sym s.repeated_is) i;
-    refused = (r.refused_is ∙ ap (λ (l : List Told). count_by is_refused l) tolds ∙ sym s.refused_is) i;
+    refused = (r.refused_is ∙ ap (λ (l : List Told). count_by is_line_refused l) tolds ∙ sym s.refused_is) i;
   }
 
-  same_text : texts_from 1 r.tolds ++ (flat_map line_of r.missing ++ counts_line n c) ≡ texts_from 1 s.tolds ++ (flat_map line_of s.missing ++ counts_line n d)
-  same_text = λ i. texts_from 1 (tolds i) ++ (flat_map line_of (missing i) ++ counts_line n (counts i))
+  same_text : texts_from 1 r.tolds ++ (flat_map missing_line_of r.missing ++ counts_line n c) ≡ texts_from 1 s.tolds ++
+      (flat_map missing_line_of s.missing ++ counts_line n d)
+  same_text = λ i. texts_from 1 (tolds i) ++ (flat_map missing_line_of (missing i) ++ counts_line n (counts i))
 
   one_report : (c ≡ d) × (a ≡ b)
   one_report = (counts, r.text ∙ same_text ∙ sym s.text)
@@ -163,11 +165,12 @@ one_told_of n lines tolds others p q =
     same_tolds n p.entries 1 lines tolds others p.told
     (subst (λ (es : List Accepted). AreTold n es 1 lines others) (same_entries 1 lines q.entries p.entries q.are_entries p.are_entries) q.told)
 
+-- a list has one thing told of each line and one report
 pub a_list_has_one_report : AListHasOneReport
 a_list_has_one_report = record { told = one_told_of; report = one_report }
 
 -- where a report counts no fault, no report on the lines counts one
-pub no_fault_there : (n : ℕ) (lines : List (List ℕ)) (counts : Counts) (bytes : List ℕ) → IsReport n lines counts bytes → faults counts ≡ 0
+pub no_fault_there : (n : ℕ) (lines : List (List ℕ)) (counts : ReportCounts) (bytes : List ℕ) → IsReport n lines counts bytes → faults counts ≡ 0
     → HasFault n lines → ⊥
 no_fault_there n lines counts bytes report z h =
     omega (arith, h.some, z, ap faults (one_report n lines counts h.counts bytes h.bytes report h.report).0)

@@ -1,7 +1,8 @@
 -- A walk over the members that are kept: what it has passed, and the next one that is missing.
-use Rattle.std.specs.Prelude.{IsTrue, MatchOption, false, length}
-use Rattle.std.proofs.Common.{List, None, Option, Some, [], ap, arith, inl, inr, is_some, refl, subst, sym, true, true≢false, ℕ}
+use Rattle.std.specs.Prelude.{IsTrue, false, length}
+use Rattle.std.proofs.Common.{List, [], ap, arith, inl, inr, refl, subst, sym, ℕ}
 use Rattle.std.proofs.Common.{◌+◌, ◌∙◌, ◌≡◌, ◌≢◌, ◌≤◌, ◌⊎◌}
+use Rattle.bk_laws.proofs.Membership.{all-contains}
 use Rattle.bk_tiling.specs.Tiling.{Tiling}
 use Rattle.bk_word.proofs.WordOrder.{follows_trans}
 use Rattle.bk_word.specs.Word.{Follows, Word}
@@ -9,9 +10,8 @@ use Rattle.bk_word.specs.declared.Class.{Class}
 use Rattle.bk_word.specs.declared.Class.TheVariants.{Perfect}
 use Rattle.bk_catalogue.specs.Catalogue.{Entry, IsEntry}
 use Rattle.bk_catalogue.specs.Following.{HasNoneAfter}
-use Rattle.bk_tree_walk.specs.Walking.{IsNextMember, WalkState}
-use Rattle.bk_verify_report.proofs.Storing.{all_at}
-use Rattle.bk_verify_report.specs.Kept.{AreKeptAfter, CountsMembers, IsKeptFrom, IsNextMissing, IsNotKept, IsUpTo, Kept}
+use Rattle.bk_members.specs.Walking.{IsNextMember, WalkState}
+use Rattle.bk_verify_report.specs.KeptEntries.{AreKeptAfter, CountsMembers, IsKeptFrom, IsNextMissing, IsNotKept, IsUpTo, Kept}
 use Rattle.bk_verify_report.proofs.MembersUpTo.{IsNextSuch, up_to_next}
 use Rattle.bk_verify_report.proofs.CountedMembers.{any, count_more, count_none}
 use Rattle.bk_verify_report.specs.Rest.{IsKeptRest}
@@ -53,7 +53,7 @@ module _ (n : ℕ) (pairs : List Kept) (start cursor : Word) (passed : IsPassed 
             ⊎ (record { tiling = t; word = word } ≡ e) → ⊥
         cases e is after new (inl up) = passed.kept e is after up new
         cases e is after new (inr it) =
-            all_at (λ (p : Kept). p.tiling ≢ e.tiling) pairs (record { line = line; tiling = t }) new from (ap (λ (f : Entry). f.tiling) it)
+            all-contains (λ (p : Kept). p.tiling ≢ e.tiling) pairs (record { line = line; tiling = t }) new from (ap (λ (f : Entry). f.tiling) it)
 
     -- or it isn't kept: it is the next that is missing
     pub next_is_missing : IsNotKept pairs t → IsNextMissing n pairs start t word
@@ -97,6 +97,7 @@ passing_none first pairs members class counted = record {
 -- no member follows the walk
 module _ (first : WalkState) (pairs : List Kept) (walk : WalkState) (members : ℕ) (p : IsPassing first pairs walk members)
     (none : HasNoneAfter walk.order walk.class walk.cursor) where
+  -- where no member follows the walk, no perfect member follows its cursor
   pub passing_end : (cursor : Word) → cursor ≡ walk.cursor → HasNoneAfter first.order Perfect cursor
   passing_end cursor stays = subst (HasNoneAfter first.order Perfect) (sym stays) (subst (λ (k : ℕ). HasNoneAfter k Perfect walk.cursor) p.order
       (subst (λ (one : Class). HasNoneAfter walk.order one walk.cursor) p.class none))
@@ -149,13 +150,3 @@ module _ (first : WalkState) (pairs : List Kept) (walk : WalkState) (members : �
     class = class ∙ p.class;
     still = λ e. absurd (on (p.still e));
   }
-
--- what a look-up that found nothing says
-pub at_none : {A : Type 0} (P : Type 0) (Q : A → Type 0) (r : Option A) → is_some r ≡ false → MatchOption r P Q → P
-at_none P Q None e m = m
-at_none P Q (Some a) e m = absurd (true≢false e)
-
--- and one that found something
-pub at_some : {A : Type 0} (P : Type 0) (Q : A → Type 0) (r : Option A) → is_some r ≡ true → MatchOption r P Q → (a : A) × Q a
-at_some P Q None e m = absurd (true≢false (sym e))
-at_some P Q (Some a) e m = (a, m)

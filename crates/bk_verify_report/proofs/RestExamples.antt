@@ -2,7 +2,7 @@
 use Rattle.std.specs.Prelude.{List, [], refl, ◌∷◌, ◌≡◌}
 use Rattle.bk_tiling.proofs.ExampleTilings.{rectangle_33x32}
 use Rattle.bk_word.specs.Word.{Word}
-use Rattle.bk_verify_report.specs.Kept.{Kept}
+use Rattle.bk_verify_report.specs.KeptEntries.{Kept}
 use Rattle.bk_verify_report.specs.Rest.{rest_of}
 
 abbrev pairs : List Kept

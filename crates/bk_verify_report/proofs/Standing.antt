@@ -2,6 +2,7 @@
 use Rattle.std.specs.Prelude.{IsTrue, ◌↔◌}
 use Rattle.std.proofs.Common.{Bool, List, [], ap, arith, length, map, refl, subst, suc, sym, true, zero, ℕ, ◌++◌, ◌∙◌, ◌∷◌, ◌≡◌, ◌≢◌}
 use Rattle.bk_laws.proofs.AllOfLists.{all_append}
+use Rattle.bk_laws.proofs.Membership.{all-contains}
 use Rattle.bk_tiling.proofs.OrderLaws.{in_code_order-length}
 use Rattle.bk_tiling.specs.Tiling.{IsTiling, Tiling}
 use Rattle.bk_simple.specs.Simple.{IsPerfect, IsSimple}
@@ -14,9 +15,8 @@ use Rattle.std.specs.Prelude.{◌/◌}
 use Rattle.std.proofs.lemmas.List.{length-map}
 use Rattle.bk_sym.proofs.ScaledDown.{side_divisor}
 use Rattle.bk_catalogue.specs.Catalogue.{IsMember}
-use Rattle.bk_verify_report.proofs.Storing.{all_at}
-use Rattle.bk_verify_report.specs.Kept.{AreApart, IsFirstSight, IsKeptFrom, AreKeptEntries, IsNotKept, IsTakenIn, Kept, RepeatsFrom, StandsFor}
-use Rattle.bk_verify_report.specs.Kept.{StandsForNone, EntriesState, with_kept}
+use Rattle.bk_verify_report.specs.KeptEntries.{AreKeptApart, AreKeptEntries, IsFirstSight, IsKeptFrom, IsNotKept, IsTakenIn, Kept, RepeatsFrom, StandsFor}
+use Rattle.bk_verify_report.specs.KeptEntries.{StandsForNone, EntriesState, with_kept}
 use Rattle.bk_verify_report.specs.VerifyLaws.{AnEntryIsToldOneThing}
 use Rattle.bk_verify_report.specs.declared.entries.Fed.TheVariants.{Foreign, New, Repeats}
 
@@ -65,9 +65,9 @@ stands_told n t u order wanted told tiling is length_is wanted_is same says it =
 
 -- a pair is among those that are kept, or its tiling isn't kept
 not_itself : (pairs : List Kept) (u : Tiling) (line : ℕ) → IsNotKept pairs u → IsKeptFrom pairs u line → ⊥
-not_itself pairs u line new from = all_at (λ (p : Kept). p.tiling ≢ u) pairs (record { line = line; tiling = u }) new from refl
+not_itself pairs u line new from = all-contains (λ (p : Kept). p.tiling ≢ u) pairs (record { line = line; tiling = u }) new from refl
 
-apart_more : (pairs : List Kept) (p : Kept) → AreApart pairs → IsNotKept pairs p.tiling → AreApart (pairs ++ p ∷ [])
+apart_more : (pairs : List Kept) (p : Kept) → AreKeptApart pairs → IsNotKept pairs p.tiling → AreKeptApart (pairs ++ p ∷ [])
 apart_more [] p apart new = (tt, tt)
 apart_more (q ∷ pairs) p apart new = (
   all_append (λ (r : Kept). r.tiling ≢ q.tiling) pairs (p ∷ []) apart.0 (λ e. new.0 (sym e), tt),
@@ -85,7 +85,7 @@ kept_with s t line sight kept = record {
 }
 
 -- a tiling is kept from one line
-one_line : (pairs : List Kept) (u : Tiling) (a b : ℕ) → AreApart pairs → IsKeptFrom pairs u a → IsKeptFrom pairs u b → a ≡ b
+one_line : (pairs : List Kept) (u : Tiling) (a b : ℕ) → AreKeptApart pairs → IsKeptFrom pairs u a → IsKeptFrom pairs u b → a ≡ b
 one_line [] u a b apart from that = absurd (omega (arith, from.1))
 one_line (p ∷ pairs) u a b apart (zero, few, e) (zero, little, f) = ap (λ (k : Kept). k.line) (sym e ∙ f)
 one_line (p ∷ pairs) u a b apart (zero, few, e) (suc k, little, f) = absurd
@@ -131,6 +131,6 @@ module _ (s : EntriesState) (t u : Tiling) (line : ℕ) (pairs : List Kept) (sta
   pub taken_in : pairs ≡ s.pairs ++ record { line = line; tiling = u } ∷ [] → IsTakenIn s line t (record { order = s.order; pairs = pairs })
   taken_in e = record { sight = first_sight; taken = now_is e }
 
-  -- and what is kept with it is right
+  -- what is kept with an entry that is taken in is right
   pub kept_then : AreKeptEntries s → pairs ≡ s.pairs ++ record { line = line; tiling = u } ∷ [] → AreKeptEntries (record { order = s.order; pairs = pairs })
   kept_then kept e = subst AreKeptEntries (sym (now_is e)) (kept_with s t line first_sight kept)

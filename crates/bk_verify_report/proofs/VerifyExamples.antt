@@ -11,8 +11,8 @@ use Rattle.bk_sym.specs.Canonical.{IsCanonical, IsCanonicalOf}
 use Rattle.bk_sym.specs.declared.Turn.TheVariants.{FlipX, FlipY, Half, Same, Swap, SwapFlipX, SwapFlipY, SwapHalf}
 use Rattle.bk_word.specs.declared.Class.TheVariants.{Perfect}
 use Rattle.bk_catalogue.specs.Catalogue.{IsMember}
-use Rattle.bk_verify_report.specs.Kept.{IsFed, EntriesState}
-use Rattle.bk_verify_report.specs.Stored.{kept_of}
+use Rattle.bk_verify_report.specs.KeptEntries.{IsFed, EntriesState}
+use Rattle.bk_verify_report.specs.StoredMember.{kept_member}
 use Rattle.bk_verify_report.specs.Verify.{Accepted, IsFirstOf, IsForeign, IsMissing, IsNew, IsRepeat}
 use Rattle.bk_verify_report.specs.declared.entries.Fed.TheVariants.{Foreign}
 use Rattle.bk_verify_report.proofs.Standing.{none_of_other_order}
@@ -151,7 +151,7 @@ told-foreign : IsFed kept 2 one_square Foreign kept
 told-foreign = (none_of_other_order 9 one_square (λ e. omega (arith, e)), refl)
 
 -- the rectangle is stored under 33, 18, 15, 7, 8, 14, 4, 10, 1, 9, with the line and the rest of it
-stored : kept_of (
+stored : kept_member (
   record { width = 33; sides = record { items = sides_of rectangle_33x32 } },
   record { line = 1; height = 32; squares = record { items = rectangle_33x32.squares } },
 )

@@ -5,13 +5,13 @@ use Rattle.std.specs.Prelude.{List, Some, [], false, codes, count_by, flat_map, 
 use Rattle.bk_tiling.proofs.ExampleTilings.{rectangle_33x32}
 use Rattle.bk_word.proofs.WordExamples.{word_33x32}
 use Rattle.bk_verify_report.specs.declared.entries.Fed.TheVariants.{Foreign, New, Repeats}
-use Rattle.bk_catalogue.proofs.CatalogueExamples.{no_perfect}
+use Rattle.bk_catalogue.proofs.Members.CatalogueExamples.{no_perfect}
 use Rattle.bk_verify_report.proofs.OneReport.{a_list_has_one_report}
-use Rattle.bk_verify_report.specs.Entering.{fed_pieces, none_entered}
-use Rattle.bk_verify_report.specs.Reading.{IsListRead}
-use Rattle.bk_verify_report.specs.Report.{Counts, counts_line, faults, line_of}
-use Rattle.bk_verify_report.specs.Running.{TellsReport}
-use Rattle.bk_verify_report.specs.Told.{IsToldOf, Told, foreign, is_foreign, is_refused, is_repeat, no_line, nothing, repeats, texts_from}
+use Rattle.bk_verify_report.specs.ListLine.{fed_pieces, none_entered}
+use Rattle.bk_verify_report.specs.ListReading.{IsListRead}
+use Rattle.bk_verify_report.specs.Report.{ReportCounts, counts_line, faults, missing_line_of}
+use Rattle.bk_verify_report.specs.VerifyRun.{TellsReport}
+use Rattle.bk_verify_report.specs.Told.{IsToldOf, Told, foreign, is_foreign, is_line_refused, is_repeat, no_line, nothing, repeats, texts_from}
 
 -- what is written for the entries of the three lines
 new-entry : fed_pieces 1 New ≡ []
@@ -34,8 +34,8 @@ unfolding digits
 texts = refl
 
 -- and the last line
-abbrev counts : Counts
-counts = record { members = 2; missing = 0; foreign = count_by is_foreign tolds; repeated = count_by is_repeat tolds; refused = count_by is_refused tolds }
+abbrev counts : ReportCounts
+counts = record { members = 2; missing = 0; foreign = count_by is_foreign tolds; repeated = count_by is_repeat tolds; refused = count_by is_line_refused tolds }
 
 last-line : counts_line 9 counts ≡ codes "; end order 9 members 2 missing 0 foreign 1 repeated 1 refused 0" ++ 10 ∷ []
 unfolding digits
@@ -45,7 +45,7 @@ two-faults : faults counts ≡ 2
 two-faults = refl
 
 -- of a list that lacks the rectangle 33x32, its line stands before that
-missing-lines : flat_map line_of (record { tiling = rectangle_33x32; word = word_33x32 } ∷ [])
+missing-lines : flat_map missing_line_of (record { tiling = rectangle_33x32; word = word_33x32 } ∷ [])
     ≡ codes "missing 9 33x32 [18,15][7,8][14,4][10,1][9] ; 2u.2aa.2ue.2eue.1e" ++ 10 ∷ []
 unfolding digits
 missing-lines = refl

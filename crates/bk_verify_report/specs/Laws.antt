@@ -1,6 +1,6 @@
 -- An empty line is passed over, and the counts stay below the number of the line.
 use Rattle.std.proofs.Common.{[], arith, false, inl, lit≤, refl, ℕ, ◌+◌}
-use Rattle.bk_verify_report.specs.Entering.{CountsAreBelow, EntersLine, no_item}
+use Rattle.bk_verify_report.specs.ListLine.{CountsAreBelow, EntersLine, no_item}
 use Rattle.bk_verify_report.specs.declared.entering.Verifying.{Verifying}
 
 pub empty_line : (s : Verifying) (n : ℕ) → EntersLine s n [] [] false s

@@ -1,16 +1,16 @@
 -- What the crate says.
-pub mod Told
 pub mod Report
 pub mod ReportLaw
-pub mod Running
+pub mod Told
 pub mod Verify
 pub mod VerifyLaws
+pub mod VerifyRun
 -- How its code keeps it.
-pub mod Kept
-pub mod Stored
-pub mod Entering
-pub mod Reading
-pub mod Listing
+pub mod KeptEntries
 pub mod Laws
+pub mod ListLine
+pub mod ListReading
+pub mod MissingLines
+pub mod ReportEnd
 pub mod Rest
-pub mod Closing
+pub mod StoredMember

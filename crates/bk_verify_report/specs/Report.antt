@@ -1,6 +1,6 @@
 -- The report on a list that is held against a catalogue.
--- Example (VerifyingExamples): of a list of order 9 that lacks nothing, with a foreign and a repeated entry, the last line is
--- `; end order 9 members 2 missing 0 foreign 1 repeated 1 refused 0`, and there are two faults.
+-- Example (VerifyingExamples): of a list of order 9 that lacks nothing, with a foreign and a repeated entry, the last
+-- line is `; end order 9 members 2 missing 0 foreign 1 repeated 1 refused 0`, and there are two faults.
 use Rattle.std.specs.List.{AllByRecursion}
 use Rattle.std.specs.Prelude.{Contains, List, [], count_by, flat_map, length, ℕ, ⊤, ◌++◌, ◌+◌, ◌<◌, ◌≡◌, ◌⊎◌}
 use Rattle.bk_word.specs.Word.{Follows}
@@ -8,12 +8,12 @@ use Rattle.bk_word.specs.declared.Class.TheVariants.{Perfect}
 use Rattle.bk_catalogue.specs.Catalogue.{AreAscending, Entry, IsEntry}
 use Rattle.bk_report.specs.ListLines.{missing_line, verified_line}
 use Rattle.bk_report.specs.declared.listing.Last.TheVariants.{End}
-use Rattle.bk_verify_report.specs.Kept.{CountsMembers}
+use Rattle.bk_verify_report.specs.KeptEntries.{CountsMembers}
 use Rattle.bk_verify_report.specs.Verify.{Accepted, AreNotOf}
-use Rattle.bk_verify_report.specs.Told.{AreEntries, AreTold, Told, is_foreign, is_refused, is_repeat, texts_from}
+use Rattle.bk_verify_report.specs.Told.{AreEntries, AreTold, Told, is_foreign, is_line_refused, is_repeat, texts_from}
 
 -- the five counts of the last line
-pub record Counts : Type 0 where
+pub record ReportCounts : Type 0 where
   pub members : ℕ
   pub missing : ℕ
   pub foreign : ℕ
@@ -21,7 +21,7 @@ pub record Counts : Type 0 where
   pub refused : ℕ
 
 -- how many things a list has too few or too many, or wrong
-abbrev pub faults : Counts → ℕ
+abbrev pub faults : ReportCounts → ℕ
 faults c = c.missing + c.foreign + c.repeated + c.refused
 
 -- the entries are those of the first missing members, ascending: each other missing member comes after all of them
@@ -37,11 +37,11 @@ abbrev pub AreAllMissing : ℕ → List Accepted → List Entry → Type 0
 AreAllMissing n entries missing = (e : Entry) → IsEntry n Perfect e → AreNotOf e.tiling entries → Contains missing e
 
 -- the line of a missing member
-abbrev pub line_of : Entry → List ℕ
-line_of e = missing_line e.tiling e.word
+abbrev pub missing_line_of : Entry → List ℕ
+missing_line_of e = missing_line e.tiling e.word
 
 -- the last line
-abbrev pub counts_line : ℕ → Counts → List ℕ
+abbrev pub counts_line : ℕ → ReportCounts → List ℕ
 counts_line n c = verified_line End n c.members c.missing c.foreign c.repeated c.refused []
 
 -- what stands there once all lines are told, with the lines of the first missing members
@@ -52,12 +52,12 @@ pub record BeginsReport (n : ℕ) (lines : List (List ℕ)) (bytes : List ℕ) :
   pub are_entries : AreEntries 1 lines entries
   pub told : AreTold n entries 1 lines tolds
   pub first_missing : AreFirstMissing n entries missing
-  pub text : bytes ≡ texts_from 1 tolds ++ flat_map line_of missing
+  pub text : bytes ≡ texts_from 1 tolds ++ flat_map missing_line_of missing
 
--- the whole report on the lines of a list: what is told of them, a line for each missing member, ascending, and the last
--- line. For a list without lines and order 9 it has the two members of that order as missing ones, and then
--- `; end order 9 members 2 missing 2 foreign 0 repeated 0 refused 0`
-pub record IsReport (n : ℕ) (lines : List (List ℕ)) (counts : Counts) (bytes : List ℕ) : Type 0 where
+-- the whole report on the lines of a list: what is told of them, a line for each missing member, ascending, and the
+-- last line. For a list without lines and order 9 it has the two members of that order as missing ones, and then `; end
+-- order 9 members 2 missing 2 foreign 0 repeated 0 refused 0`
+pub record IsReport (n : ℕ) (lines : List (List ℕ)) (counts : ReportCounts) (bytes : List ℕ) : Type 0 where
   pub entries : List Accepted
   pub tolds : List Told
   pub missing : List Entry
@@ -69,12 +69,13 @@ pub record IsReport (n : ℕ) (lines : List (List ℕ)) (counts : Counts) (bytes
   pub missing_is : counts.missing ≡ length missing
   pub foreign_is : counts.foreign ≡ count_by is_foreign tolds
   pub repeated_is : counts.repeated ≡ count_by is_repeat tolds
-  pub refused_is : counts.refused ≡ count_by is_refused tolds
-  pub text : bytes ≡ texts_from 1 tolds ++ (flat_map line_of missing ++ counts_line n counts)
+  pub refused_is : counts.refused ≡ count_by is_line_refused tolds
+  pub text : bytes ≡ texts_from 1 tolds ++ (flat_map missing_line_of missing ++ counts_line n counts)
 
--- the list and the catalogue differ: the report on these lines counts something that is missing, foreign, repeated or refused
+-- the list and the catalogue differ: the report on these lines counts something that is missing, foreign, repeated or
+-- refused
 pub record HasFault (n : ℕ) (lines : List (List ℕ)) : Type 0 where
-  pub counts : Counts
+  pub counts : ReportCounts
   pub bytes : List ℕ
   pub report : IsReport n lines counts bytes
   pub some : 0 < faults counts

@@ -1,9 +1,10 @@
 -- What is seen of what a verifier leaves.
--- Example (RestExamples): what a verifier of order 9 leaves that keeps the rectangle 33x32 is that pair, and a walk at the word of no moves.
+-- Example (RestExamples): what a verifier of order 9 leaves that keeps the rectangle 33x32 is that pair, and a walk at
+-- the word of no moves.
 use Rattle.std.specs.Prelude.{List, [], false, ℕ, ◌≡◌, ◌≤◌}
 use Rattle.bk_word.specs.declared.Class.TheVariants.{Perfect}
-use Rattle.bk_verify_report.specs.Kept.{CountsMembers, IsUpTo, Kept, EntriesState}
-use Rattle.bk_tree_walk.specs.Walking.{WalkState}
+use Rattle.bk_verify_report.specs.KeptEntries.{CountsMembers, IsUpTo, Kept, EntriesState}
+use Rattle.bk_members.specs.Walking.{WalkState}
 
 -- what is seen of what a verifier leaves: the kept pairs, and a walk
 pub record RestState : Type 0 where

@@ -42,11 +42,11 @@ is_repeat foreign = false
 is_repeat (repeats first) = true
 is_repeat (refused cause) = false
 
-abbrev pub is_refused : Told → Bool
-is_refused nothing = false
-is_refused foreign = false
-is_refused (repeats first) = false
-is_refused (refused cause) = true
+abbrev pub is_line_refused : Told → Bool
+is_line_refused nothing = false
+is_line_refused foreign = false
+is_line_refused (repeats first) = false
+is_line_refused (refused cause) = true
 
 -- the line has a tiling, whose entry is such
 pub record HasEntry (number : ℕ) (line : List ℕ) (Is : Accepted → Type 0) : Type 0 where
@@ -61,7 +61,7 @@ IsTold n entries number line foreign = HasEntry number line (IsForeign n)
 IsTold n entries number line (repeats first) = HasEntry number line (λ e. IsRepeat n entries e first)
 IsTold n entries number line (refused cause) = IsLineRefused line cause
 
--- and of all lines from this number on. Of a line of more than 8,192 bytes its first 8,193 count
+-- what is true of all lines from this number on. Of a line of more than 8,192 bytes its first 8,193 count
 abbrev pub AreTold : ℕ → List Accepted → ℕ → List (List ℕ) → List Told → Type 0
 AreTold n entries number [] [] = ⊤
 AreTold n entries number [] (told ∷ tolds) = ⊥

@@ -1,6 +1,8 @@
--- A list that others made, held against the perfect catalogue of an order: what each of its entries is, and what is missing.
--- Example (VerifyExamples): line 1 has the rectangle 33x32 turned and twice as large, line 2 a square alone, line 3 the rectangle as it
--- is catalogued. Of the order 9 the entry of line 1 is new, that of line 2 foreign, that of line 3 repeats line 1, and 69x61 is missing.
+-- A list that others made, held against the perfect catalogue of an order: what each of its entries is, and what is
+-- missing.
+-- Example (VerifyExamples): line 1 has the rectangle 33x32 turned and twice as large, line 2 a square alone, line 3 the
+-- rectangle as it is catalogued. Of the order 9 the entry of line 1 is new, that of line 2 foreign, that of line 3
+-- repeats line 1, and 69x61 is missing.
 use Rattle.std.specs.List.{AllByRecursion}
 use Rattle.std.specs.Prelude.{List, ℕ, ◌++◌, ◌∷◌, ◌≡◌, ◌≢◌}
 use Rattle.bk_tiling.specs.Tiling.{Tiling}

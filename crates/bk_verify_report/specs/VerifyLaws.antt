@@ -5,7 +5,7 @@ use Rattle.std.specs.Prelude.{List, [], ℕ, ◌++◌, ◌∷◌, ◌↔◌, ◌
 use Rattle.bk_tiling.specs.Tiling.{IsTiling, Tiling}
 use Rattle.bk_word.specs.declared.Class.TheVariants.{Perfect}
 use Rattle.bk_catalogue.specs.Catalogue.{IsMember}
-use Rattle.bk_verify_report.specs.Kept.{IsFed, IsKeptFrom, AreKeptEntries, IsNotKept, Kept, EntriesState}
+use Rattle.bk_verify_report.specs.KeptEntries.{IsFed, IsKeptFrom, AreKeptEntries, IsNotKept, Kept, EntriesState}
 use Rattle.bk_verify_report.specs.Verify.{Accepted, AreNotOf, IsFirstOf, IsForeign, IsNew, IsRepeat}
 use Rattle.bk_verify_report.specs.declared.entries.Fed.{Fed}
 use Rattle.bk_verify_report.specs.declared.entries.Fed.TheVariants.{Foreign, New, Repeats}
@@ -33,8 +33,8 @@ IsTrueOf n entries e New = IsNew n entries e
 IsTrueOf n entries e (Repeats earlier) = IsRepeat n entries e earlier
 IsTrueOf n entries e Foreign = IsForeign n e
 
--- at first no entry is there, and nothing is kept. Where what is kept is right and one entry more is fed, on a line of its
--- own, what is told of it is true, and what is kept then is right
+-- at first no entry is there, and nothing is kept. Where what is kept is right and one entry more is fed, on a line of
+-- its own, what is told of it is true, and what is kept then is right
 pub record AVerifierTellsTheTruth : Type 0 where
   pub at_first : (n : ℕ) → KeepsFirsts n [] []
   pub told : (old : EntriesState) (entries : List Accepted) (e : Accepted) (fed : Fed) (new : EntriesState)
@@ -49,7 +49,8 @@ abbrev pub TruthsStay : Type 0
 TruthsStay = (n : ℕ) (entries more : List Accepted) (e : Accepted) (fed : Fed)
     → IsTrueOf n entries e fed → IsTrueOf n (entries ++ more) e fed
 
--- a member isn't kept exactly where no entry has it as its canonical tiling: so the missing ones are those that aren't kept
+-- a member isn't kept exactly where no entry has it as its canonical tiling: so the missing ones are those that aren't
+-- kept
 abbrev pub MissingOnesAreNotKept : Type 0
 MissingOnesAreNotKept = (n : ℕ) (entries : List Accepted) (pairs : List Kept) (u : Tiling)
     → KeepsFirsts n entries pairs → IsMember n Perfect u → IsNotKept pairs u ↔ AreNotOf u entries

@@ -4,18 +4,18 @@ ghost use Rattle.std.specs.Prelude.{IfOk, OnErr, OnOk, [], ◌<◌, ◌≡◌, �
 ghost use Rattle.bk_ports.specs.Causes.{HasCause};
 ghost use Rattle.bk_word.specs.declared.Class.TheVariants.{Perfect};
 ghost use Rattle.bk_catalogue.specs.Following.{HasNoneAfter};
-ghost use Rattle.bk_verify_report.specs.Closing.{kept_of};
-ghost use Rattle.bk_verify_report.specs.Kept.{AreKeptAfter};
-ghost use Rattle.bk_verify_report.specs.Listing.{ClosesReport, IsClosingBegun, IsListed, IsListingBegun};
+ghost use Rattle.bk_verify_report.specs.ReportEnd.{kept_of_rest};
+ghost use Rattle.bk_verify_report.specs.KeptEntries.{AreKeptAfter};
+ghost use Rattle.bk_verify_report.specs.MissingLines.{AreMissingListed, ClosesReport, IsClosingBegun, IsListingBegun};
 
 use crate::entering::Verifying;
 use crate::rest::Rest;
 use crate::writing::{has_fault, write_missing_entry};
 use bk_grammar::AnswerBuffer;
+use bk_members::Members;
 use bk_play::Steps;
 use bk_ports::{Failed, Sink};
 use bk_report::{Last, write_verified};
-use bk_tree_walk::Members;
 use std::alloc::Global;
 use std::sync::ledger::{Blank, Ledger};
 
@@ -61,7 +61,8 @@ pub(crate) fn close_report<M: Members, L: Ledger, O: Sink>(
     close_rest(order, &mut rest, lines, &mut steps, buffer, out)
 }
 
-// The same by what is left of the members, which no line was written of yet, and by the counts of the lines.
+// Writes the missing members and the last line by what is left of the members, which no line was written of yet, and by
+// the counts of the lines.
 fn close_rest<M: Members, L: Ledger, O: Sink>(
     order: u8,
     rest: &mut Rest<M>,
@@ -74,8 +75,9 @@ fn close_rest<M: Members, L: Ledger, O: Sink>(
     requires order { rest.old.walk.order ≡ order }
     requires start { rest.old.walk.cursor ≡ [] }
     ensures closed { IfOk result (λ differs.
-        ClosesReport order (kept_of rest.old lines) differs (O.written out.old) (O.written out.new)) }
-    ensures begun { OnErr result (IsClosingBegun order (kept_of rest.old lines) (O.written out.old) (O.written out.new)) }
+        ClosesReport order (kept_of_rest rest.old lines) differs (O.written out.old) (O.written out.new)) }
+    ensures begun { OnErr result
+        (IsClosingBegun order (kept_of_rest rest.old lines) (O.written out.old) (O.written out.new)) }
     ensures cause { HasCause (O.faults out.old) (O.faults out.new) result }
 {
     let missing = write_missing_members(rest, steps, buffer, out)?;
@@ -101,10 +103,13 @@ fn write_missing_members<M: Members, L: Ledger, O: Sink>(
 ) -> Result<u64, Failed>
     requires most { rest.old.walk.order ≤ 16 }
     requires start { rest.old.walk.cursor ≡ [] }
-    ensures listed { IfOk result (λ missing. IsListed rest.old.walk.order rest.old.pairs rest.new.walk.cursor missing (O.written out.old) (O.written out.new)) }
+    ensures listed { IfOk result
+        (λ missing. AreMissingListed rest.old.walk.order rest.old.pairs rest.new.walk.cursor missing
+        (O.written out.old) (O.written out.new)) }
     ensures all { OnOk result (AreKeptAfter rest.old.walk.order rest.old.pairs rest.new.walk.cursor) }
     ensures ended { OnOk result (HasNoneAfter rest.old.walk.order Perfect rest.new.walk.cursor) }
-    ensures begun { OnErr result (IsListingBegun rest.old.walk.order rest.old.pairs (O.written out.old) (O.written out.new)) }
+    ensures begun { OnErr result
+        (IsListingBegun rest.old.walk.order rest.old.pairs (O.written out.old) (O.written out.new)) }
     ensures cause { HasCause (O.faults out.old) (O.faults out.new) result }
     ensures order { rest.new.walk.order ≡ rest.old.walk.order }
 {

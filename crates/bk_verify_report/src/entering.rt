@@ -1,7 +1,7 @@
 //! The lines of a list, entered one after another.
 
 ghost use Rattle.std.specs.Prelude.{IfOk, List, OnErr, OnOk, ◌+◌, ◌^◌, ◌≡◌, ◌≤◌};
-ghost use Rattle.bk_ports.specs.Answer.{HasOutcome, IsBegun};
+ghost use Rattle.bk_ports.specs.WrittenAnswer.{HasOutcome, IsAnswerBegun};
 ghost use Rattle.bk_ports.specs.Causes.{HasCause};
 ghost use Rattle.bk_answer.specs.Item.{HasTiling};
 
@@ -30,7 +30,7 @@ pub(crate) struct VerifyRegister {
     desk: Desk,
 }
 
-ghost use Rattle.bk_verify_report.specs.Entering.{CountsAreBelow, EntersLine, MayWantAt, none_entered};
+ghost use Rattle.bk_verify_report.specs.ListLine.{CountsAreBelow, EntersLine, MayWantAt, none_entered};
 ghost use Rattle.bk_verify_report.specs.declared.entering.Verifying.{Verifying};
 
 impl Model for VerifyRegister {
@@ -110,9 +110,11 @@ fn feed<O: Sink>(
     requires early { number ≤ 2 ^ 31 }
     requires ready { CountsAreBelow state.old number }
     requires has { HasTiling line.now tiling.now }
-    ensures outcome { IfOk result (λ o. HasOutcome (λ pieces refused. EntersLine state.old number line.now pieces refused state.new)
+    ensures outcome { IfOk result
+        (λ o. HasOutcome (λ pieces refused. EntersLine state.old number line.now pieces refused state.new)
         (MayWantAt state.old number line.now) (O.written out.old) (O.written out.new) o) }
-    ensures failed { OnErr result (IsBegun (λ pieces refused. (last : Verifying) × EntersLine state.old number line.now pieces refused last)
+    ensures failed { OnErr result (IsAnswerBegun (λ pieces refused. (last : Verifying)
+        × EntersLine state.old number line.now pieces refused last)
         (O.written out.old) (O.written out.new)) }
     ensures cause { HasCause (O.faults out.old) (O.faults out.new) result }
     ensures ready { OnOk result (CountsAreBelow state.new (number + 1)) }

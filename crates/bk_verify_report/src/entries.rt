@@ -1,8 +1,9 @@
 //! The entries of a list, held against a catalogue: what each of them is, and what is kept of them.
 
 ghost use Rattle.std.specs.Prelude.{IfOk, MatchOption, OnErr, [], length, ◌≡◌, ◌≤◌};
-ghost use Rattle.bk_verify_report.specs.Kept.{IsFed, IsFirstSight, IsKeptFrom, AreKeptEntries, IsNotKept};
-ghost use Rattle.bk_verify_report.specs.VerifyLaws.{AVerifierTellsTheTruth, AnEntryIsToldOneThing, MissingOnesAreNotKept, TruthsStay};
+ghost use Rattle.bk_verify_report.specs.KeptEntries.{IsFed, IsFirstSight, IsKeptFrom, AreKeptEntries, IsNotKept};
+ghost use Rattle.bk_verify_report.specs.VerifyLaws.{AVerifierTellsTheTruth, AnEntryIsToldOneThing};
+ghost use Rattle.bk_verify_report.specs.VerifyLaws.{MissingOnesAreNotKept, TruthsStay};
 
 use crate::kept::KeptMembers;
 use bk_simple::is_perfect_simple;
@@ -26,8 +27,8 @@ pub enum Fed {
 #[derive(Clone, Copy, Debug, PartialEq, Eq)]
 pub struct NoMemory;
 
-/// The entries of a list, held against the perfect catalogue of an order. It is seen as the order and the list of the pairs, each a
-/// line and the canonical tiling that was new there, in the order of first sight.
+/// The entries of a list, held against the perfect catalogue of an order. It is seen as the order and the list of the
+/// pairs, each a line and the canonical tiling that was new there, in the order of first sight.
 #[derive(Drop)]
 pub struct Entries {
     order: u8,
@@ -35,7 +36,7 @@ pub struct Entries {
 }
 
 impl Model for Entries {
-    ghost use Rattle.bk_verify_report.specs.Kept.{AreKeptEntries, EntriesState};
+    ghost use Rattle.bk_verify_report.specs.KeptEntries.{AreKeptEntries, EntriesState};
 
     ghost Value = { EntriesState };
 
@@ -57,9 +58,9 @@ impl Entries {
         }
     }
 
-    /// Feeds the entry of a line, and tells what it is: by its canonical tiling alone, which is a member where it has as many
-    /// squares as the order and is perfect and simple. A member that isn't kept is kept from this line, unless there is no
-    /// memory for it: then, as after each other answer, all is as before.
+    /// Feeds the entry of a line, and tells what it is: by its canonical tiling alone, which is a member where it has
+    /// as many squares as the order and is perfect and simple. A member that isn't kept is kept from this line, unless
+    /// there is no memory for it: then, as after each other answer, all is as before.
     pub fn feed(&mut self, line: u64, tiling: &Tiling) -> Result<Fed, NoMemory>
         ensures fed { IfOk result (λ fed. IsFed self.old line tiling.now fed self.new) }
         ensures unchanged { OnErr result (self.new ≡ self.old) }
@@ -103,8 +104,8 @@ pub fn an_entry_is_told_one_thing()
     ensures { AnEntryIsToldOneThing }
 {}
 
-/// What a verifier tells of an entry is the truth, where what it keeps are the first entries of the members that were fed;
-/// and then it keeps them again.
+/// What a verifier tells of an entry is the truth, where what it keeps are the first entries of the members that were
+/// fed; and then it keeps them again.
 pub fn a_verifier_tells_the_truth()
     ensures { AVerifierTellsTheTruth }
 {}

@@ -2,7 +2,7 @@
 
 ghost use Rattle.std.specs.Prelude.{List, MatchOption, MatchResult, OnErr, OnOk, [], length, ◌++◌, ◌∷◌, ◌≡◌, ◌≤◌};
 ghost use Rattle.bk_tiling.specs.Tiling.{IsTiling, sides_of};
-ghost use Rattle.bk_verify_report.specs.Kept.{IsKeptFrom, IsNotKept};
+ghost use Rattle.bk_verify_report.specs.KeptEntries.{IsKeptFrom, IsNotKept};
 
 use crate::entries::NoMemory;
 use arrayvec::ArrayVec;
@@ -36,13 +36,13 @@ pub(crate) struct KeptMembers {
 impl Model for KeptMembers {
     ghost use Rattle.std.specs.List.{AllByRecursion};
     ghost use Rattle.std.specs.Prelude.{List, map};
-    ghost use Rattle.bk_verify_report.specs.Kept.{Kept};
+    ghost use Rattle.bk_verify_report.specs.KeptEntries.{Kept};
 
     ghost Value = { List Kept };
 
-    ghost use Rattle.bk_verify_report.specs.Stored.{IsStoredMember, kept_of};
+    ghost use Rattle.bk_verify_report.specs.StoredMember.{IsStoredMember, kept_member};
 
-    ghost view = { λ m. map kept_of m.entries.entries };
+    ghost view = { λ m. map kept_member m.entries.entries };
 
     ghost invariant = { λ m. AllByRecursion IsStoredMember m.entries.entries };
 }

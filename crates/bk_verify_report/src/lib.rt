@@ -1,5 +1,5 @@
-//! Lists that are held against a catalogue: what an entry of a list is among all its entries, what is told of the lines, and the report
-//! that they make.
+//! Lists that are held against a catalogue: what an entry of a list is among all its entries, what is told of the
+//! lines, and the report that they make.
 #![tactic(auto)]
 
 ghost use Rattle.bk_verify_report.specs.ReportLaw.{AListHasOneReport};

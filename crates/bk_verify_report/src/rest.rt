@@ -4,19 +4,19 @@ ghost use Rattle.std.specs.Prelude.{IfNone, IfOk, IfSome, IsNone, IsOk, IsTrue, 
 ghost use Rattle.bk_code.specs.Code.{code_of as code_seen};
 ghost use Rattle.bk_word.specs.declared.Class.TheVariants.{Perfect};
 ghost use Rattle.bk_catalogue.specs.Following.{HasNoneAfter};
-ghost use Rattle.bk_verify_report.specs.Kept.{AreKeptAfter, CountsMembers, IsNextMissing, IsUpTo};
+ghost use Rattle.bk_verify_report.specs.KeptEntries.{AreKeptAfter, CountsMembers, IsNextMissing, IsUpTo};
 ghost use Rattle.bk_verify_report.specs.Rest.{rest_of};
 
 use crate::Entries;
+use bk_members::{Entry, Members, WideAt};
 use bk_play::Steps;
-use bk_tree_walk::{Entry, Members, WideAt};
 use bk_word::{Class, Word};
 use std::alloc::Global;
 use std::marker::Model;
 use std::sync::ledger::Ledger;
 
-/// What a verifier leaves once all entries are fed: it goes through the catalogue and names each member that isn't kept. It
-/// is seen as the kept pairs and a walk. No wide word comes on the way, for no word of its orders is wide
+/// What a verifier leaves once all entries are fed: it goes through the catalogue and names each member that isn't
+/// kept. It is seen as the kept pairs and a walk. No wide word comes on the way, for no word of its orders is wide
 /// (`bk_skel::no_small_word_is_wide`). No call takes memory.
 #[derive(Drop)]
 pub struct Rest<M: Members> {
@@ -48,12 +48,14 @@ impl<M: Members> Rest<M> {
         }
     }
 
-    /// Goes on to the least member after the cursor that isn't kept, and gives it with its code and its word, which is the
-    /// cursor then. `None` comes only where each member after the cursor is kept; no member follows the cursor then, and each
-    /// later call gives `None`. `Err` would name a wide word of the order, but there is none, so it never comes.
+    /// Goes on to the least member after the cursor that isn't kept, and gives it with its code and its word, which is
+    /// the cursor then. `None` comes only where each member after the cursor is kept; no member follows the cursor
+    /// then, and each later call gives `None`. `Err` would name a wide word of the order, but there is none, so it
+    /// never comes.
     pub fn advance<L: Ledger>(&mut self, steps: &mut Steps<L>) -> Option<Result<Entry, WideAt>>
         ensures entry { IfSome result (λ r. IfOk r (λ e.
-            IsNextMissing self.old.walk.order self.old.pairs self.old.walk.cursor e.tiling e.word × (e.code ≡ code_seen e.tiling))) }
+            IsNextMissing self.old.walk.order self.old.pairs self.old.walk.cursor e.tiling e.word
+            × (e.code ≡ code_seen e.tiling))) }
         ensures narrow { IfSome result (λ r. IsOk r) }
         ensures none { IfNone result (AreKeptAfter self.old.walk.order self.old.pairs self.old.walk.cursor) }
         ensures cursor { MatchOption result (HasNoneAfter self.old.walk.order Perfect self.new.walk.cursor)
@@ -71,8 +73,9 @@ impl<M: Members> Rest<M> {
         Some(Ok(entry))
     }
 
-    // The same with an entry that is there: `true` comes where `advance` gives a member, and `entry` becomes that member with
-    // its code and its word, whatever it was; `false` comes where `advance` gives `None`. It counts the members that it passes.
+    // What `advance` does, with an entry that is there: `true` comes where `advance` gives a member, and `entry`
+    // becomes that member with its code and its word, whatever it was; `false` comes where `advance` gives `None`. It
+    // counts the members that it passes.
     pub(crate) fn advance_in<L: Ledger>(&mut self, steps: &mut Steps<L>, entry: &mut Entry) -> bool
         ensures entry { IsTrue result →
             IsNextMissing self.old.walk.order self.old.pairs self.old.walk.cursor entry.new.tiling entry.new.word }

@@ -5,7 +5,7 @@ ghost use Rattle.std.specs.Prelude.{OnErr, OnOk, length, ◌+◌, ◌<◌, ◌�
 ghost use Rattle.bk_ports.specs.Causes.{AppendsPrefix, HasCause};
 ghost use Rattle.bk_code.specs.Code.{code_of as code_seen};
 ghost use Rattle.bk_report.specs.ListLines.{missing_line};
-ghost use Rattle.bk_verify_report.specs.Running.{TellsFaults};
+ghost use Rattle.bk_verify_report.specs.VerifyRun.{TellsFaults};
 
 use bk_code::Code;
 use bk_grammar::AnswerBuffer;
@@ -25,7 +25,8 @@ pub(crate) fn write_missing_entry<O: Sink>(
     requires code { code.now ≡ code_seen tiling.now }
     requires some { 0 < length word.now }
     ensures written { OnOk result (Appends (O.written out.old) (O.written out.new) (missing_line tiling.now word.now)) }
-    ensures begun { OnErr result (AppendsPrefix (O.written out.old) (O.written out.new) (missing_line tiling.now word.now)) }
+    ensures begun { OnErr result
+        (AppendsPrefix (O.written out.old) (O.written out.new) (missing_line tiling.now word.now)) }
     ensures cause { HasCause (O.faults out.old) (O.faults out.new) result }
 {
     write_missing(tiling, code, word, buffer);

@@ -4,14 +4,13 @@ use Rattle.bk_tiling.specs.Tiling.{Tiling}
 use Rattle.bk_word.specs.Word.{Word, order_of}
 use Rattle.bk_word.specs.declared.Class.{Class}
 use Rattle.bk_catalogue.specs.Catalogue.{IsEntry}
-use Rattle.bk_catalogue.proofs.OneEntry.{entry_complete}
+use Rattle.bk_catalogue.proofs.Members.OneEntry.{entry_complete}
 use Rattle.std.proofs.lemmas.List.{take_all}
-use Rattle.bk_tree_walk.specs.declared.Found.{Found}
 use Rattle.bk_tree_walk.specs.Search.{Ends, Finds, HasPassed, Meets}
 use Rattle.bk_catalogue.specs.Tree.{IsAtMostTree}
-use Rattle.bk_catalogue.proofs.TreeCounts.{at_least_fewer}
+use Rattle.bk_catalogue.proofs.TreeOfWords.TreeCounts.{at_least_fewer}
 use Rattle.bk_catalogue.specs.Following.{HasNoneAfter}
-use Rattle.bk_tree_walk.specs.Walking.{IsNextMember}
+use Rattle.bk_members.specs.Walking.{IsNextMember}
 use Rattle.bk_walk.specs.KeptWalk.{IsKeptWalk}
 
 module _ (n : ℕ) (class : Class) (cursor place : Word) (p : HasPassed n class cursor place 0) (start began ended : ℕ) (few : began ≤ start + 16) where
@@ -19,7 +18,7 @@ module _ (n : ℕ) (class : Class) (cursor place : Word) (p : HasPassed n class 
   pub none_after : Ends n class place (ended - began) → HasNoneAfter n class cursor
   none_after e = (e cursor 0 p).passed
 
-  -- and all steps are at most 16 more than the tree has words after the cursor
+  -- where the search ends, all steps are at most 16 more than the tree has words after the cursor
   pub steps_to_end : Ends n class place (ended - began) → IsAtMostTree n cursor None (ended - start)
   steps_to_end e = at_least_fewer n cursor None (0 + (ended - began)) (ended - start - 16) (omega arith) (e cursor 0 p).count
 
@@ -28,7 +27,7 @@ module _ (n : ℕ) (class : Class) (cursor place : Word) (p : HasPassed n class 
   steps_to_word word found same m = subst (λ (w : Word). IsAtMostTree n cursor (Some w) (ended - start)) (sym same)
       (at_least_fewer n cursor (Some word) (0 + (ended - began)) (ended - start - 16) (omega arith) (m cursor 0 p).count)
 
-  -- and the member that it finds is the least after the cursor
+  -- the member that a search finds is the least after the cursor
   pub next_member : (t : Tiling) (word found : Word) → found ≡ word → IsEntry n class (record { tiling = t; word = word })
       → Meets n class place word (ended - began) → IsNextMember n class cursor t found
   next_member t word found same is m = subst (λ (w : Word). IsNextMember n class cursor t w) (sym same)
@@ -47,11 +46,11 @@ kept_at_end n class cursor played pushes least most few e none known = record {
   known = known;
 }
 
--- what a search finds, of its order and class
-pub finds_of : (n m : ℕ) (class other : Class) (place front : Word) (met : ℕ) (found : Found) → m ≡ n → other ≡ class → Finds m other place front met found
-    → Finds n class place front met found
-finds_of n m class other place front met found e f finds = subst (λ (k : Class). Finds n k place front met found) f
-    (subst (λ (k : ℕ). Finds k other place front met found) e finds)
+-- what a search finds, of its order and class, where it is known whether that is a member
+pub finds_of : (n m : ℕ) (class other : Class) (place front : Word) (met : ℕ) (found known : Bool) → m ≡ n → other ≡ class → found ≡ known
+    → Finds m other place front met found → Finds n class place front met known
+finds_of n m class other place front met found known e f is finds = subst (λ (k : Class). Finds n k place front met known) f
+    (subst (λ (k : ℕ). Finds k other place front met known) e (subst (Finds m other place front met) is finds))
 
 -- a member's word is of its order
 pub members_order : (n : ℕ) (class : Class) (t : Tiling) (word : Word) → IsEntry n class (record { tiling = t; word = word }) → order_of word ≡ n

@@ -1,6 +1,6 @@
 -- What a search finds at a complete word: the one tiling that is tried there is each image of a member that is met by the word. And what it keeps
 -- are the numbers of members alone.
-use Rattle.std.proofs.Common.{Contains, None, Option, Some, ap, arith, false, inl, inr, length, map, subst, suc, sym, true, zero, ℕ, ◌/◌, ◌<◌, ◌∙◌}
+use Rattle.std.proofs.Common.{Contains, None, Option, Some, ap, arith, inl, inr, length, map, subst, suc, sym, zero, ℕ, ◌/◌, ◌<◌, ◌∙◌}
 use Rattle.std.proofs.Common.{◌∷◌, ◌≡◌, ◌≤◌, ◌⊎◌}
 use Rattle.bk_tiling.specs.Scale.{IsPrimitiveTiling}
 use Rattle.bk_tiling.specs.Tiling.{IsTiling, Tiling}
@@ -17,13 +17,13 @@ use Rattle.bk_sym.specs.declared.Turn.{Turn}
 use Rattle.bk_word.specs.Word.{Word}
 use Rattle.bk_word.specs.declared.Class.{Class}
 use Rattle.bk_catalogue.specs.Catalogue.{Entry, IsEntry, IsMember, IsOfClass}
-use Rattle.bk_layout.proofs.NormalImages.{each_image_is_a_members}
+use Rattle.bk_layout.proofs.NormalImages.ImagesToMeet.{each_image_is_a_members}
 use Rattle.bk_layout.specs.NormalImage.{IsMetByNormalWord}
 use Rattle.bk_found.specs.Found.{IsFound, IsPlacementOf}
 use Rattle.bk_found.specs.declared.placing.Placed.{Placed}
 use Rattle.bk_lay.specs.TilingWord.{IsWordOf}
 use Rattle.bk_found.proofs.AscendingNumbers.{AreSame, all_map, all_same}
-use Rattle.bk_found.specs.Kept.{HasMoreDifferent, Holds, Numbers}
+use Rattle.bk_found.specs.KeptNumbers.{HasMoreDifferent, Holds, Numbers}
 use Rattle.bk_found.specs.Packed.{packed}
 use Rattle.bk_walk.specs.Finding.{Finding, HasMet, HasMoreMembers, HasOnlyMembers, IsHeld, IsMembersNumber, Wanted, wanted}
 
@@ -31,6 +31,7 @@ use Rattle.bk_walk.specs.Finding.{Finding, HasMet, HasMoreMembers, HasOnlyMember
 pub found_here : (t : Tiling) (found : Option Placed) (p : Placed) → IsFound t found → found ≡ Some p → IsPlacementOf t p
 found_here t found p (q, e, place) is = let same : q ≡ p = cc in subst (IsPlacementOf t) same place
 
+-- where something is found for a tiling, it is not nothing
 pub found_none : (t : Tiling) (found : Option Placed) → IsFound t found → found ≡ None → ⊥
 found_none t found (q, e, place) is = absurd (cc)
 
@@ -49,10 +50,6 @@ found_image w found s all e turn is met =
 pub met_nothing : (w : Word) (found : Option Placed) (s : Finding) → FindsAll w s.class found → found ≡ None → HasMet s w
 met_nothing w found s all none e turn is met = absurd (found_none (image turn e.tiling) found (found_image w found s all e turn is met) none)
 
--- what is refused isn't accepted
-pub accepts : {A : Type 0} → false ≡ true → A
-accepts e = absurd (cc)
-
 -- searches for the same have the same members
 same_entry : (s u : Finding) → wanted u ≡ wanted s → (e : Entry) → IsEntry u.order u.class e → IsEntry s.order s.class e
 same_entry s u same e is = subst (λ (w : Wanted). IsEntry w.order w.class e) same is
@@ -67,7 +64,7 @@ met_placed w found p s u all is_p same put e turn is met least =
     here : IsEntry s.order s.class e
     here = same_entry s u same e is
 
--- and what was held still is
+-- what was held is still held
 pub still_met : (s u : Finding) → wanted u ≡ wanted s → ((x : ℕ) → Holds s.numbers x → Holds u.numbers x) → (w : Word) → HasMet s w → HasMet u w
 still_met s u same kept w met e turn is by least =
     kept (packed e.word) (met e turn (same_entry s u same e is) by (omega (arith, least, ap (λ (w : Wanted). w.from) same)))
@@ -89,7 +86,7 @@ as_many t c canonical =
     ∙ length-map scaled.squares (image_square canonical.turn scaled.width scaled.height)
     ∙ length-map t.squares f
 
--- and what passes the tests is a member
+-- a tiling that passes the tests is a member
 pub is_member : (n : ℕ) (class : Class) (u c : Tiling) → IsTiling u → IsTiling c → IsCanonicalOf u c → length u.squares ≡ n → IsSimple c
     → IsOfClass class c → IsMember n class c
 is_member n class u c tiling own canonical order simple of_class = record {
@@ -135,7 +132,7 @@ more_members room s x only is more = record {
     each y (zero, low, same) = subst (IsMembersNumber s) same is
     each y (suc k, low, same) = only y (k, omega (arith, low), same)
 
--- and so for a search of the same that keeps others
+-- a search of one order and class that keeps other numbers has as many members too
 pub as_many_members : (room : ℕ) (s u : Finding) → wanted u ≡ wanted s → HasMoreMembers room s → HasMoreMembers room u
 as_many_members room s u same more = record {
   numbers = more.numbers;

@@ -7,7 +7,7 @@ use Rattle.bk_word.specs.Word.{Move, Word, order_of}
 use Rattle.bk_word.proofs.PlayLaws.{legal_rest}
 use Rattle.bk_word.proofs.StoredBytes.{order_append, order_more, order_one}
 use Rattle.bk_found.specs.Packed.{packed}
-use Rattle.bk_found.specs.Reading.{GoesOnByNumber}
+use Rattle.bk_found.specs.ReadMoves.{GoesOnByNumber}
 use Rattle.bk_walk.specs.Leaping.{GoesToWord, IsAtNumber}
 use Rattle.bk_tree_walk.specs.Search.{IsKeptSearch, SearchState, StaysOf}
 use Rattle.bk_tree_walk.proofs.StateLaws.{down_from, stays_one}
@@ -32,6 +32,7 @@ pub record IsNextTo (n : ℕ) (front : Word) (number : ℕ) (next : Move) : Type
   pub few : order_of front + next.count ≤ n
   pub goes : GoesToWord n (front ++ next ∷ []) number
 
+-- the move that is read from a word's number, with too few squares so far, leads on to that word
 pub next_to : (n : ℕ) (front : Word) (number : ℕ) (next : Move) → GoesOnByNumber front number → n ≤ 16 → GoesToWord n front number → order_of front < n
     → ((k : Move) (rest : Word) → IsLegal (front ++ k ∷ rest) → order_of (front ++ k ∷ rest) ≤ 16 → packed (front ++ k ∷ rest) ≡ number → next ≡ k)
     → IsNextTo n front number next
@@ -67,28 +68,34 @@ module _ (n : ℕ) (t : SearchState) (number : ℕ) (goes : GoesToWord n t.front
   most : n ≤ 16
   most = omega (arith, kept.most, order)
 
+  -- a search before the end of a word's number can go on by that number
   pub going_by : GoesOnByNumber read number
   going_by = subst (λ (w : Word). GoesOnByNumber w number) (sym same) (goes_by n t.front number goes few most)
 
+  -- a move that each reading of the number agrees on is the one that leads to its word
   pub going_next : (m : Move) → ((k : Move) (rest : Word) → IsLegal (read ++ k ∷ rest) → order_of (read ++ k ∷ rest) ≤ 16
       → packed (read ++ k ∷ rest) ≡ number → m ≡ k) → IsNextTo n t.front number m
   going_next m by_number = next_to n t.front number m (goes_by n t.front number goes few most) most goes few
       (subst (λ (w : Word). (k : Move) (rest : Word) → IsLegal (w ++ k ∷ rest) → order_of (w ++ k ∷ rest) ≤ 16 → packed (w ++ k ∷ rest) ≡ number → m ≡ k)
       same by_number)
 
--- and comes nearer by it, one step for one move
+-- a move played to the word of a number brings a search nearer to it, one step for one move
 module _ (t u : SearchState) (m : Move) (is : u ≡ down_from t m) where
+  -- a move that leads on to a word leaves fewer squares to come
   pub played_nearer : (n number : ℕ) → t.order ≡ n → IsNextTo n t.front number m → u.order - order_of u.front < t.order - order_of t.front
   played_nearer n number order next =
       omega (arith, ap (λ (s : SearchState). s.order - order_of s.front) is, order_one t.front m, (next.legal).some, next.few, order)
 
+  -- after a move that leads on to a word the search still goes to that word
   pub played_goes : (n number : ℕ) → IsNextTo n t.front number m → GoesToWord n u.front number
   played_goes n number next = subst (λ (s : SearchState). GoesToWord n s.front number) (sym is) next.goes
 
+  -- one move played is one step counted for one move of the word
   pub played_each : (before first steps then : ℕ) → steps + first ≡ before + length t.front → then ≡ steps + 1 → then + first ≡ before + length u.front
   played_each before first steps then each one =
       omega (arith, each, one, ap (λ (s : SearchState). length s.front) is, length-append t.front (m ∷ []))
 
+  -- a move played to a word counts as one push and keeps the search's order and class
   pub played_stays : (steps then : ℕ) → then ≡ steps + 1 → StaysOf t u steps then
   played_stays steps then one = stays_one t u steps then (ap (λ (s : SearchState). s.order) is) (ap (λ (s : SearchState). s.class) is)
       (ap (λ (s : SearchState). s.pushes) is) one

@@ -5,6 +5,7 @@ use Rattle.std.specs.Ordering.{ordering_then}
 use Rattle.std.proofs.Common.{[], ap, append_assoc, arith, drop, inl, inr, length, refl, subst, sym, take, ℕ, ◌++◌, ◌+◌, ◌<◌, ◌∙◌, ◌∷◌}
 use Rattle.std.proofs.Common.{◌≡◌, ◌≤◌, ◌⊎◌}
 use Rattle.std.proofs.lemmas.List.{append-nil, length-append, length-take-le, take-append-drop, take_all, take_at}
+use Rattle.bk_laws.proofs.Orderings.{greater-is_not_less}
 use Rattle.bk_word.specs.Outline.{start}
 use Rattle.bk_word.specs.Play.{IsLegal, outline_of}
 use Rattle.bk_word.specs.Word.{Follows, Move, Word, move_cmp, order_of, word_cmp}
@@ -13,9 +14,8 @@ use Rattle.bk_word.proofs.PlayLaws.{legal_front, legal_rest}
 use Rattle.bk_word.proofs.StoredBytes.{order_append, order_more}
 use Rattle.bk_word.proofs.WordOrder.{follows_trans, move_same}
 use Rattle.bk_catalogue.specs.Catalogue.{Entry, IsEntry}
-use Rattle.bk_found.specs.Reading.{IsSharedFront}
-use Rattle.bk_catalogue.proofs.MoveOrder.{greater}
-use Rattle.bk_catalogue.proofs.Places.{before_first, before_one, front_cmp, not_before_first}
+use Rattle.bk_found.specs.ReadMoves.{IsSharedFront}
+use Rattle.bk_catalogue.proofs.TreeOfWords.Places.{before_first, before_one, front_cmp, not_before_first}
 use Rattle.bk_catalogue.specs.NextMove.{first_move}
 use Rattle.bk_tree_walk.proofs.Advancing.{before_not_before, before_or, met_at, met_on}
 use Rattle.bk_tree_walk.proofs.SearchSteps.{fewer_at}
@@ -140,7 +140,7 @@ module _ (n : ℕ) (class : Class) (word : Word) (tree : IsTreeWord n word) wher
 
         cases : (r : Ordering) → move_cmp k l ≡ r → ⊥
         cases Less e = not_before (ap (λ z. ordering_then z (word_cmp rest (behind ++ x ∷ []))) e)
-        cases Greater e = greater (sym (ap (λ z. ordering_then z (word_cmp [] (behind ++ x ∷ []))) e) ∙ before)
+        cases Greater e = greater-is_not_less (sym (ap (λ z. ordering_then z (word_cmp [] (behind ++ x ∷ []))) e) ∙ before)
         cases Equal e = s.most (omega (arith, many, long)) rest (is ∙ ap (λ (m : Move). take moves front ++ m ∷ rest) (move_same k l e)
             ∙ sym (append_assoc (take moves front) (l ∷ []) rest) ∙ sym (ap (λ (v : Word). v ++ rest) one_more))
 

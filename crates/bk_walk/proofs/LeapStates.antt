@@ -3,9 +3,9 @@ use Rattle.std.proofs.Common.{ap, arith, length, subst, sym, take, ℕ, ◌+◌,
 use Rattle.std.proofs.lemmas.List.{length-append, length-take-le}
 use Rattle.bk_word.specs.Play.{IsLegal}
 use Rattle.bk_word.specs.Word.{Word, order_of}
-use Rattle.bk_catalogue.proofs.OneEntry.{entry_complete}
+use Rattle.bk_catalogue.proofs.Members.OneEntry.{entry_complete}
 use Rattle.bk_found.specs.Packed.{packed}
-use Rattle.bk_found.specs.Reading.{IsSharedFront}
+use Rattle.bk_found.specs.ReadMoves.{IsSharedFront}
 use Rattle.bk_tree_walk.proofs.Advancing.{entry_word}
 use Rattle.bk_walk.proofs.LeapLaws.{leap_meets}
 use Rattle.bk_walk.proofs.PlaceLaws.{same_word}
@@ -14,6 +14,7 @@ use Rattle.bk_tree_walk.specs.WholeWords.{IsMembersWord}
 use Rattle.bk_tree_walk.specs.Search.{IsKeptSearch, IsReady, Meets, SearchState, place_of}
 
 module _ (s : SearchState) (kept : IsKeptSearch s) (ready : IsReady s) (number : ℕ) (next : IsNextFrom s.order s.class (place_of s) number) where
+  -- the word of the entry to which the search leaps
   abbrev pub leap_word : Word
   leap_word = (next.entry).word
 
@@ -37,7 +38,7 @@ module _ (s : SearchState) (kept : IsKeptSearch s) (ready : IsReady s) (number :
     pub leap_goes : GoesToWord s.order (take moves s.front) number
     leap_goes = record { word = leap_word; rest = shared.rest; is = shared.is; legal = leap_legal; order = leap_order; number_is = next.number_is }
 
-    -- and there it comes
+    -- a search that has gone on to the number is at the word of the leap
     module _ (front : Word) (at : IsAtNumber s.order front number) where
       leap_is : leap_word ≡ front
       leap_is = same_word s.order leap_word front leap_legal at.legal leap_order at.order kept.most (next.number_is ∙ sym at.number_is)

@@ -1,8 +1,8 @@
 -- Tables of the order 2 and the class imperfect, whose one member is the row of two squares of side 1, with the word 2e.
 use Rattle.std.proofs.Common.{List, None, Some, [], ap, arith, inl, inr, lit<, refl, suc, zero, ℕ, ◌∙◌, ◌∷◌, ◌≡◌}
 use Rattle.bk_word.specs.declared.Class.TheVariants.{Imperfect}
-use Rattle.bk_catalogue.proofs.CatalogueExamples.{entry_is, row_entry, row_word, row_word_of}
-use Rattle.bk_found.specs.Kept.{Holds}
+use Rattle.bk_catalogue.proofs.Members.CatalogueExamples.{entry_is, row_entry, row_word, row_word_of}
+use Rattle.bk_found.specs.KeptNumbers.{Holds}
 use Rattle.bk_found.specs.Packed.{packed}
 use Rattle.bk_walk.specs.Finding.{Finding, HasOnlyMembers, IsMembersNumber}
 use Rattle.bk_walk.specs.Members.{HasNoneFrom, IsNextNumber, IsWhole}

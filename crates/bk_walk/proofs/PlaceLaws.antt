@@ -9,16 +9,16 @@ use Rattle.bk_word.specs.declared.Class.{Class}
 use Rattle.bk_word.proofs.PlayLaws.{legal-snoc}
 use Rattle.bk_word.proofs.StoredBytes.{order_one}
 use Rattle.bk_catalogue.specs.Catalogue.{Entry, IsEntry}
-use Rattle.bk_catalogue.proofs.OneEntry.{entry_complete}
+use Rattle.bk_catalogue.proofs.Members.OneEntry.{entry_complete}
 use Rattle.bk_found.specs.Packed.{packed}
 use Rattle.bk_found.proofs.PackedOrder.{packed_places_compare, packed_words_compare}
-use Rattle.bk_catalogue.proofs.Places.{word_same}
+use Rattle.bk_catalogue.proofs.TreeOfWords.Places.{word_same}
 use Rattle.bk_tree_walk.proofs.Advancing.{entry_word}
 use Rattle.bk_walk.specs.Leaping.{Tells, TellsOfPlace}
 use Rattle.bk_tree_walk.specs.Search.{GoesOnFrom, IsKeptSearch, IsReady, SearchState, StaysOf, StepLeadsTo, place_of}
 use Rattle.bk_tree_walk.specs.declared.Went.{Went}
-use Rattle.bk_walk.specs.declared.tabled.Told.{Told}
-use Rattle.bk_walk.specs.declared.tabled.Told.TheVariants.{Next, NoMore, Nothing}
+use Rattle.bk_walk.specs.declared.tabled.TableAnswer.{TableAnswer}
+use Rattle.bk_walk.specs.declared.tabled.TableAnswer.TheVariants.{Next, NoMore, Nothing}
 
 -- the place is a word of the tree
 module _ (n : ℕ) (class : Class) (place : Word) (legal : IsLegal place) (small : order_of place ≤ n) (most : n ≤ 16) where
@@ -27,7 +27,7 @@ module _ (n : ℕ) (class : Class) (place : Word) (legal : IsLegal place) (small
       (omega (arith, small, (entry_complete n class e is).1)) (omega (arith, most, (entry_complete n class e is).1))).0 from
 
   -- by numbers, and so by words
-  pub tells_of_place : (told : Told) → Tells n class (packed place) told → TellsOfPlace n class place told
+  pub tells_of_place : (told : TableAnswer) → Tells n class (packed place) told → TellsOfPlace n class place told
   tells_of_place (Next number) t = record {
     entry = t.entry;
     is = t.is;
@@ -44,7 +44,7 @@ module _ (n : ℕ) (class : Class) (place : Word) (legal : IsLegal place) (small
   tells_of_place Nothing t = tt
 
 -- what is told by the number of a search's place
-pub tells_here : (s : SearchState) (front : Word) (next : Move) (n : ℕ) (class : Class) (number : ℕ) (told : Told) → IsKeptSearch s → IsReady s
+pub tells_here : (s : SearchState) (front : Word) (next : Move) (n : ℕ) (class : Class) (number : ℕ) (told : TableAnswer) → IsKeptSearch s → IsReady s
     → front ≡ s.front → next ≡ s.next → n ≡ s.order → class ≡ s.class → number ≡ packed (front ++ next ∷ []) → Tells n class number told
     → TellsOfPlace s.order s.class (place_of s) told
 tells_here s front next n class number told kept ready same same_next same_order same_class is t = tells_of_place s.order s.class (place_of s)

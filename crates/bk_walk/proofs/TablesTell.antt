@@ -1,5 +1,5 @@
 -- What a table of members tells of those from a number on.
-use Rattle.std.proofs.Common.{None, Option, Some, false, is_some, refl, subst, sym, ℕ, ◌≡◌, ◌≤◌}
+use Rattle.std.proofs.Common.{None, subst, sym, ℕ, ◌≡◌, ◌≤◌}
 use Rattle.bk_word.specs.declared.Class.{Class}
 use Rattle.bk_catalogue.specs.Catalogue.{Entry, IsEntry}
 use Rattle.bk_found.specs.Packed.{packed}
@@ -24,14 +24,9 @@ tells_next t n class bound number order of_class from next = record {
     there : (e : Entry) → IsEntry n class e → IsEntry t.order t.class e
     there e is = subst (λ (k : Class). IsEntry t.order k e) (sym of_class) (subst (λ (k : ℕ). IsEntry k class e) (sym order) is)
 
--- and that it has none
+-- if the table of an order and a class has no number from a bound on and dropped none, no entry has one
 pub tells_none : (t : Finding) (n : ℕ) (class : Class) (bound : ℕ) → t.order ≡ n → t.class ≡ class → t.from ≤ bound → t.numbers.limit ≡ None
     → HasNoneFrom t bound → (e : Entry) → IsEntry n class e → bound ≤ packed e.word → ⊥
 tells_none t n class bound order of_class from whole none e is above =
     none.none from whole e (subst (λ (k : Class). IsEntry t.order k e) (sym of_class) (subst (λ (k : ℕ). IsEntry k class e) (sym order) is))
     above
-
--- where none was dropped there is no limit
-pub no_limit : (limit : Option ℕ) → is_some limit ≡ false → limit ≡ None
-no_limit None e = refl
-no_limit (Some n) e = absurd (cc)

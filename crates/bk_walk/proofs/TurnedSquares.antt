@@ -7,7 +7,7 @@ use Rattle.bk_tiling.proofs.PuttingInOrder.{from_order, in_order, ordered}
 use Rattle.bk_tiling.proofs.Scaling.{same_members}
 use Rattle.bk_tiling.proofs.TilingLaws.{cell_once, side_of, within_of}
 use Rattle.bk_tiling.specs.CodeOrder.{in_code_order}
-use Rattle.bk_tiling.specs.Kept.{IsSide}
+use Rattle.bk_tiling.specs.KeptTiling.{IsSide}
 use Rattle.bk_tiling.specs.Refusal.{IsAccepted}
 use Rattle.bk_tiling.specs.Tiling.{IsOneOf, IsTiling, IsWithin, Tiles, Tiling, covers, whole}
 use Rattle.bk_tiling.specs.declared.Square.{Square}
@@ -17,8 +17,7 @@ use Rattle.bk_sym.proofs.KeptImages.{made, side-image_square}
 use Rattle.bk_sym.specs.Image.{image, image_size, image_square}
 use Rattle.bk_sym.specs.Turns.{after}
 use Rattle.bk_sym.specs.declared.Turn.{Turn}
-use Rattle.bk_sym.specs.declared.Turn.TheVariants.{FlipX, FlipY, Half, Same, Swap, SwapFlipX, SwapFlipY, SwapHalf}
-use Rattle.bk_catalogue.proofs.Carrying.{count_mapped}
+use Rattle.bk_catalogue.proofs.Members.Carrying.{count_mapped}
 use Rattle.bk_found.specs.Found.{IsPlacementOf}
 use Rattle.bk_found.specs.declared.placing.Placed.{Placed}
 
@@ -69,7 +68,7 @@ module _ (u : Tiling) (tiling : IsTiling u) (xs : List Square) (same : in_code_o
   as_many : length (map (image_square turn u.width u.height) xs) ≡ length xs
   as_many = length-map xs (image_square turn u.width u.height)
 
-  -- and they tile its rectangle
+  -- the turned squares tile the rectangle of the image
   they_tile : Tiles (whole (image turn u)) (map (image_square turn u.width u.height) xs)
   they_tile = record {
     some = omega (arith, as_many, in_code_order-length xs, ap length same, tiling.tiles.some);
@@ -114,31 +113,7 @@ turned_placement u p turn w h squares tiling place size is = (
     moved = is ∙ ap (λ n. map (image_square turn n p.height) p.squares.items) place.width
         ∙ ap (λ n. map (image_square turn u.width n) p.squares.items) place.height
 
--- the size of a rectangle by a turn by which it lies
-pub high_lying : (turn : Turn) (w h : ℕ) → (image_size turn w h).1 ≤ (image_size turn w h).0 → w < h → (h, w) ≡ image_size turn w h
-high_lying Same w h lies high = absurd (omega (arith, lies, high))
-high_lying FlipX w h lies high = absurd (omega (arith, lies, high))
-high_lying FlipY w h lies high = absurd (omega (arith, lies, high))
-high_lying Half w h lies high = absurd (omega (arith, lies, high))
-high_lying Swap w h lies high = refl
-high_lying SwapFlipX w h lies high = refl
-high_lying SwapFlipY w h lies high = refl
-high_lying SwapHalf w h lies high = refl
-
-exchanged : (w h : ℕ) → w ≤ h → h ≤ w → ◌≡◌ {A = ℕ × ℕ} (w, h) (h, w)
-exchanged w h a b = let e : w ≡ h = omega arith in λ i. (e i, sym e i)
-
-pub wide_lying : (turn : Turn) (w h : ℕ) → (image_size turn w h).1 ≤ (image_size turn w h).0 → h ≤ w → (w, h) ≡ image_size turn w h
-wide_lying Same w h lies wide = refl
-wide_lying FlipX w h lies wide = refl
-wide_lying FlipY w h lies wide = refl
-wide_lying Half w h lies wide = refl
-wide_lying Swap w h lies wide = exchanged w h lies wide
-wide_lying SwapFlipX w h lies wide = exchanged w h lies wide
-wide_lying SwapFlipY w h lies wide = exchanged w h lies wide
-wide_lying SwapHalf w h lies wide = exchanged w h lies wide
-
--- and so, where they are a placement of an image of a tiling, they make an image of this tiling
+-- turned squares of a placement of an image of a tiling make an image of this tiling
 pub turned_image : (t : Tiling) (turn : Turn) (p : Placed) (which : Turn) (w h : ℕ) (squares : List Square) → IsTiling t → IsPlacementOf (image turn t) p
     → (w, h) ≡ image_size which p.width p.height → squares ≡ map (image_square which p.width p.height) p.squares.items
     → IsAccepted w h squares × (record { width = w; height = h; squares = in_code_order squares } ≡ image (after which turn) t)

@@ -1,17 +1,18 @@
 -- A table that a search has filled is whole, since each member has an image with a word that the search has met; and what a whole table tells of the numbers
 -- from a bound on.
 use Rattle.std.specs.List.{AllByRecursion}
-use Rattle.std.proofs.Common.{Contains, List, None, Some, [], ap, arith, inl, inr, subst, suc, sym, zero}
+use Rattle.std.proofs.Common.{Contains, None, Some, [], ap, arith, inl, inr, subst, sym}
 use Rattle.std.proofs.Common.{ℕ, ◌<◌, ◌∙◌, ◌∷◌, ◌≡◌, ◌≤◌}
+use Rattle.bk_laws.proofs.Membership.{all-contains}
 use Rattle.bk_word.proofs.StoredBytes.{order_more}
 use Rattle.bk_word.specs.Play.{IsComplete}
 use Rattle.bk_word.specs.Word.{Word, order_of}
 use Rattle.bk_word.specs.declared.Class.{Class}
 use Rattle.bk_catalogue.specs.Catalogue.{Entry, IsEntry}
-use Rattle.bk_catalogue.proofs.OneEntry.{entry_complete}
-use Rattle.bk_layout.proofs.NormalImages.{each_member_is_met}
+use Rattle.bk_catalogue.proofs.Members.OneEntry.{entry_complete}
+use Rattle.bk_layout.proofs.NormalImages.ImagesToMeet.{each_member_is_met}
 use Rattle.bk_layout.specs.NormalImage.{IsNormalSought}
-use Rattle.bk_found.specs.Kept.{AreAscendingNumbers, Holds, IsFirstFrom}
+use Rattle.bk_found.specs.KeptNumbers.{AreAscendingNumbers, Holds, IsFirstFrom}
 use Rattle.bk_found.specs.Packed.{packed}
 use Rattle.bk_walk.specs.Finding.{Finding, HasMet, IsMembersNumber, Wanted, wanted}
 use Rattle.bk_walk.specs.Members.{HasNoneFrom, IsMemberTable, IsNextNumber, IsWhole}
@@ -23,13 +24,14 @@ whole_table n s many order_is all e own =
     let m = each_member_is_met n s.class e.tiling many is.member in
     all m.word m.sought e m.turn own m.met
 
--- and so does one that holds as much
+-- a search that holds as much as a whole one is whole
 pub still_whole : (s u : Finding) → wanted u ≡ wanted s → ((x : ℕ) → Holds s.numbers x → Holds u.numbers x) → IsWhole s → IsWhole u
 still_whole s u same kept whole e is least = kept (packed e.word)
     (whole e (subst (λ (w : Wanted). IsEntry w.order w.class e) same is) (omega (arith, least, ap (λ (w : Wanted). w.from) same)))
 
 -- ---- the table of order 0
 
+-- no entry has order 0
 pub no_entry : (class : Class) (e : Entry) → IsEntry 0 class e → ⊥
 no_entry class e is = let c = entry_complete 0 class e is in none e.word c.0 c.1
   where
@@ -37,6 +39,7 @@ no_entry class e is = let c = entry_complete 0 class e is in none e.word c.0 c.1
     none [] complete none_hang = omega (arith, complete.some)
     none (m ∷ w) complete none_hang = omega (arith, complete.legal.0.some, none_hang, order_more m w)
 
+-- a table of order 0 that has no numbers is a member table
 pub table_of_none : (s : Finding) → s.order ≡ 0 → s.numbers.kept ≡ [] → IsMemberTable s
 table_of_none s none kept = record {
   ascending = subst AreAscendingNumbers (sym kept) tt;
@@ -45,12 +48,6 @@ table_of_none s none kept = record {
 }
 
 -- ---- the numbers from a bound on
-
--- what holds of each holds of one that is contained
-each_contained : (P : ℕ → Type 0) (xs : List ℕ) (y : ℕ) → AllByRecursion P xs → Contains xs y → P y
-each_contained P [] y all (k, low, at) = absurd (omega (arith, low))
-each_contained P (x ∷ xs) y all (zero, low, at) = subst P at all.0
-each_contained P (x ∷ xs) y all (suc k, low, at) = each_contained P xs y all.1 (k, omega (arith, low), at)
 
 -- the least number that isn't below the bound is the next member's
 pub next_number : (t : Finding) (bound x : ℕ) → IsWhole t → ((y : ℕ) → Contains t.numbers.kept y → IsMembersNumber t y)
@@ -61,10 +58,10 @@ next_number t bound x whole only first = record { member = only x first.has; fir
     least from e is above = held (whole e is (omega (arith, from, above)))
       where
         held : Holds t.numbers (packed e.word) → x ≤ packed e.word
-        held (inl has) = each_contained (λ y. bound ≤ y → x ≤ y) t.numbers.kept (packed e.word) first.least has above
-        held (inr beyond) = omega (arith, each_contained (λ y. y < packed e.word) t.numbers.kept x beyond.beyond first.has)
+        held (inl has) = all-contains (λ y. bound ≤ y → x ≤ y) t.numbers.kept (packed e.word) first.least has above
+        held (inr beyond) = omega (arith, all-contains (λ y. y < packed e.word) t.numbers.kept x beyond.beyond first.has)
 
--- and where there is none, and none was dropped, no member's word has a number from the bound on
+-- if no number is kept from a bound on and none was dropped, no member's word has a number from there on
 pub none_from : (t : Finding) (bound : ℕ) → IsWhole t → AllByRecursion (λ y. y < bound) t.numbers.kept → HasNoneFrom t bound
 none_from t bound whole below = record { kept = below; none = none }
   where
@@ -72,5 +69,5 @@ none_from t bound whole below = record { kept = below; none = none }
     none from uncut e is above = held (whole e is (omega (arith, from, above)))
       where
         held : Holds t.numbers (packed e.word) → ⊥
-        held (inl has) = omega (arith, each_contained (λ y. y < bound) t.numbers.kept (packed e.word) below has, above)
+        held (inl has) = omega (arith, all-contains (λ y. y < bound) t.numbers.kept (packed e.word) below has, above)
         held (inr beyond) = let cut : Some beyond.limit ≡ None = sym beyond.cut ∙ uncut in cc

@@ -9,7 +9,7 @@ use Rattle.bk_lay.specs.TilingWord.{IsWordOf}
 use Rattle.bk_layout.specs.NormalImage.{IsMetByNormalWord}
 use Rattle.bk_sym.specs.Image.{image}
 use Rattle.bk_sym.specs.declared.Turn.{Turn}
-use Rattle.bk_found.specs.Kept.{AreAscendingNumbers, Holds, Numbers}
+use Rattle.bk_found.specs.KeptNumbers.{AreAscendingNumbers, Holds, Numbers}
 use Rattle.bk_found.specs.Packed.{packed}
 
 -- the order and the class that are looked for, the number from which words are kept, and what is kept
@@ -59,4 +59,5 @@ HoldsEntry s e = s.from ≤ packed e.word → Holds s.numbers (packed e.word)
 
 -- the members of which an image is met by this word are held
 abbrev pub HasMet : Finding → Word → Type 0
-HasMet s w = (e : Entry) (turn : Turn) → IsEntry s.order s.class e → IsMetByNormalWord (image turn e.tiling) w → HoldsEntry s e
+HasMet s w = (e : Entry) (turn : Turn) → IsEntry s.order s.class e → IsMetByNormalWord (image turn e.tiling) w
+    → HoldsEntry s e

@@ -5,8 +5,8 @@ use Rattle.bk_word.specs.Word.{Follows, Word, order_of}
 use Rattle.bk_word.specs.declared.Class.{Class}
 use Rattle.bk_catalogue.specs.Catalogue.{Entry, IsEntry}
 use Rattle.bk_found.specs.Packed.{packed}
-use Rattle.bk_walk.specs.declared.tabled.Told.{Told}
-use Rattle.bk_walk.specs.declared.tabled.Told.TheVariants.{Next, NoMore, Nothing}
+use Rattle.bk_walk.specs.declared.tabled.TableAnswer.{TableAnswer}
+use Rattle.bk_walk.specs.declared.tabled.TableAnswer.TheVariants.{Next, NoMore, Nothing}
 
 -- the least number of a member's word that isn't below a number
 pub record IsLeastNumber (n : ℕ) (class : Class) (bound number : ℕ) : Type 0 where
@@ -17,7 +17,7 @@ pub record IsLeastNumber (n : ℕ) (class : Class) (bound number : ℕ) : Type 0
   pub least : (other : Entry) → IsEntry n class other → bound ≤ packed other.word → number ≤ packed other.word
 
 -- what is told of the members whose numbers aren't below a number
-abbrev pub Tells : ℕ → Class → ℕ → Told → Type 0
+abbrev pub Tells : ℕ → Class → ℕ → TableAnswer → Type 0
 Tells n class bound (Next number) = IsLeastNumber n class bound number
 Tells n class bound NoMore = (e : Entry) → IsEntry n class e → bound ≤ packed e.word → ⊥
 Tells n class bound Nothing = ⊤
@@ -28,10 +28,11 @@ pub record IsNextFrom (n : ℕ) (class : Class) (place : Word) (number : ℕ) : 
   pub is : IsEntry n class entry
   pub number_is : packed entry.word ≡ number
   pub from : Follows place entry.word → ⊥
-  pub least : (other : Entry) → IsEntry n class other → (Follows place other.word → ⊥) → Follows entry.word other.word → ⊥
+  pub least : (other : Entry) → IsEntry n class other → (Follows place other.word → ⊥) → Follows entry.word other.word
+      → ⊥
 
 -- what is told of the words of members that aren't before a place
-abbrev pub TellsOfPlace : ℕ → Class → Word → Told → Type 0
+abbrev pub TellsOfPlace : ℕ → Class → Word → TableAnswer → Type 0
 TellsOfPlace n class place (Next number) = IsNextFrom n class place number
 TellsOfPlace n class place NoMore = (e : Entry) → IsEntry n class e → (Follows place e.word → ⊥) → ⊥
 TellsOfPlace n class place Nothing = ⊤

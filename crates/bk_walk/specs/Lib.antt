@@ -1,6 +1,7 @@
 -- What the crate says.
-pub mod Members
--- How its code keeps it.
 pub mod Finding
-pub mod Leaping
+pub mod Members
+pub mod WideAfter
+-- How its code keeps it.
 pub mod KeptWalk
+pub mod Leaping

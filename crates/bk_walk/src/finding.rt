@@ -12,7 +12,7 @@ ghost use Rattle.bk_catalogue.specs.Catalogue.{IsMember, IsOfClass};
 ghost use Rattle.bk_word.specs.Play.{IsComplete};
 ghost use Rattle.bk_word.specs.Word.{Word as Moves, order_of};
 ghost use Rattle.bk_lay.specs.TilingWord.{IsWordOf};
-ghost use Rattle.bk_found.specs.Kept.{AreAscendingNumbers, Holds};
+ghost use Rattle.bk_found.specs.KeptNumbers.{AreAscendingNumbers, Holds};
 ghost use Rattle.bk_found.specs.Packed.{packed};
 ghost use Rattle.bk_found.specs.Found.{IsFound, IsPlacementOf};
 ghost use Rattle.bk_found.specs.Ties.{AreTiesOf};
@@ -28,8 +28,8 @@ use bk_tree_walk::is_simple_of;
 use bk_word::Class;
 use std::marker::Model;
 
-// Puts the packed words of the members of an order and a class into a table, from a number on, as a search meets words of their images, and no
-// other numbers.
+// Puts the packed words of the members of an order and a class into a table, from a number on, as a search meets words
+// of their images, and no other numbers.
 #[derive(Drop)]
 pub(crate) struct Finder<const N: usize> {
     order: u8,
@@ -46,14 +46,20 @@ impl<const N: usize> Model for Finder<N> {
 
     ghost view = { λ s. record { order = s.order; class = s.class; from = s.from; numbers = s.table } };
 
-    ghost invariant = { λ s. IsFinder N (record { order = s.order; class = s.class; from = s.from; numbers = s.table }) };
+    ghost invariant = { λ s. IsFinder N
+        (record { order = s.order; class = s.class; from = s.from; numbers = s.table }) };
 }
 
 impl<const N: usize> Finder<N> {
     /// One that has met no word.
     pub fn new(order: u8, class: Class, from: u128) -> Finder<N>
         requires { order ≤ 16 }
-        ensures { result ≡ record { order = order; class = class; from = from; numbers = record { kept = []; limit = None } } }
+        ensures { result ≡ record {
+          order = order;
+          class = class;
+          from = from;
+          numbers = record { kept = []; limit = None };
+        } }
     {
         Finder {
             order,
@@ -62,6 +68,22 @@ impl<const N: usize> Finder<N> {
             table: Table::new(),
             turns: Turns::new(),
         }
+    }
+
+    /// Begins again as one that has met no word, in the room that it has.
+    pub fn begin(&mut self, order: u8, class: Class, from: u128)
+        requires { order ≤ 16 }
+        ensures { self.new ≡ record {
+          order = order;
+          class = class;
+          from = from;
+          numbers = record { kept = []; limit = None };
+        } }
+    {
+        self.order = order;
+        self.class = class;
+        self.from = from;
+        self.table.clear();
     }
 
     /// The order that is looked for.
@@ -85,7 +107,8 @@ impl<const N: usize> Finder<N> {
         self.from
     }
 
-    /// The table, which keeps the numbers of members alone, and dropped some only where there are more than it has room for.
+    /// The table, which keeps the numbers of members alone, and dropped some only where there are more than it has room
+    /// for.
     pub fn table(&self) -> &Table<N>
         ensures value { result.now ≡ self.now.numbers }
         ensures only { HasOnlyMembers self.now }
@@ -103,12 +126,13 @@ impl<const N: usize> Finder<N> {
         self.table.settle();
     }
 
-    // Puts the word of the canonical tiling of the one that the squares are placed as into the table, where this is a member. That one is made
-    // in the room. Most words are met without all this.
+    // Puts the word of the canonical tiling of the one that the squares are placed as into the table, where this is a
+    // member. That one is made in the room. Most words are met without all this.
     #[inline(never)]
     fn meet_placed(&mut self, placed: &Placed, room: &mut Tiling)
         ensures fixed { wanted self.new ≡ wanted self.old }
-        ensures put { (t : Tiled) (turn : Turned) → IsMember self.old.order self.old.class t → IsPlacementOf (image turn t) placed.now
+        ensures put { (t : Tiled) (turn : Turned) → IsMember self.old.order self.old.class t
+            → IsPlacementOf (image turn t) placed.now
             → IsHeld self.old.from self.new.numbers t }
         ensures kept { (x : ℕ) → Holds self.old.numbers x → Holds self.new.numbers x }
     {
@@ -138,7 +162,8 @@ impl<const N: usize> Finder<N> {
         }
     }
 
-    // The same of a tiling of the order that isn't its own canonical tiling. Hardly one is met, and the room for its images is needed only here.
+    // The same of a tiling of the order that isn't its own canonical tiling. Hardly one is met, and the room for its
+    // images is needed only here.
     #[inline(never)]
     fn meet_image(&mut self, tiling: &Tiling)
         requires tiling { IsTiling tiling.now }
@@ -157,7 +182,8 @@ impl<const N: usize> Finder<N> {
         requires order { order tiling.now ≡ self.old.order }
         requires canonical { IsCanonical tiling.now }
         ensures fixed { wanted self.new ≡ wanted self.old }
-        ensures put { IsMember self.old.order self.old.class tiling.now → IsHeld self.old.from self.new.numbers tiling.now }
+        ensures put { IsMember self.old.order self.old.class tiling.now
+            → IsHeld self.old.from self.new.numbers tiling.now }
         ensures kept { (x : ℕ) → Holds self.old.numbers x → Holds self.new.numbers x }
     {
         if is_simple_of(tiling, self.class) {
@@ -190,7 +216,8 @@ impl<const N: usize> Seeker<N> {
     /// One whose finder has met no word.
     pub fn new(order: u8, class: Class, from: u128) -> Seeker<N>
         requires { order ≤ 16 }
-        ensures { result.finder ≡ record { order = order; class = class; from = from; numbers = record { kept = []; limit = None } } }
+        ensures { result.finder
+            ≡ record { order = order; class = class; from = from; numbers = record { kept = []; limit = None } } }
     {
         Seeker {
             finder: Finder::new(order, class, from),
@@ -249,8 +276,8 @@ fn ties_of(counts: &Counts) -> Ties
     }
 }
 
-// Whether the counts are those of an image that lies where this one stands: the nodes are half of three more than the squares, and as
-// many squares lie at the right as at the top, and at the left as at the bottom.
+// Whether the counts are those of an image that lies where this one stands: the nodes are half of three more than the
+// squares, and as many squares lie at the right as at the top, and at the left as at the bottom.
 fn is_turned_alike(counts: &Counts) -> bool
     ensures half { IsTrue result → IsHalf (seen_counts counts.now) }
     ensures right { IsTrue result → counts.now.right ≡ counts.now.top }

@@ -12,8 +12,8 @@ use bk_tree_walk::TreeWalk;
 use bk_walk_cuts::first_move;
 use std::sync::ledger::Ledger;
 
-// Goes to the word of this number, that of the least member's word that isn't before the place: takes back the moves with which it
-// doesn't begin, and plays the others.
+// Goes to the word of this number, that of the least member's word that isn't before the place: takes back the moves
+// with which it doesn't begin, and plays the others.
 pub(crate) fn leap<L: Ledger>(tree: &mut TreeWalk, number: u128, steps: &mut Steps<L>)
     requires ready { IsReady tree.old }
     requires next { IsNextFrom tree.old.order tree.old.class (place_of tree.old) number }

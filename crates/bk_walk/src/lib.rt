@@ -1,4 +1,5 @@
-//! The catalogue of simple tilings: tables of the words of its members, found by their nets, and the walk through it, from member to member.
+//! The catalogue of simple tilings: tables of the words of its members, found by their nets, and the walk through it,
+//! from member to member.
 #![tactic(auto)]
 
 mod finding;
@@ -8,7 +9,7 @@ mod search;
 mod tabled;
 mod walk;
 
-pub use bk_tree_walk::{Entry, Members, WideAt};
+pub use bk_members::{Entry, Members, WideAt};
 pub use members::MemberTable;
-pub use tabled::{LEAST_TABLED_ORDER, MOST_MEMBERS};
-pub use walk::{TabledWalk, UntabledWalk, Walk};
+pub use tabled::MOST_MEMBERS;
+pub use walk::{TabledWalk, Walk};

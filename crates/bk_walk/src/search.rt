@@ -1,53 +1,58 @@
 //! The search for the next member's word, through the tree of words or by a table of members.
 #![tactic(auto)]
 
-ghost use Rattle.std.specs.Prelude.{◌-◌, ◌≡◌};
+ghost use Rattle.std.specs.Prelude.{IsTrue, ◌-◌, ◌≡◌};
 ghost use Rattle.bk_catalogue.specs.Catalogue.{IsEntry};
-ghost use Rattle.bk_tree_walk.specs.declared.Found.TheVariants.{Member};
 ghost use Rattle.bk_tree_walk.specs.declared.Went.TheVariants.{Met};
 ghost use Rattle.bk_tree_walk.specs.Search.{Finds, IsReady, StaysOf, StepLeadsTo, place_of};
 ghost use Rattle.bk_walk.specs.Leaping.{TellsOfPlace};
 
 use crate::MemberTable;
 use crate::leaping::leap;
-use crate::tabled::{PATIENCE, Told, begin_table, tell};
+use crate::tabled::{LEAST_TABLED_ORDER, PATIENCE, TableAnswer, tell};
 use bk_found::number_with;
 use bk_play::Steps;
 use bk_tiling::Tiling;
-use bk_tree_walk::{Found, TreeWalk, Went};
+use bk_tree_walk::{TreeWalk, Went};
 use std::sync::ledger::Ledger;
 
-// Searches on from the tree walk's place, up to the next member's word. `tiling` becomes that member where there is one.
+// Searches on from the tree walk's place, up to the next member's word, and answers whether there is one. `tiling`
+// becomes that member.
 #[inline(never)]
 pub(crate) fn search<const ROOM: usize, L: Ledger>(
     tree: &mut TreeWalk,
     table: &mut MemberTable<ROOM>,
     steps: &mut Steps<L>,
     tiling: &mut Tiling,
-) -> Found
-    ensures finds { Finds tree.old.order tree.old.class (place_of tree.old) tree.new.front (steps.new - steps.old) result }
-    ensures member { result ≡ Member → IsEntry tree.old.order tree.old.class (record { tiling = tiling.new; word = tree.new.front }) }
+) -> bool
+    ensures finds { Finds tree.old.order tree.old.class (place_of tree.old) tree.new.front
+        (steps.new - steps.old) result }
+    ensures member { IsTrue result
+        → IsEntry tree.old.order tree.old.class (record { tiling = tiling.new; word = tree.new.front }) }
     ensures stays { StaysOf tree.old tree.new steps.old steps.new }
 {
     let _known = tree.pushes();
     'turns: loop {
         match step(tree, table, steps, tiling) {
             Went::On => {}
-            Went::End => return Found::Ended,
-            Went::Met => return Found::Member,
+            Went::End => return false,
+            Went::Met => return true,
         }
     }
 }
 
-// Goes one step on: back from moves after which none is left, to where a table of members tells, or a step through the tree.
+// Goes one step on: back from moves after which none is left, to where a table of members tells, or a step through the
+// tree.
 fn step<const ROOM: usize, L: Ledger>(
     tree: &mut TreeWalk,
     table: &mut MemberTable<ROOM>,
     steps: &mut Steps<L>,
     tiling: &mut Tiling,
 ) -> Went
-    ensures leads { StepLeadsTo tree.old.order tree.old.class (place_of tree.old) tree.new.front tree.new.next (steps.new - steps.old) result }
-    ensures member { result ≡ Met → IsEntry tree.old.order tree.old.class (record { tiling = tiling.new; word = tree.new.front }) }
+    ensures leads { StepLeadsTo tree.old.order tree.old.class (place_of tree.old) tree.new.front tree.new.next
+        (steps.new - steps.old) result }
+    ensures member { result ≡ Met
+        → IsEntry tree.old.order tree.old.class (record { tiling = tiling.new; word = tree.new.front }) }
     ensures stays { StaysOf tree.old tree.new steps.old steps.new }
 {
     match tree.settle() {
@@ -64,36 +69,39 @@ fn go_on<const ROOM: usize, L: Ledger>(
     tiling: &mut Tiling,
 ) -> Went
     requires { IsReady tree.old }
-    ensures leads { StepLeadsTo tree.old.order tree.old.class (place_of tree.old) tree.new.front tree.new.next (steps.new - steps.old) result }
-    ensures member { result ≡ Met → IsEntry tree.old.order tree.old.class (record { tiling = tiling.new; word = tree.new.front }) }
+    ensures leads { StepLeadsTo tree.old.order tree.old.class (place_of tree.old) tree.new.front tree.new.next
+        (steps.new - steps.old) result }
+    ensures member { result ≡ Met
+        → IsEntry tree.old.order tree.old.class (record { tiling = tiling.new; word = tree.new.front }) }
     ensures stays { StaysOf tree.old tree.new steps.old steps.new }
 {
     match ask(tree, table) {
-        Told::Nothing => tree.walk_on(steps, tiling),
-        Told::Next(number) => {
+        TableAnswer::Nothing => tree.walk_on(steps, tiling),
+        TableAnswer::Next(number) => {
             leap(tree, number, steps);
             tree.realise(tiling);
             Went::Met
         }
-        Told::NoMore => {
+        TableAnswer::NoMore => {
             tree.shorten(0);
             Went::End
         }
     }
 }
 
-// What a table of members tells of the place. One is made from there on where many moves were pushed and there is none that tells.
-fn ask<const ROOM: usize>(tree: &TreeWalk, table: &mut MemberTable<ROOM>) -> Told
+// What a table of members tells of the place. Of orders that are worth one, it is made from there on once many moves
+// were pushed, where there is none that tells.
+fn ask<const ROOM: usize>(tree: &TreeWalk, table: &mut MemberTable<ROOM>) -> TableAnswer
     requires { IsReady tree.now }
     ensures { TellsOfPlace tree.now.order tree.now.class (place_of tree.now) result }
 {
-    if ROOM == 0 || tree.pushes() < PATIENCE || tree.order() < 3 {
-        return Told::Nothing;
+    if ROOM == 0 || tree.pushes() < PATIENCE || tree.order() < LEAST_TABLED_ORDER {
+        return TableAnswer::Nothing;
     }
     let number = number_with(tree.skel(), tree.next());
     match tell(table, tree.order(), tree.class(), number) {
-        Told::Nothing => {
-            begin_table(table, tree.order(), tree.class(), number);
+        TableAnswer::Nothing => {
+            table.fill(tree.order(), tree.class(), number);
             tell(table, tree.order(), tree.class(), number)
         }
         answer => answer,

@@ -6,11 +6,11 @@ use Rattle.std.proofs.lemmas.Int.{ints}
 use Rattle.std.proofs.lemmas.List.{length-append, take-append-le, take-take, take_all}
 use Rattle.bk_word.specs.declared.Sign.{Sign}
 use Rattle.bk_word.specs.declared.Sign.TheVariants.{Above, Even, Under}
-use Rattle.bk_forms.specs.Form.{Form, form_value, with_side}
+use Rattle.bk_forms.specs.Form.{Form, form_value, with_column}
 use Rattle.bk_forms.specs.FormLaws.{Compares}
 use Rattle.bk_forms.specs.Reduction.{Addition, contradiction, gives_up, keeps, kept_after, known}
 use Rattle.bk_walk_cuts.proofs.SideValues.{value_with_side, value_zero}
-use Rattle.bk_walk_cuts.specs.Asking.{KeepsFirst}
+use Rattle.bk_walk_cuts.specs.KnownSides.{KeepsFirst}
 use Rattle.bk_walk_cuts.specs.SideForms.{zero_form}
 use Rattle.bk_walk_cuts.specs.SidesOfTilings.{AgreeWith}
 
@@ -43,9 +43,11 @@ agreed signs levels sides i d f g agree h ef eg = subst (λ (x : Form). Compares
     next : suc i ≡ i + 1
     next = omega arith
 
+-- a ledger keeps its own first equations
 pub keeps_all : (kept : List Form) → KeepsFirst kept kept
 keeps_all kept = record { more = omega arith; same = take_all (length kept) kept (omega arith) }
 
+-- a ledger keeps its first equations when something is added
 pub keeps_after : (kept kept_then : List Form) (a : Addition) → kept_then ≡ kept_after kept a → KeepsFirst kept kept_then
 keeps_after kept kept_then (keeps form) e = subst (KeepsFirst kept) (sym e)
     (record {
@@ -57,6 +59,7 @@ keeps_after kept kept_then known e = subst (KeepsFirst kept) (sym e) (keeps_all 
 keeps_after kept kept_then contradiction e = subst (KeepsFirst kept) (sym e) (keeps_all kept)
 keeps_after kept kept_then gives_up e = subst (KeepsFirst kept) (sym e) (keeps_all kept)
 
+-- a ledger that keeps the first equations of another keeps those that the other keeps
 pub keeps_trans : (a b c : List Form) → KeepsFirst a b → KeepsFirst b c → KeepsFirst a c
 keeps_trans a b c f g = let low = f.more in let more = g.more in record {
   more = omega arith;
@@ -64,10 +67,11 @@ keeps_trans a b c f g = let low = f.more in let more = g.more in record {
 }
 
 -- a side alone
-pub value_of_side : (sides : List ℕ) (c : ℕ) → length sides ≡ 16 → c < 16 → form_value (with_side zero_form c) sides ≡ pos (get_or sides c 0)
+pub value_of_side : (sides : List ℕ) (c : ℕ) → length sides ≡ 16 → c < 16 → form_value (with_column zero_form c) sides ≡ pos (get_or sides c 0)
 value_of_side sides c long h = value_with_side zero_form sides c h (omega (arith, long))
     ∙ ap (λ (z : ℤ). z +ℤ pos (get_or sides c 0)) (value_zero sides) ∙ omega (arith, ints)
 
+-- two columns whose forms have one value have equal sides
 pub equal_sides : (sides : List ℕ) (i j : ℕ) → length sides ≡ 16 → i < 16 → j < 16
-    → form_value (with_side zero_form i) sides ≡ form_value (with_side zero_form j) sides → get_or sides i 0 ≡ get_or sides j 0
+    → form_value (with_column zero_form i) sides ≡ form_value (with_column zero_form j) sides → get_or sides i 0 ≡ get_or sides j 0
 equal_sides sides i j long h k e = omega (arith, ints, e, value_of_side sides i long h, value_of_side sides j long k)

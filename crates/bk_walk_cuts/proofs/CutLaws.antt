@@ -12,18 +12,18 @@ use Rattle.bk_word.specs.declared.Class.{Class}
 use Rattle.bk_word.specs.declared.Class.TheVariants.{Perfect}
 use Rattle.bk_word.specs.declared.Sign.{Sign}
 use Rattle.bk_word.specs.declared.Sign.TheVariants.{Above, Even}
-use Rattle.bk_catalogue.proofs.CuttingFirst.{shorter_first_is_barren}
-use Rattle.bk_catalogue.proofs.CuttingLines.{too_many_lines_is_barren}
-use Rattle.bk_catalogue.proofs.CuttingPairs.{even_squares_are_barren}
-use Rattle.bk_catalogue.proofs.Fitting.{less_longer}
-use Rattle.bk_catalogue.proofs.MoveOrder.{Begins, IsLess, IsShort, begun_before, less_from, less_to, moves_between, next_short, signs_cmp}
-use Rattle.bk_catalogue.proofs.Places.{move_from_parts, one_legal}
+use Rattle.bk_catalogue.proofs.MoveCuts.CuttingFirst.{shorter_first_is_barren}
+use Rattle.bk_catalogue.proofs.MoveCuts.CuttingLines.{too_many_lines_is_barren}
+use Rattle.bk_catalogue.proofs.MoveCuts.CuttingPairs.{even_squares_are_barren}
+use Rattle.bk_catalogue.proofs.TreeOfWords.Fitting.{less_longer}
+use Rattle.bk_catalogue.proofs.TreeOfWords.MoveOrder.{Begins, IsLess, IsShort, begun_before, less_from, less_to, moves_between, next_short, signs_cmp}
+use Rattle.bk_catalogue.proofs.TreeOfWords.Places.{move_from_parts, one_legal}
 use Rattle.bk_catalogue.specs.SingleValleys.{single_valleys}
 use Rattle.bk_catalogue.specs.Cuts.{IsBarren}
-use Rattle.bk_catalogue.proofs.OneUnderOne.{one_under_one_is_barren}
+use Rattle.bk_catalogue.proofs.MoveCuts.OneUnderOne.{one_under_one_is_barren}
 use Rattle.bk_word.specs.OwnSigns.{own_signs}
 use Rattle.bk_walk_cuts.specs.MoveCuts.{GrowsByAtMostOne, IsCut, IsFrontEndingEven}
-use Rattle.bk_catalogue.specs.NextMove.{IsMoveFrom, move_after, move_of, signs_after}
+use Rattle.bk_catalogue.specs.NextMove.{IsMoveFrom, move_after, move_with_signs, signs_after}
 use Rattle.bk_catalogue.specs.VerticalCut.{line_bound_of}
 
 -- the move with its first signs alone
@@ -61,7 +61,7 @@ after_near k m = cases (signs_after (take k m.signs)) (next_short (take k m.sign
     shorter (suc k) [] = omega arith
     shorter (suc k) (s ∷ a) = omega (arith, shorter k a)
 
-    cases : (r : Option (List Sign)) → IsShort (length (take k m.signs)) r → GrowsByAtMostOne m (move_of m.count r)
+    cases : (r : Option (List Sign)) → IsShort (length (take k m.signs)) r → GrowsByAtMostOne m (move_with_signs m.count r)
     cases None h = record { least = omega arith; most = omega arith; signs = omega arith }
     cases (Some next) h = record { least = omega arith; most = omega arith; signs = omega (arith, shorter k m.signs) }
 
@@ -140,7 +140,7 @@ one_sign [] h e = absurd (omega arith)
 one_sign (s ∷ []) h e = ap (λ t. t ∷ []) e
 one_sign (s ∷ t ∷ signs) h e = absurd (omega arith)
 
--- the same, where nothing is played yet
+-- the cut of a first move of two squares with the shorter one on the left, where nothing is played yet
 pub shorter_cut : (n : ℕ) (class : Class) (front : Word) (m : Move) → length front ≡ 0 → m.count ≡ 2 → slice_index_or m.signs 0 Above ≡ Above
     → IsLegalMove (outline_of front) m → IsCut n class front m (move_after m)
 shorter_cut n class [] m none two above legal = first_cut n class m two (one_sign m.signs (omega (arith, legal.signs)) above) legal
@@ -151,7 +151,7 @@ pub owes_lines : (n : ℕ) (class : Class) (front : Word) (left closings : ℕ) 
     → closings ≡ line_bound_of front → left < closings → IsBarren n class front
 owes_lines n class front left closings least l c many = too_many_lines_is_barren n class front least (omega arith)
 
--- the same, with one square more for each valley of just one square
+-- fewer squares are left than must still hang, with one more for each valley of just one square
 pub owes_singles : (n : ℕ) (class : Class) (front : Word) (left closings singles : ℕ) → 3 ≤ n → left ≡ n - order_of front → closings ≡ line_bound_of front
     → singles ≡ single_valleys (outline_of front).signs (sizes_of (outline_of front)) → IsTrue (nat_lt (left - closings) singles)
     → closings ≤ left → IsBarren n class front

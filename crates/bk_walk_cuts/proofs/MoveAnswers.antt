@@ -2,6 +2,7 @@
 use Rattle.std.proofs.Common.{Bool, List, Some, [], ap, arith, false, get_or, inl, inr, length, slice_get, subst, suc, sym, true, zero, ℕ, ◌+◌}
 use Rattle.std.proofs.Common.{◌<◌, ◌∙◌, ◌∷◌, ◌≡◌, ◌≢◌, ◌≤◌, ◌⊎◌}
 use Rattle.std.proofs.lemmas.Bool.{cases_lt}
+use Rattle.bk_laws.proofs.Truth.{absurd-of_true_and_false}
 use Rattle.bk_word.specs.Outline.{valley_of}
 use Rattle.bk_word.specs.Play.{new_squares, outline_of}
 use Rattle.bk_word.specs.Word.{Move, Word, order_of}
@@ -9,18 +10,17 @@ use Rattle.bk_word.specs.declared.Class.{Class}
 use Rattle.bk_word.specs.declared.Class.TheVariants.{Perfect}
 use Rattle.bk_word.specs.declared.Sign.{Sign}
 use Rattle.bk_word.specs.declared.Sign.TheVariants.{Even}
-use Rattle.bk_forms.specs.Answer.{answer_of}
+use Rattle.bk_forms.specs.LedgerAnswer.{answer_of}
 use Rattle.bk_forms.specs.Form.{Form, form_value}
 use Rattle.bk_forms.specs.FormLaws.{MeetsEquations}
 use Rattle.bk_forms.specs.Reduction.{Addition, addition, comparison, contradiction}
 use Rattle.bk_forms.specs.declared.ledger.Kept.{Kept}
 use Rattle.bk_forms.specs.declared.ledger.Kept.TheVariants.{Added, Contradiction, GaveUp}
 use Rattle.bk_walk_cuts.proofs.Asked.{sign_read}
-use Rattle.bk_walk_cuts.proofs.RuledOut.{not_both}
 use Rattle.bk_walk_cuts.specs.FormCuts.{IsCutByLevels, LevelsContradict, SidesAreEqual, SignIsOther, WidthsContradict}
 use Rattle.bk_walk_cuts.specs.FormCuts.{kept_by_sign, kept_by_signs, kept_by_widths, kept_with_move}
 use Rattle.bk_walk_cuts.specs.SideForms.{sum_of_sides, zero_form}
-use Rattle.bk_walk_cuts.specs.Asking.{Answers}
+use Rattle.bk_walk_cuts.specs.KnownSides.{Answers}
 use Rattle.bk_walk_cuts.specs.SidesOfTilings.{AgreeWith}
 
 -- what is added, or given up, is no contradiction
@@ -43,7 +43,7 @@ abbrev pub NoneContradicts : List Form → List Form → List Sign → ℕ → T
 NoneContradicts kept levels signs n = (place : ℕ) → place < n → slice_get signs place ≡ Some Even
     → addition (kept_by_signs kept levels signs place) (get_or levels place zero_form) (get_or levels (suc place) zero_form) ≡ contradiction → ⊥
 
--- and none of the first signs is known to be another
+-- of the first n signs, none is known by comparison to be another
 abbrev pub NoneIsOther : List Form → List Form → List Sign → ℕ → Type 0
 NoneIsOther kept levels signs n = (place : ℕ) (sign known : Sign) → place < n → slice_get signs place ≡ Some sign → (sign ≡ Even → ⊥)
     → comparison kept (get_or levels place zero_form) (get_or levels (suc place) zero_form) ≡ Some known → (known ≡ sign → ⊥) → ⊥
@@ -62,7 +62,7 @@ module _ (levels : List Form) (signs : List Sign) (i : ℕ) (d : Sign) (f g : Fo
   kept_more kept now then is e = e ∙ (λ j. kept_by_sign (sym (sign_read signs i d within) j) (is j) (left j) (behind j))
       ∙ ap (kept_by_signs kept levels signs) next
 
-  -- and contradicts none
+  -- if no equation of the first signs contradicts those before, nor does the next one, none does up to the next sign
   pub none_more : (kept now : List Form) (b : Bool) → now ≡ kept_by_signs kept levels signs i → NoneContradicts kept levels signs i
       → (get_or signs i d ≡ Even → addition now f g ≡ contradiction → b ≡ true) → b ≡ false → NoneContradicts kept levels signs (i + 1)
   none_more kept now b is none told never place low = elim (cases_lt place i) [
@@ -75,7 +75,7 @@ module _ (levels : List Form) (signs : List Sign) (i : ℕ) (d : Sign) (f g : Fo
     where
       here : slice_get signs i ≡ Some Even
           → addition (kept_by_signs kept levels signs i) (get_or levels i zero_form) (get_or levels (suc i) zero_form) ≡ contradiction → ⊥
-      here even e = not_both b (told (read_as signs i d Even within even) ((λ j. addition (is j) (left j) (behind j)) ∙ e)) never
+      here even e = absurd-of_true_and_false b (told (read_as signs i d Even within even) ((λ j. addition (is j) (left j) (behind j)) ∙ e)) never
 
   -- one more sign is not known to be another
   pub other_more : (kept : List Form) (b : Bool) → NoneIsOther kept levels signs i
@@ -93,7 +93,8 @@ module _ (levels : List Form) (signs : List Sign) (i : ℕ) (d : Sign) (f g : Fo
           → comparison kept (get_or levels i zero_form) (get_or levels (suc i) zero_form) ≡ Some known → (known ≡ sign → ⊥) → ⊥
       here at uneven e other =
           let is : get_or signs i d ≡ sign = read_as signs i d sign within at in
-          not_both b (told known (λ even. uneven (sym is ∙ even)) ((λ j. comparison kept (left j) (behind j)) ∙ e) (λ same. other (same ∙ is))) never
+          absurd-of_true_and_false b (told known (λ even. uneven (sym is ∙ even)) ((λ j. comparison kept (left j) (behind j)) ∙ e) (λ same. other (same ∙ is)))
+          never
 
 -- at the end none is left
 pub none_left : (kept levels : List Form) (signs : List Sign) (n : ℕ) → NoneContradicts kept levels signs n → length signs ≤ n
@@ -101,6 +102,7 @@ pub none_left : (kept levels : List Form) (signs : List Sign) (n : ℕ) → None
 none_left kept levels signs n none all h =
     let low = place_within signs h.place Even h.even in none h.place (omega (arith, low, all)) h.even h.contradict
 
+-- if none of the first n signs is known to be another, a move of at most n signs has none
 pub other_left : (kept levels : List Form) (signs : List Sign) (n : ℕ) → NoneIsOther kept levels signs n → length signs ≤ n
     → SignIsOther kept levels signs → ⊥
 other_left kept levels signs n none all h =
@@ -135,11 +137,11 @@ pub cut_is_told : (class : Class) (w : Word) (m : Move) (kept levels ledger : Li
     → (class ≡ Perfect → SidesAreEqual ledger count → told ≡ true)
     → IsCutByLevels class w m kept levels → told ≡ true
 cut_is_told class w m kept levels ledger signs count el es en contradicts others told none width level none_other other sides (inl cut) =
-    absurd (not_both contradicts (width cut) none)
+    absurd (absurd-of_true_and_false contradicts (width cut) none)
 cut_is_told class w m kept levels ledger signs count el es en contradicts others told none width level none_other other sides (inr (inl cut)) =
-    absurd (not_both contradicts (level cut) none)
+    absurd (absurd-of_true_and_false contradicts (level cut) none)
 cut_is_told class w m kept levels ledger signs count el es en contradicts others told none width level none_other other sides (inr (inr (inl cut))) =
-    absurd (not_both others (other (subst (λ (ks : List Form). SignIsOther ks levels signs) (sym el)
+    absurd (absurd-of_true_and_false others (other (subst (λ (ks : List Form). SignIsOther ks levels signs) (sym el)
     (subst (SignIsOther (kept_with_move (outline_of w) m kept levels) levels) (sym es) cut))) none_other)
 cut_is_told class w m kept levels ledger signs count el es en contradicts others told none width level none_other other sides
     (inr (inr (inr (perfect, cut)))) = sides perfect (subst (λ (ks : List Form). SidesAreEqual ks count) (sym el)

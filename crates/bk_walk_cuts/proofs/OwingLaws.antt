@@ -9,11 +9,11 @@ use Rattle.bk_word.specs.declared.Class.{Class}
 use Rattle.bk_word.specs.declared.Sign.{Sign}
 use Rattle.bk_word.proofs.StoredBytes.{order_append, order_more}
 use Rattle.bk_word.proofs.PlayLaws.{after-snoc}
-use Rattle.bk_catalogue.proofs.ClosingLaws.{bound-parts, unders}
-use Rattle.bk_catalogue.proofs.TallyLaws.{front_owes}
+use Rattle.bk_catalogue.proofs.HangingBounds.ClosingLaws.{bound-parts, unders}
+use Rattle.bk_catalogue.proofs.HangingBounds.TallyLaws.{front_owes}
 use Rattle.bk_walk_cuts.proofs.CutLaws.{cut_by_front, front_signs}
-use Rattle.bk_catalogue.proofs.CuttingBounds.{too_many_to_close_is_barren}
-use Rattle.bk_catalogue.proofs.MoveOrder.{Begins}
+use Rattle.bk_catalogue.proofs.MoveCuts.CuttingBounds.{too_many_to_close_is_barren}
+use Rattle.bk_catalogue.proofs.TreeOfWords.MoveOrder.{Begins}
 use Rattle.bk_catalogue.specs.ClosingBound.{closing_bound}
 use Rattle.bk_catalogue.specs.Cuts.{IsBarren}
 use Rattle.bk_walk_cuts.specs.MoveCuts.{IsCut}

@@ -1,7 +1,7 @@
 -- Where no sides can meet what a move asks, no tiling has a word that begins with these moves and it.
 use Rattle.std.specs.List.{AllByRecursion}
-use Rattle.std.proofs.Common.{Bool, List, Some, [], ap, arith, false, get_or, inl, inr, length, map, refl, replicate, slice_get, subst, suc, sym}
-use Rattle.std.proofs.Common.{true, zero, ℕ, ◌++◌, ◌+◌, ◌-◌, ◌<◌, ◌∙◌, ◌∷◌, ◌≡◌, ◌≤◌}
+use Rattle.std.proofs.Common.{List, Some, [], ap, arith, get_or, inl, inr, length, map, refl, replicate, slice_get, subst, suc, sym}
+use Rattle.std.proofs.Common.{zero, ℕ, ◌++◌, ◌+◌, ◌-◌, ◌<◌, ◌∙◌, ◌∷◌, ◌≡◌, ◌≤◌}
 use Rattle.std.proofs.lemmas.List.{length-append, length-replicate}
 use Rattle.bk_tiling.proofs.Cells.{in_all}
 use Rattle.bk_tiling.proofs.TilingLaws.{side_of}
@@ -16,15 +16,15 @@ use Rattle.bk_word.specs.declared.Class.{Class}
 use Rattle.bk_word.specs.declared.Class.TheVariants.{Perfect}
 use Rattle.bk_word.proofs.StoredBytes.{order_append, order_more}
 use Rattle.bk_lay.specs.TilingWord.{IsWordOf, MovesFollow, squares_under}
-use Rattle.bk_word_net.proofs.AlongWord.{Along, along_start}
+use Rattle.bk_word_net.proofs.TilingWords.AlongWord.{Along, along_start}
 use Rattle.bk_forms.specs.Form.{Form}
 use Rattle.bk_walk_cuts.proofs.Traces.{Asked, asks}
 use Rattle.bk_walk_cuts.proofs.TilingForms.{laid_along}
-use Rattle.bk_walk_cuts.specs.Asking.{AreApart}
+use Rattle.bk_walk_cuts.specs.KnownSides.{AreSidesApart}
 use Rattle.bk_walk_cuts.specs.SidesOfTilings.{AreSidesOf, HoldAfter, LaidBy}
 use Rattle.bk_walk_cuts.specs.RuledOutCut.{RuledOutIsBarren}
 use Rattle.bk_walk_cuts.specs.Trace.{IsRuledOut}
-use Rattle.bk_catalogue.proofs.PerfectSides.{sides_apart}
+use Rattle.bk_catalogue.proofs.Members.PerfectSides.{sides_apart}
 use Rattle.bk_catalogue.specs.Catalogue.{IsOfClass}
 
 -- the moves lay as many squares as they hang
@@ -68,8 +68,9 @@ square_at [] k h = absurd (omega arith)
 square_at (r ∷ squares) zero h = (r, refl)
 square_at (r ∷ squares) (suc k) h = square_at squares k (omega arith)
 
+-- moves are ruled out if a last one of them asks what no sides meet, in a perfect class with sides apart
 pub ruled_out : (w : Word) (m : Move) (class : Class) (kept bottoms : List Form) → HoldAfter w kept bottoms → order_of w + m.count ≤ 5
-    → ((sides : List ℕ) → Asked w m kept bottoms sides → (class ≡ Perfect → AreApart (order_of w + m.count) sides) → ⊥) → IsRuledOut class (w ++ m ∷ [])
+    → ((sides : List ℕ) → Asked w m kept bottoms sides → (class ≡ Perfect → AreSidesApart (order_of w + m.count) sides) → ⊥) → IsRuledOut class (w ++ m ∷ [])
 ruled_out w m class kept bottoms hold few none t laid tiling perfect p = none sides (asks w m kept bottoms hold t laid sides tiling p are).asked
     (λ is. apart (perfect is))
   where
@@ -88,7 +89,7 @@ ruled_out w m class kept bottoms hold few none t laid tiling perfect p = none si
     are : AreSidesOf laid (map (λ q. q.s) laid ++ replicate (16 - length laid) 1)
     are = filled_up laid (omega (arith, many, few)) (λ q h. side_of t tiling q (laid_in q h))
 
-    apart : IsPerfect t → AreApart (order_of w + m.count) (map (λ q. q.s) laid ++ replicate (16 - length laid) 1)
+    apart : IsPerfect t → AreSidesApart (order_of w + m.count) (map (λ q. q.s) laid ++ replicate (16 - length laid) 1)
     apart is i j low high e = sides_apart t tiling is laid (a.1).fills i j one.0 other.0 low one.1 other.1
         (sym (sides_read laid (replicate (16 - length laid) 1) i one.0 one.1) ∙ e ∙ sides_read laid (replicate (16 - length laid) 1) j other.0 other.1)
       where
@@ -98,15 +99,13 @@ ruled_out w m class kept bottoms hold few none t laid tiling perfect p = none si
         other : (q : Square) × (slice_get laid j ≡ Some q)
         other = square_at laid j (omega (arith, many))
 
-pub not_both : (b : Bool) → b ≡ true → b ≡ false → ⊥
-not_both b e f = cc
-
 -- the moves that a word begins with lay squares
 laid_by_word : (t : Tiling) (front rest : Word) (laid : List Square) → MovesFollow t laid (front ++ rest) → (laid_then : List Square)
     × LaidBy t laid front laid_then
 laid_by_word t [] rest laid p = (laid, refl)
 laid_by_word t (m ∷ front) rest laid (v, found, low, is, p) = let r = laid_by_word t front rest (laid ++ squares_under t v) p in (r.0, (v, found, low, is, r.1))
 
+-- no member's word begins with moves that are ruled out in its class
 pub ruled_out_is_barren : RuledOutIsBarren
 ruled_out_is_barren n class front ruled e rest entry word = ruled e.tiling laid.0 (entry.member).tiling
     (λ is. subst (λ (c : Class). IsOfClass c e.tiling) is (entry.member).class) laid.1

@@ -18,7 +18,7 @@ use Rattle.bk_word.specs.declared.Sign.TheVariants.{Above, Even, Under}
 use Rattle.bk_lay.proofs.WordTest.{by_tests, passes_as_valley}
 use Rattle.bk_forms.specs.Form.{Form}
 use Rattle.bk_forms.specs.FormLaws.{Compares}
-use Rattle.bk_catalogue.proofs.TwoSquares.{row_of_two}
+use Rattle.bk_catalogue.proofs.Members.TwoSquares.{row_of_two}
 use Rattle.bk_catalogue.specs.Cuts.{IsBarren}
 use Rattle.bk_walk_cuts.proofs.Asked.{equal_sides}
 use Rattle.bk_walk_cuts.proofs.RuledOut.{ruled_out, ruled_out_is_barren}

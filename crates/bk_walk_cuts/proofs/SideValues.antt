@@ -17,7 +17,7 @@ use Rattle.bk_word.specs.declared.Sign.TheVariants.{Above, Even, Under}
 use Rattle.bk_lay.proofs.Joining.{sign_case}
 use Rattle.bk_lay.specs.Depiction.{IsSegment, Span}
 use Rattle.bk_lay.specs.TilingWord.{sign_between, signs_between}
-use Rattle.bk_forms.specs.Form.{Form, coefficient, form_value, with_side}
+use Rattle.bk_forms.specs.Form.{Form, coefficient, form_value, with_column}
 use Rattle.bk_forms.specs.FormLaws.{Compares}
 use Rattle.bk_walk_cuts.specs.SideForms.{level_of, zero_form}
 use Rattle.bk_walk_cuts.specs.SidesOfTilings.{AgreeWith, AreSidesOf, IsBottomOf}
@@ -27,17 +27,20 @@ value_nought zero sides = refl
 value_nought (suc n) [] = refl
 value_nought (suc n) (s ∷ sides) = omega (arith, ints, zero-*ℤ (pos s), value_nought n sides)
 
+-- a form of zeros has the value 0
 pub value_zero : (sides : List ℕ) → form_value zero_form sides ≡ pos 0
 value_zero sides = value_nought 16 sides
 
+-- a form with a side once more has a value greater by that side
 pub value_with_side : (form : Form) (sides : List ℕ) (c : ℕ) → c < length form → c < length sides
-    → form_value (with_side form c) sides ≡ form_value form sides +ℤ pos (get_or sides c 0)
+    → form_value (with_column form c) sides ≡ form_value form sides +ℤ pos (get_or sides c 0)
 value_with_side [] sides c h k = absurd (omega arith)
 value_with_side (a ∷ form) [] c h k = absurd (omega arith)
 value_with_side (a ∷ form) (s ∷ sides) zero h k = omega (arith, ints, add-mul a (pos 1) (pos s), one-*ℤ (pos s))
 value_with_side (a ∷ form) (s ∷ sides) (suc c) h k = omega (arith, ints, value_with_side form sides c (omega arith) (omega arith))
 
-pub long_with_side : (form : Form) (c : ℕ) → length (with_side form c) ≡ length form
+-- a form with a side once more is as long as it was
+pub long_with_side : (form : Form) (c : ℕ) → length (with_column form c) ≡ length form
 long_with_side form c = length-set form c (coefficient form c +ℤ pos 1)
 
 -- a square that is laid has its side among the sides
@@ -47,9 +50,10 @@ module _ (laid : List Square) (sides : List ℕ) (are : AreSidesOf laid sides) w
   within (r ∷ squares) zero q e = omega arith
   within (r ∷ squares) (suc k) q e = omega (arith, within squares k q e)
 
+  -- a form with the side of the k-th square once more has a value greater by that side
   pub one_more : (form : Form) (n k : ℕ) (q : Square) → length form ≡ 16 → n ≡ suc k → slice_get laid k ≡ Some q
-      → form_value (with_side form (n - 1)) sides ≡ form_value form sides +ℤ pos q.s
-  one_more form n k q long is at = ap (λ (c : ℕ). form_value (with_side form c) sides) less
+      → form_value (with_column form (n - 1)) sides ≡ form_value form sides +ℤ pos q.s
+  one_more form n k q long is at = ap (λ (c : ℕ). form_value (with_column form c) sides) less
       ∙ value_with_side form sides k (omega (arith, long, are.few, within laid k q at)) (omega (arith, are.long, are.few, within laid k q at))
       ∙ ap (λ (s : ℕ). form_value form sides +ℤ pos s) (are.each k q at)
     where
@@ -58,13 +62,13 @@ module _ (laid : List Square) (sides : List ℕ) (are : AreSidesOf laid sides) w
 
   -- the sides of squares that end at one level side by side
   pub span_sum : (numbers : List ℕ) (form : Form) (level x end : ℕ) → length form ≡ 16 → Span laid level x numbers end
-      → form_value (fold (λ f n. with_side f (n - 1)) form numbers) sides +ℤ pos x ≡ form_value form sides +ℤ pos end
+      → form_value (fold (λ f n. with_column f (n - 1)) form numbers) sides +ℤ pos x ≡ form_value form sides +ℤ pos end
   span_sum [] form level x end long e = omega (arith, ints, e)
   span_sum (n ∷ numbers) form level x end long (q, (k, is, at), px, pb, rest) =
       omega (
         arith,
         ints,
-        span_sum numbers (with_side form (n - 1)) level (x + q.s) end (long_with_side form (n - 1) ∙ long) rest,
+        span_sum numbers (with_column form (n - 1)) level (x + q.s) end (long_with_side form (n - 1) ∙ long) rest,
         one_more form n k q long is at,
       )
 
@@ -75,22 +79,22 @@ module _ (laid : List Square) (sides : List ℕ) (are : AreSidesOf laid sides) w
   -- the sides of new squares side by side
   pub chain_sum : (squares front : List Square) (form : Form) (n x end : ℕ) → laid ≡ front ++ squares → n ≡ length front + 1 → length form ≡ 16
       → Chain x squares end
-      → form_value (fold (λ f n. with_side f (n - 1)) form (numbers_from n (length squares))) sides +ℤ pos x ≡ form_value form sides +ℤ pos end
+      → form_value (fold (λ f n. with_column f (n - 1)) form (numbers_from n (length squares))) sides +ℤ pos x ≡ form_value form sides +ℤ pos end
   chain_sum [] front form n x end is e long c = omega (arith, ints, c)
   chain_sum (q ∷ squares) front form n x end is e long c =
       omega (
         arith,
         ints,
-        chain_sum squares (front ++ q ∷ []) (with_side form (n - 1)) (n + 1) (x + q.s) end (is ∙ sym (append_assoc front (q ∷ []) squares))
+        chain_sum squares (front ++ q ∷ []) (with_column form (n - 1)) (n + 1) (x + q.s) end (is ∙ sym (append_assoc front (q ∷ []) squares))
             (omega (arith, e, length-append front (q ∷ []))) (long_with_side form (n - 1) ∙ long) c.1,
         one_more form n (length front) q long (omega (arith, e)) (ap (λ (l : List Square). slice_get l (length front)) is ∙ at_end front q squares),
       )
 
-  -- and the levels of their bottoms
+  -- the levels of the bottoms of new squares side by side
   pub new_levels : (squares front : List Square) (form : Form) (n level : ℕ) → laid ≡ front ++ squares → n ≡ length front + 1 → length form ≡ 16
       → form_value form sides ≡ pos level
       → ((q : Square) → IsOneOf q squares → q.y ≡ level) → AllZip (IsBottomOf sides)
-      (map (λ n. with_side form (n - 1)) (numbers_from n (length squares))) squares
+      (map (λ n. with_column form (n - 1)) (numbers_from n (length squares))) squares
   new_levels [] front form n level is e long value under = tt
   new_levels (q ∷ squares) front form n level is e long value under = (
     record {
@@ -118,6 +122,7 @@ zip_read sides (b ∷ bottoms) (r ∷ laid) zero q z e = subst (IsBottomOf sides
     same = cc
 zip_read sides (b ∷ bottoms) (r ∷ laid) (suc k) q z e = zip_read sides bottoms laid k q z.1 e
 
+-- the level of an open segment is read from the forms of its squares' bottoms
 pub segment_level : (sides : List ℕ) (bottoms : List Form) (laid : List Square) (u : Segment) (numbers : List ℕ) → 0 < u.width
     → AllZip (IsBottomOf sides) bottoms laid → IsSegment laid u numbers
     → IsLevelOf sides (level_of bottoms numbers) u.level
@@ -151,6 +156,7 @@ compares a b sign x y e f g = cases (sign_case a b)
         more : y <ℤ x
         more = omega (arith, ints, h.0, f, g)
 
+-- the signs between levels agree with forms of these levels
 pub signs_agree : (sides : List ℕ) (forms : List Form) (ns : List ℕ) → AllZip (IsLevelOf sides) forms ns → AgreeWith (signs_between ns) forms sides
 signs_agree sides forms [] zip i sign e = absurd (cc)
 signs_agree sides forms (a ∷ []) zip i sign e = absurd (cc)

@@ -1,13 +1,13 @@
 -- Forms whose coefficients are small stay small by one more side.
-use Rattle.std.specs.Prelude.{nat_abs, negsuc, pos, ℤ, ◌+ℤ◌}
+use Rattle.std.specs.Prelude.{nat_abs, pos, ℤ, ◌+ℤ◌}
 use Rattle.std.proofs.Common.{List, Some, [], arith, get_or, inl, inr, length, map, replicate, set, slice_get, subst, suc, sym, zero, ℕ, ◌++◌, ◌+◌}
 use Rattle.std.proofs.Common.{◌-◌, ◌<◌, ◌∷◌, ◌≡◌, ◌≤◌, ◌⊎◌}
 use Rattle.std.proofs.lemmas.Bool.{cases_lt}
-use Rattle.std.proofs.lemmas.Int.{ints}
-use Rattle.bk_forms.specs.Form.{Form, coefficient, with_side}
+use Rattle.bk_forms.specs.Form.{Form, coefficient, with_column}
 use Rattle.bk_walk_cuts.specs.SideForms.{level_of, zero_form}
 use Rattle.bk_walk_cuts.specs.Trace.{AreSmall, IsSmall}
 use Rattle.bk_laws.proofs.ListPlaces.{get_either}
+use Rattle.bk_laws.proofs.Magnitudes.{abs_successor-le}
 
 -- a form whose coefficients are at most j has them at most k, where k is no less
 pub small_more : (j k : ℕ) (form : Form) → j ≤ k → IsSmall j form → IsSmall k form
@@ -28,19 +28,14 @@ small_at k [] c all = omega arith
 small_at k (a ∷ form) zero all = all.0
 small_at k (a ∷ form) (suc c) all = small_at k form c all.1
 
-one_more : (a : ℤ) (k : ℕ) → nat_abs a ≤ k → nat_abs (a +ℤ pos 1) ≤ suc k
-one_more (pos n) k h = omega (arith, ints)
-one_more (negsuc zero) k h = omega (arith, ints)
-one_more (negsuc (suc n)) k h = omega (arith, ints)
-
 small_set : (k : ℕ) (form : Form) (c : ℕ) (a : ℤ) → nat_abs a ≤ k → IsSmall k form → IsSmall k (set form c a)
 small_set k [] c a h all = tt
 small_set k (b ∷ form) zero a h all = (h, all.1)
 small_set k (b ∷ form) (suc c) a h all = (all.0, small_set k form c a h all.1)
 
 -- with one more side a form is small by one more
-pub small_with_side : (k : ℕ) (form : Form) (c : ℕ) → IsSmall k form → IsSmall (suc k) (with_side form c)
-small_with_side k form c all = small_set (suc k) form c (coefficient form c +ℤ pos 1) (one_more (coefficient form c) k (small_at k form c all))
+pub small_with_side : (k : ℕ) (form : Form) (c : ℕ) → IsSmall k form → IsSmall (suc k) (with_column form c)
+small_with_side k form c all = small_set (suc k) form c (coefficient form c +ℤ pos 1) (abs_successor-le (coefficient form c) k (small_at k form c all))
     (small_more k (suc k) form (omega arith) all)
 
 -- ---- levels
@@ -67,20 +62,20 @@ small_level bottoms (n ∷ numbers) small = cases (cases_lt (n - 1) (length bott
 
 -- the bottoms of new squares
 new_small : (numbers : List ℕ) (level : Form) (k i : ℕ) (form : Form) → IsSmall k level
-    → slice_get (map (λ n. with_side level (n - 1)) numbers) i ≡ Some form → IsSmall (suc k) form
+    → slice_get (map (λ n. with_column level (n - 1)) numbers) i ≡ Some form → IsSmall (suc k) form
 new_small [] level k i form small e = absurd (cc)
 new_small (n ∷ numbers) level k zero form small e = subst (IsSmall (suc k)) same (small_with_side k level (n - 1) small)
   where
-    same : with_side level (n - 1) ≡ form
+    same : with_column level (n - 1) ≡ form
     same = cc
 new_small (n ∷ numbers) level k (suc i) form small e = new_small numbers level k i form small e
 
--- and after a move all bottoms are small
+-- after a move all bottoms are small
 pub small_new : (bottoms : List Form) (level : Form) (numbers : List ℕ) → AreSmall bottoms → IsSmall (length bottoms) level
-    → AreSmall (bottoms ++ map (λ n. with_side level (n - 1)) numbers)
-small_new bottoms level numbers small low i form e = cases (get_either bottoms (map (λ n. with_side level (n - 1)) numbers) i form e)
+    → AreSmall (bottoms ++ map (λ n. with_column level (n - 1)) numbers)
+small_new bottoms level numbers small low i form e = cases (get_either bottoms (map (λ n. with_column level (n - 1)) numbers) i form e)
   where
     cases : (slice_get bottoms i ≡ Some form) ⊎ ((j : ℕ) × (i ≡ length bottoms + j)
-        × (slice_get (map (λ n. with_side level (n - 1)) numbers) j ≡ Some form)) → IsSmall (suc i) form
+        × (slice_get (map (λ n. with_column level (n - 1)) numbers) j ≡ Some form)) → IsSmall (suc i) form
     cases (inl f) = small i form f
     cases (inr (j, is, f)) = small_more (suc (length bottoms)) (suc i) form (omega (arith, is)) (new_small numbers level (length bottoms) j form low f)

@@ -2,12 +2,13 @@
 -- the bottoms of the new squares.
 use Rattle.std.specs.List.{AllByRecursion, AllZip}
 use Rattle.std.specs.Prelude.{pos, ◌+ℤ◌, ◌≢◌}
-use Rattle.std.proofs.Common.{Bool, List, Some, [], ap, arith, cond, false, inl, inr, length, map, nat_eq, nat_lt, refl, slice_get, slice_index_or}
+use Rattle.std.proofs.Common.{Bool, List, Some, [], ap, arith, cond, false, inl, inr, length, map, nat_lt, refl, slice_get, slice_index_or}
 use Rattle.std.proofs.Common.{subst, suc, sym, true, zero, ℕ, ◌++◌, ◌+◌, ◌-◌, ◌<◌, ◌∙◌, ◌∷◌, ◌≡◌, ◌⊎◌}
 use Rattle.std.proofs.lemmas.Bool.Decides.{nat_tests}
 use Rattle.std.proofs.lemmas.Int.{ints}
 use Rattle.std.proofs.lemmas.List.{append_assoc, length-append, length-map}
 use Rattle.bk_laws.proofs.ZippedLists.{zip_append, zip_at, zip_length}
+use Rattle.bk_laws.proofs.NumberTests.{nat_eq-of_different, nat_eq-of_equal}
 use Rattle.bk_tiling.proofs.Rows.{Chain}
 use Rattle.bk_tiling.proofs.TilingLaws.{wide_enough}
 use Rattle.bk_tiling.specs.Column.{AreRuns, depth}
@@ -26,7 +27,7 @@ use Rattle.bk_lay.proofs.ValleySegment.{valley_segment}
 use Rattle.bk_lay.proofs.Valleys.{one_leftmost_valley}
 use Rattle.bk_lay.specs.Depiction.{Depicts, Hangs, IsSegment}
 use Rattle.bk_lay.specs.TilingWord.{IsLeftmostValley, bottoms as bottoms_along, depth_before, depth_from, move_under, signs_between, squares_under}
-use Rattle.bk_word_net.proofs.AlongWord.{Along, along_move, along_start}
+use Rattle.bk_word_net.proofs.TilingWords.AlongWord.{Along, along_move, along_start}
 use Rattle.bk_forms.specs.Form.{Form, form_value}
 use Rattle.bk_walk_cuts.proofs.SideValues.{IsLevelOf, chain_sum, new_levels, segment_level, signs_agree, span_sum}
 use Rattle.bk_walk_cuts.specs.SideForms.{left_level, level_of, levels_along, new_bottoms, right_level, sum_of_sides, zero_form}
@@ -52,19 +53,13 @@ signs_many [] u back = length-signs u.level (levels back) ∙ length-map back (�
 signs_many (v ∷ front) u back = length-signs v.level (levels (front ++ u ∷ back)) ∙ length-map (front ++ u ∷ back) (λ v. v.level)
     ∙ omega (arith, length-append front (u ∷ back))
 
-zeroth : (a b : ℕ) → a ≡ b → nat_eq a b ≡ true
-zeroth a b e = grind (arith, nat_tests)
-
-other : (a b : ℕ) → (a ≡ b → ⊥) → nat_eq a b ≡ false
-other a b h = grind (arith, nat_tests)
-
 -- the level of a segment that stands beside the valley is zipped with its depth
 zip_by : (sides : List ℕ) (b : Bool) (f : Form) (ns ms : List ℕ) → b ≡ false → ns ≡ ms → AllZip (IsLevelOf sides) (f ∷ []) ms
     → AllZip (IsLevelOf sides) (cond b [] (f ∷ [])) ns
 zip_by sides true f ns ms e g z = absurd (cc)
 zip_by sides false f ns ms e g z = subst (AllZip (IsLevelOf sides) (f ∷ [])) (sym g) z
 
--- and at a wall nothing is
+-- at a wall no level is zipped with a depth
 zip_none : (sides : List ℕ) (b : Bool) (f : Form) (ns : List ℕ) → b ≡ true → ns ≡ [] → AllZip (IsLevelOf sides) (cond b [] (f ∷ [])) ns
 zip_none sides true f ns e g = subst (AllZip (IsLevelOf sides) []) (sym g) tt
 zip_none sides false f ns e g = absurd (cc)
@@ -100,10 +95,10 @@ module _ (t : Tiling) (laid : List Square) (nodes : List Segment) (o : Outline) 
     where
       cases : ((p.before ≡ []) × (v.x ≡ 0)) ⊎ HasLast laid v.x p.before → AllZip (IsLevelOf sides) (left_level o bottoms) (depth_before laid v.x)
       cases (inl (none, at)) = zip_none sides (has_left_wall o) (level_of bottoms (slice_index_or o.segments (valley_place o.signs - 1) []))
-          (depth_before laid v.x) (zeroth (valley_place o.signs) 0 (number ∙ ap length none)) (ap (depth_before laid) at)
+          (depth_before laid v.x) (nat_eq-of_equal (valley_place o.signs) 0 (number ∙ ap length none)) (ap (depth_before laid) at)
       cases (inr h) = zip_by sides (has_left_wall o) (level_of bottoms (slice_index_or o.segments (valley_place o.signs - 1) [])) (depth_before laid v.x)
           ((h.last).level ∷ [])
-          (other (valley_place o.signs) 0 (λ e. omega (arith, number, e, before_many))) h.level (
+          (nat_eq-of_different (valley_place o.signs) 0 (λ e. omega (arith, number, e, before_many))) h.level (
             subst (λ (k : ℕ). IsLevelOf sides (level_of bottoms (slice_index_or o.segments k [])) (h.last).level) place
                 (at_run h.front h.last (v ∷ p.after) split),
             tt,
@@ -118,7 +113,7 @@ module _ (t : Tiling) (laid : List Square) (nodes : List Segment) (o : Outline) 
           split : p.before ++ v ∷ p.after ≡ h.front ++ h.last ∷ (v ∷ p.after)
           split = ap (λ (b : List Segment). b ++ v ∷ p.after) h.is ∙ append_assoc h.front (h.last ∷ []) (v ∷ p.after)
 
-  -- and so is that at its right
+  -- the level at the right of the valley is the depth there
   pub right_is : AllZip (IsLevelOf sides) (right_level o bottoms) (depth_from t.width laid (v.x + v.width))
   right_is = cases (subst (λ (w : Segment). ((p.after ≡ []) × (w.x + w.width ≡ t.width)) ⊎ HasFirst t.width laid (w.x + w.width) p.after) same p.right)
     where
@@ -132,11 +127,11 @@ module _ (t : Tiling) (laid : List Square) (nodes : List Segment) (o : Outline) 
           → AllZip (IsLevelOf sides) (right_level o bottoms) (depth_from t.width laid (v.x + v.width))
       cases (inl (none, at)) = zip_none sides (has_right_wall o) (level_of bottoms (slice_index_or o.segments (valley_place o.signs + 1) []))
           (depth_from t.width laid (v.x + v.width))
-          (zeroth (valley_place o.signs) (length o.signs) (omega (arith, number, many, ap length none)))
+          (nat_eq-of_equal (valley_place o.signs) (length o.signs) (omega (arith, number, many, ap length none)))
           (at_wall (v.x + v.width) t.width (depth laid (v.x + v.width) ∷ []) at)
       cases (inr h) = zip_by sides (has_right_wall o) (level_of bottoms (slice_index_or o.segments (valley_place o.signs + 1) []))
           (depth_from t.width laid (v.x + v.width)) ((h.first).level ∷ [])
-          (other (valley_place o.signs) (length o.signs) (λ e. omega (arith, number, many, e, ap length h.is))) h.level (
+          (nat_eq-of_different (valley_place o.signs) (length o.signs) (λ e. omega (arith, number, many, e, ap length h.is))) h.level (
             subst (λ (k : ℕ). IsLevelOf sides (level_of bottoms (slice_index_or o.segments k [])) (h.first).level) place
                 (at_run (p.before ++ v ∷ []) h.first h.back split),
             tt,
@@ -148,7 +143,7 @@ module _ (t : Tiling) (laid : List Square) (nodes : List Segment) (o : Outline) 
           split : p.before ++ v ∷ p.after ≡ (p.before ++ v ∷ []) ++ h.first ∷ h.back
           split = ap (λ (a : List Segment). p.before ++ v ∷ a) h.is ∙ sym (append_assoc p.before (v ∷ []) (h.first ∷ h.back))
 
-  -- and the valley's own
+  -- the valley's own level is that of its squares' bottoms
   pub valley_level : IsLevelOf sides (level_of bottoms (valley_of o)) v.level
   valley_level = subst (λ (k : ℕ). IsLevelOf sides (level_of bottoms (slice_index_or o.segments k [])) v.level) (sym number) (at_run p.before v p.after refl)
 

@@ -2,17 +2,17 @@
 use Rattle.std.proofs.Common.{List, Some, [], ap, arith, inl, inr, length, slice_get, subst, sym, take, ℕ, ◌++◌, ◌+◌, ◌-◌, ◌<◌, ◌∙◌}
 use Rattle.std.proofs.Common.{◌∷◌, ◌≡◌, ◌≤◌, ◌⊎◌}
 use Rattle.std.proofs.lemmas.List.{length-append, length-map, take-append-le, take-take, take_all}
+use Rattle.bk_laws.proofs.ListPlaces.{slice_get-snoc_cases}
 use Rattle.bk_tiling.specs.Tiling.{IsTiling}
 use Rattle.bk_word.specs.Outline.{valley_of}
 use Rattle.bk_word.specs.Play.{new_squares, outline_of}
 use Rattle.bk_word.specs.Word.{Move, Word, order_of}
 use Rattle.bk_word.proofs.StoredBytes.{order_append, order_more}
-use Rattle.bk_word_net.proofs.AlongWord.{get_snoc}
 use Rattle.bk_forms.specs.Form.{Form}
 use Rattle.bk_forms.specs.FormLaws.{MeetsEquations}
 use Rattle.bk_word.proofs.PlayLists.{numbers-length}
 use Rattle.bk_walk_cuts.proofs.SmallForms.{small_level, small_new}
-use Rattle.bk_walk_cuts.specs.Asking.{KeepsFirst}
+use Rattle.bk_walk_cuts.specs.KnownSides.{KeepsFirst}
 use Rattle.bk_walk_cuts.specs.SideForms.{level_of, new_bottoms}
 use Rattle.bk_walk_cuts.specs.SidesOfTilings.{AreSidesOf, HoldAfter, HoldFor, LaidBy}
 use Rattle.bk_walk_cuts.specs.Trace.{IsMarked, IsTraceOf, Trace}
@@ -41,7 +41,7 @@ module _ (w : Word) (m : Move) (kept bottoms : List Form) (marks : List Mark)
   order_is = is.count ∙ ap order_of whole
 
   news : length (new_bottoms (outline_of w) m bottoms) ≡ m.count
-  news = length-map (new_squares (outline_of w) m) (λ n. Rattle.bk_forms.specs.Form.with_side (level_of bottoms (valley_of (outline_of w))) (n - 1))
+  news = length-map (new_squares (outline_of w) m) (λ n. Rattle.bk_forms.specs.Form.with_column (level_of bottoms (valley_of (outline_of w))) (n - 1))
       ∙ numbers-length (length (outline_of w).hung + 1) m.count
 
   begun : HoldAfter w kept bottoms
@@ -78,7 +78,7 @@ module _ (w : Word) (m : Move) (kept bottoms : List Form) (marks : List Mark)
     some = old.some;
     equations_within = (let a = old.equations_within in let b = first.more in omega arith);
     squares_within = (let a = old.squares_within in omega (arith, length-append bottoms (new_bottoms (outline_of w) m bottoms)));
-    later = λ i after low f. by i after low (get_snoc marks (record { equations = length kept; squares = length bottoms }) i after f);
+    later = λ i after low f. by i after low (slice_get-snoc_cases marks (record { equations = length kept; squares = length bottoms }) i after f);
     hold = (λ t laid sides. subst (λ (u : Word). (tiling : IsTiling t) → LaidBy t [] u laid → AreSidesOf laid sides
         → HoldFor laid sides (take k.equations kept_then) (take k.squares (bottoms ++ new_bottoms (outline_of w) m bottoms))) (sym (same_front j (omega arith)))
         (λ tiling p are. subst (λ (ks : List Form). HoldFor laid sides ks (take k.squares (bottoms ++ new_bottoms (outline_of w) m bottoms)))
@@ -111,7 +111,7 @@ module _ (w : Word) (m : Move) (kept bottoms : List Form) (marks : List Mark)
     some = is.some;
     equations_within = first.more;
     squares_within = omega (arith, length-append bottoms (new_bottoms (outline_of w) m bottoms));
-    later = λ i after low f. by i after low (get_snoc marks (record { equations = length kept; squares = length bottoms }) i after f);
+    later = λ i after low f. by i after low (slice_get-snoc_cases marks (record { equations = length kept; squares = length bottoms }) i after f);
     hold = (λ t laid sides. subst (λ (u : Word). (tiling : IsTiling t) → LaidBy t [] u laid → AreSidesOf laid sides
         → HoldFor laid sides (take (length kept) kept_then) (take (length bottoms) (bottoms ++ new_bottoms (outline_of w) m bottoms)))
         (sym (same_front (length marks) (omega arith)))
@@ -148,7 +148,7 @@ module _ (w : Word) (m : Move) (kept bottoms : List Form) (marks : List Mark)
     small = small_new bottoms (level_of bottoms (valley_of (outline_of w))) (new_squares (outline_of w) m) is.small
         (small_level bottoms (valley_of (outline_of w)) is.small);
     hold = subst (λ (u : Word). HoldAfter u kept_then (bottoms ++ new_bottoms (outline_of w) m bottoms)) (sym whole_then) hold_then;
-    marked = λ j k e. by j k (get_snoc marks (record { equations = length kept; squares = length bottoms }) j k e);
+    marked = λ j k e. by j k (slice_get-snoc_cases marks (record { equations = length kept; squares = length bottoms }) j k e);
   }
     where
       by : (j : ℕ) (k : Mark) → ((j < length marks) × (slice_get marks j ≡ Some k))

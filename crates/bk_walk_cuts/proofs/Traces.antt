@@ -29,7 +29,7 @@ laid_more t m laid laid_then (v, found, low, is, e) = (squares_under t v, e)
 abbrev pub Asked : Word → Move → List Form → List Form → List ℕ → Type 0
 Asked w m kept bottoms sides = MeetsMove w m kept (levels_along (outline_of w) m bottoms) sides
 
--- and what a tiling whose word goes on by it has
+-- what a tiling has whose word goes on by a move
 pub record Asks (w : Word) (m : Move) (kept bottoms : List Form) (laid_then : List Square) (sides : List ℕ) : Type 0 where
   pub asked : Asked w m kept bottoms sides
   pub levels : AllZip (IsBottomOf sides) (bottoms ++ new_bottoms (outline_of w) m bottoms) laid_then

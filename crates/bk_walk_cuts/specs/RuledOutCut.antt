@@ -1,5 +1,6 @@
 -- The cut by forms: moves that are ruled out in a class are barren in it. A statement alone; it is proved apart.
--- Example (SideFormExamples): 2e is ruled out in the class perfect, so it is barren there; in the class imperfect it is not ruled out.
+-- Example (SideFormExamples): 2e is ruled out in the class perfect, so it is barren there; in the class imperfect it is
+-- not ruled out.
 use Rattle.std.specs.Prelude.{ℕ}
 use Rattle.bk_word.specs.Word.{Word}
 use Rattle.bk_word.specs.declared.Class.{Class}

@@ -1,13 +1,15 @@
 -- Forms over the sides of a word's squares: the levels of bottoms and of open segments, and sums of sides. The side of
 -- square n, from 1, stands in column n - 1.
--- Example (SideFormExamples): the word of the rectangle 33x32 begins with 2u.2aa. With a, b, c, d for the sides, the squares of the
--- first move end at a and b, and those of the second at b + c and b + d; its signs compare a, b + c, b + d.
-use Rattle.std.specs.Prelude.{Bool, List, [], cond, count_by, fold, map, nat_le, pos, replicate, slice_index_or, ℕ, ◌++◌, ◌+◌, ◌-◌, ◌∷◌}
+-- Example (SideFormExamples): the word of the rectangle 33x32 begins with 2u.2aa. With a, b, c, d for the sides, the
+-- squares of the first move end at a and b, and those of the second at b + c and b + d; its signs compare a, b + c, b +
+-- d.
+use Rattle.std.specs.Prelude.{Bool, List, [], cond, count_by, fold, map, nat_le, pos, replicate, slice_index_or, ℕ}
+use Rattle.std.specs.Prelude.{◌++◌, ◌+◌, ◌-◌, ◌∷◌}
 use Rattle.bk_word.specs.Outline.{Outline, has_left_wall, has_right_wall, valley_of, valley_place}
 use Rattle.bk_word.specs.Play.{new_squares}
 use Rattle.bk_word.specs.Signs.{is_even}
 use Rattle.bk_word.specs.Word.{Move}
-use Rattle.bk_forms.specs.Form.{Form, with_side}
+use Rattle.bk_forms.specs.Form.{Form, with_column}
 
 -- the form of zeros
 abbrev pub zero_form : Form
@@ -15,7 +17,7 @@ zero_form = replicate 16 (pos 0)
 
 -- the sum of the sides of the squares with these numbers
 abbrev pub sum_of_sides : List ℕ → Form
-sum_of_sides numbers = fold (λ form n. with_side form (n - 1)) zero_form numbers
+sum_of_sides numbers = fold (λ form n. with_column form (n - 1)) zero_form numbers
 
 -- the level of a segment, where the levels of all bottoms are given: the top's is 0, any other has that of its first
 -- square's bottom
@@ -25,7 +27,7 @@ level_of bottoms (n ∷ numbers) = slice_index_or bottoms (n - 1) zero_form
 
 -- the levels of the bottoms of the squares that a move hangs: each its side below the valley
 abbrev pub new_bottoms : Outline → Move → List Form → List Form
-new_bottoms o m bottoms = map (λ n. with_side (level_of bottoms (valley_of o)) (n - 1)) (new_squares o m)
+new_bottoms o m bottoms = map (λ n. with_column (level_of bottoms (valley_of o)) (n - 1)) (new_squares o m)
 
 -- the level of the segment left of the valley, where there is one
 abbrev pub left_level : Outline → List Form → List Form

@@ -1,8 +1,9 @@
 -- What a tiling's word says of its sides: forms of the same word have the values that the tiling has.
--- Example (SideFormExamples): the rectangle 33x32 is laid by 2u.2aa with the sides 18, 15, 7, 8. There 15 is 7 + 8, and 2aa says that 18 is
--- less than 22 and 22 less than 23; with the sign even first it would not agree.
+-- Example (SideFormExamples): the rectangle 33x32 is laid by 2u.2aa with the sides 18, 15, 7, 8. There 15 is 7 + 8, and
+-- 2aa says that 18 is less than 22 and 22 less than 23; with the sign even first it would not agree.
 use Rattle.std.specs.List.{AllByRecursion, AllZip}
-use Rattle.std.specs.Prelude.{List, Some, [], length, pos, slice_get, slice_index_or, suc, ℕ, ◌++◌, ◌+◌, ◌<◌, ◌∷◌, ◌≡◌, ◌≢◌, ◌≤◌}
+use Rattle.std.specs.Prelude.{List, Some, [], length, pos, slice_get, slice_index_or, suc, ℕ, ◌++◌, ◌+◌, ◌<◌, ◌∷◌, ◌≡◌}
+use Rattle.std.specs.Prelude.{◌≢◌, ◌≤◌}
 use Rattle.bk_tiling.specs.declared.Segment.{Segment}
 use Rattle.bk_tiling.specs.declared.Square.{Square}
 use Rattle.bk_tiling.specs.Tiling.{IsTiling, Tiling}

@@ -1,13 +1,16 @@
-//! What a ledger answers to a move: equations that contradict those before, and comparisons that are known to be others.
+//! What a ledger answers to a move: equations that contradict those before, and comparisons that are known to be
+//! others.
 #![tactic(auto)]
 
-ghost use Rattle.std.specs.Prelude.{IsTrue, List, Some, [], false, length, slice_index_or, true, ℕ, ◌+◌, ◌<◌, ◌↔◌, ◌≡◌, ◌≢◌, ◌≤◌};
+ghost use Rattle.std.specs.Prelude.{IsTrue, List, Some, [], false, length, slice_index_or, true, ℕ, ◌+◌, ◌<◌, ◌↔◌, ◌≡◌};
+ghost use Rattle.std.specs.Prelude.{◌≢◌, ◌≤◌};
 ghost use Rattle.bk_word.specs.declared.Sign.{Sign};
-ghost use Rattle.bk_forms.specs.Form.{form_value, with_side};
+ghost use Rattle.bk_forms.specs.Form.{form_value, with_column};
 ghost use Rattle.bk_forms.specs.FormLaws.{Compares, MeetsEquations};
 ghost use Rattle.bk_forms.specs.Reduction.{addition, comparison, contradiction, kept_after};
-ghost use Rattle.bk_walk_cuts.specs.Asking.{Answers, AreApart, AreKnownEqual, KeepsFirst};
-ghost use Rattle.bk_walk_cuts.specs.FormCuts.{LevelsContradict, SidesAreEqual, SignIsOther, WidthsContradict, kept_by_sign, kept_by_signs, kept_by_widths};
+ghost use Rattle.bk_walk_cuts.specs.KnownSides.{Answers, AreKnownEqual, AreSidesApart, KeepsFirst};
+ghost use Rattle.bk_walk_cuts.specs.FormCuts.{LevelsContradict, SidesAreEqual, SignIsOther, WidthsContradict};
+ghost use Rattle.bk_walk_cuts.specs.FormCuts.{kept_by_sign, kept_by_signs, kept_by_widths};
 ghost use Rattle.bk_walk_cuts.specs.SideForms.{sum_of_sides as sum_seen, zero_form};
 ghost use Rattle.bk_walk_cuts.specs.SidesOfTilings.{AgreeWith};
 
@@ -15,8 +18,8 @@ use crate::levels::{level_at, sum_of_sides};
 use bk_forms::{Compared, Form, Kept, Ledger};
 use bk_word::Sign;
 
-// Adds the equation of the squares that end on a valley and those that hang under it, and those of the levels beside each sign
-// even. Whether one contradicts the equations before it.
+// Adds the equation of the squares that end on a valley and those that hang under it, and those of the levels beside
+// each sign even. Whether one contradicts the equations before it.
 pub(crate) fn contradicts(
     ledger: &mut Ledger,
     valley: &[u8],
@@ -28,9 +31,12 @@ pub(crate) fn contradicts(
         → (valley.now ≢ [] → form_value (sum_seen valley.now) sides ≡ form_value (sum_seen numbers.now) sides)
         → AgreeWith signs.now levels.now sides → Answers ledger.new sides result }
     ensures first { KeepsFirst ledger.old ledger.new }
-    ensures kept { result ≡ false → ledger.new ≡ kept_by_signs (kept_by_widths ledger.old valley.now numbers.now) levels.now signs.now (length signs.now) }
+    ensures kept { result ≡ false
+        → ledger.new ≡ kept_by_signs (kept_by_widths ledger.old valley.now numbers.now) levels.now signs.now
+        (length signs.now) }
     ensures widths { WidthsContradict ledger.old valley.now numbers.now → IsTrue result }
-    ensures levels { LevelsContradict (kept_by_widths ledger.old valley.now numbers.now) levels.now signs.now → IsTrue result }
+    ensures levels { LevelsContradict (kept_by_widths ledger.old valley.now numbers.now) levels.now signs.now
+        → IsTrue result }
 {
     if contradicts_widths(ledger, valley, numbers) {
         return true;
@@ -38,8 +44,8 @@ pub(crate) fn contradicts(
     contradicts_signs(ledger, levels, signs)
 }
 
-// Adds the equation of the squares that end on a valley and those that hang under it, where the valley has squares. Whether it
-// contradicts the equations before.
+// Adds the equation of the squares that end on a valley and those that hang under it, where the valley has squares.
+// Whether it contradicts the equations before.
 fn contradicts_widths(ledger: &mut Ledger, valley: &[u8], numbers: &[u8]) -> bool
     ensures meets { (sides : List ℕ) → MeetsEquations 16 ledger.old sides
         → (valley.now ≢ [] → form_value (sum_seen valley.now) sides ≡ form_value (sum_seen numbers.now) sides)
@@ -126,7 +132,8 @@ pub(crate) fn compares_otherwise(ledger: &Ledger, levels: &[Form], signs: &[Sign
 fn is_known_otherwise(ledger: &Ledger, sign: Sign, left: &Form, right: &Form) -> bool
     ensures sound { (sides : List ℕ) → MeetsEquations 16 ledger.now sides
         → Compares sign (form_value left.now sides) (form_value right.now sides) → result ≡ false }
-    ensures all { (known : Sign) → sign ≢ Sign.Even → comparison ledger.now left.now right.now ≡ Some known → known ≢ sign → IsTrue result }
+    ensures all { (known : Sign) → sign ≢ Sign.Even → comparison ledger.now left.now right.now ≡ Some known
+        → known ≢ sign → IsTrue result }
 {
     if sign == Sign::Even {
         return false;
@@ -148,7 +155,7 @@ fn is_other(compared: Compared, sign: Sign) -> bool
 // Whether two of the first sides are known to be equal.
 pub(crate) fn has_equal_sides(ledger: &Ledger, count: usize) -> bool
     requires { count ≤ 16 }
-    ensures sound { (sides : List ℕ) → MeetsEquations 16 ledger.now sides → AreApart count sides → result ≡ false }
+    ensures sound { (sides : List ℕ) → MeetsEquations 16 ledger.now sides → AreSidesApart count sides → result ≡ false }
     ensures all { SidesAreEqual ledger.now count → IsTrue result }
 {
     for i in 0..count {
@@ -162,7 +169,8 @@ pub(crate) fn has_equal_sides(ledger: &Ledger, count: usize) -> bool
 // Whether a side is known to be equal to one before it.
 fn equals_one_before(ledger: &Ledger, i: usize) -> bool
     requires { i < 16 }
-    ensures sound { (sides : List ℕ) → MeetsEquations 16 ledger.now sides → AreApart (i + 1) sides → result ≡ false }
+    ensures sound { (sides : List ℕ) → MeetsEquations 16 ledger.now sides → AreSidesApart (i + 1) sides
+        → result ≡ false }
     ensures all { (j : ℕ) → j < i → AreKnownEqual ledger.now i j → IsTrue result }
 {
     for j in 0..i {
@@ -189,7 +197,7 @@ fn are_equal(ledger: &Ledger, i: usize, j: usize) -> bool
 // The form of a side.
 fn side_alone(i: usize) -> Form
     requires { i < 16 }
-    ensures { result ≡ with_side zero_form i }
+    ensures { result ≡ with_column zero_form i }
 {
     Form::zero().plus_side(i)
 }

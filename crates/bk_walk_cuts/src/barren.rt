@@ -17,8 +17,8 @@ use bk_catalogue::single_valleys;
 use bk_play::{Skel, open_side};
 use bk_word::{Class, Move, Sign};
 
-/// Passes over a legal move by which no member's word of the order and the class goes on, and over others of which this is as
-/// plain. False if it isn't plain; the move is then as it was. (Own.)
+/// Passes over a legal move by which no member's word of the order and the class goes on, and over others of which this
+/// is as plain. False if it isn't plain; the move is then as it was.
 pub fn skip(lined: &LinedSkel, class: Class, order: u8, m: &mut Move) -> bool
     requires legal { IsLegalMove (outline_of lined.now) m.old }
     requires count { m.old.count < 17 }
@@ -50,7 +50,7 @@ fn skip_by_sides(lined: &LinedSkel, class: Class, m: &mut Move) -> bool
     true
 }
 
-// The same, by counts and signs alone.
+// Passes over a move that counts and signs alone rule out.
 fn skip_by_signs(skel: &Skel, class: Class, order: u8, m: &mut Move) -> bool
     requires legal { IsLegalMove (outline_of skel.now) m.old }
     requires count { m.old.count < 17 }
@@ -72,8 +72,8 @@ fn skip_by_signs(skel: &Skel, class: Class, order: u8, m: &mut Move) -> bool
     skip_owing(skel, order, m)
 }
 
-// Passes over a move with two equal squares side by side under one segment, and over all of its count whose signs are the
-// same up to there. Where the class isn't perfect, this is a cut at orders of at least 3.
+// Passes over a move with two equal squares side by side under one segment, and over all of its count whose signs are
+// the same up to there. Where the class isn't perfect, this is a cut at orders of at least 3.
 fn skip_even(skel: &Skel, class: Class, order: u8, m: &mut Move) -> bool
     requires count { m.old.count < 17 }
     requires signs { length m.old.signs ≤ 18 }
@@ -105,7 +105,8 @@ fn bars_even(class: Class, order: u8) -> bool
     }
 }
 
-// How many signs there are up to the first even one between two of the move's own squares, where its own begin at `from`.
+// How many signs there are up to the first even one between two of the move's own squares, where its own begin at
+// `from`.
 fn first_even(m: &Move, from: usize) -> Option<usize>
     requires count { m.now.count < 17 }
     requires from { from ≤ 1 }
@@ -149,7 +150,7 @@ fn skip_shorter(skel: &Skel, m: &mut Move) -> bool
     true
 }
 
-/// Whether it is plain that no member's word of the order begins with these moves, in any class. (Own.)
+/// Whether it is plain that no member's word of the order begins with these moves, in any class.
 pub fn is_barren(lined: &LinedSkel, order: u8) -> bool
     ensures { IsTrue result → (class : Class) → IsBarren order class lined.now }
 {
@@ -163,9 +164,9 @@ fn is_whole_early(skel: &Skel, order: u8) -> bool
     skel.is_closed() && skel.order() < usize::from(order)
 }
 
-// Whether fewer squares are left than must still hang: one for each segment that ends above its neighbour on one segment's
-// side, one for that segment itself where a vertical line from the top bounds it or ended on it, and one more for each valley
-// of just one square. At orders under 3 nothing is said.
+// Whether fewer squares are left than must still hang: one for each segment that ends above its neighbour on one
+// segment's side, one for that segment itself where a vertical line from the top bounds it or ended on it, and one more
+// for each valley of just one square. At orders under 3 nothing is said.
 fn owes_too_many(lined: &LinedSkel, order: u8) -> bool
     ensures { IsTrue result → (class : Class) → IsBarren order class lined.now }
 {

@@ -2,12 +2,14 @@
 #![tactic(auto)]
 
 ghost use Rattle.std.specs.List.{AllByRecursion};
-ghost use Rattle.std.specs.Prelude.{List, cond, length, map, slice_index_or, slice_range, ◌++◌, ◌+◌, ◌-◌, ◌<◌, ◌≡◌, ◌≤◌, ◌∷◌, []};
+ghost use Rattle.std.specs.Prelude.{List, cond, length, map, slice_index_or, slice_range, ◌++◌, ◌+◌, ◌-◌, ◌<◌, ◌≡◌};
+ghost use Rattle.std.specs.Prelude.{◌≤◌, ◌∷◌, []};
 ghost use Rattle.bk_word.specs.Outline.{valley_of};
 ghost use Rattle.bk_word.specs.Play.{numbers_from, outline_of};
 ghost use Rattle.bk_word.specs.Word.{order_of};
-ghost use Rattle.bk_forms.specs.Form.{with_side};
-ghost use Rattle.bk_walk_cuts.specs.SideForms.{level_of as level_seen, levels_along as levels_seen, sum_of_sides as sum_seen, zero_form};
+ghost use Rattle.bk_forms.specs.Form.{with_column};
+ghost use Rattle.bk_walk_cuts.specs.SideForms.{level_of as level_seen, levels_along as levels_seen};
+ghost use Rattle.bk_walk_cuts.specs.SideForms.{sum_of_sides as sum_seen, zero_form};
 ghost use Rattle.bk_walk_cuts.specs.Trace.{AreSmall, IsSmall};
 
 use arrayvec::ArrayVec;
@@ -144,7 +146,8 @@ pub(crate) fn push_bottoms<const N: usize>(
     requires few { hung + count ≤ 5 }
     requires room { length levels.old.items + count ≤ N }
     requires small { IsSmall 5 valley.now }
-    ensures { levels.new.items ≡ levels.old.items ++ map (λ n. with_side valley.now (n - 1)) (numbers_from (hung + 1) count) }
+    ensures { levels.new.items
+        ≡ levels.old.items ++ map (λ n. with_column valley.now (n - 1)) (numbers_from (hung + 1) count) }
 {
     for i in 0..usize::from(count) {
         levels.push(valley.plus_side(hung + i));

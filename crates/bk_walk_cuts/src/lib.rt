@@ -1,5 +1,6 @@
-//! What a walk through the tree of words asks of its moves: which come next, and which are passed over because no member's word
-//! goes on by them. Some are by counts; others by equations and comparisons between the sides of a word's squares.
+//! What a walk through the tree of words asks of its moves: which come next, and which are passed over because no
+//! member's word goes on by them. Some are by counts; others by equations and comparisons between the sides of a word's
+//! squares.
 #![tactic(auto)]
 
 ghost use Rattle.bk_walk_cuts.specs.RuledOutCut.{RuledOutIsBarren};

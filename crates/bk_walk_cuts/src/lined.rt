@@ -1,4 +1,5 @@
-//! Words that are played and taken back, with the vertical lines that run from the top and the equations between first sides.
+//! Words that are played and taken back, with the vertical lines that run from the top and the equations between first
+//! sides.
 #![tactic(auto)]
 
 ghost use Rattle.std.specs.Prelude.{IsTrue, [], length, replicate, take, ℕ, ◌++◌, ◌+◌, ◌-◌, ◌<◌, ◌∷◌, ◌≡◌, ◌≤◌};
@@ -20,9 +21,9 @@ use std::sync::ledger::Ledger;
 // A whole walk of a lower order saves one push by the equations between sides, and loses more time on them.
 const LEAST_TRACED_ORDER: u8 = 9;
 
-/// A skeleton, of each of its squares whether its left edge lies on a vertical line that runs from the top between squares of
-/// the first move, and what is known of the sides of its first squares, where that is followed. It is seen as the list of its
-/// moves. (Own.)
+/// A skeleton, of each of its squares whether its left edge lies on a vertical line that runs from the top between
+/// squares of the first move, and what is known of the sides of its first squares, where that is followed. It is seen
+/// as the list of its moves.
 #[derive(Drop)]
 pub struct LinedSkel {
     skel: Skel,
@@ -87,8 +88,8 @@ impl LinedSkel {
         self.lines.truncate(self.skel.order());
     }
 
-    /// Takes moves back until so many are left, for moves that are known to lead to a member's word: no cut is asked of those, so the sides are
-    /// followed no further.
+    /// Takes moves back until so many are left, for moves that are known to lead to a member's word: no cut is asked of
+    /// those, so the sides are followed no further.
     pub fn shorten(&mut self, moves: usize)
         requires { moves ≤ length self.old }
         ensures { self.new ≡ take moves self.old }
@@ -120,9 +121,10 @@ impl LinedSkel {
     }
 }
 
-// Appends of the squares of a move whether their left edges lie on a vertical line that runs from the top between squares of
-// the first move: of the first square what is said of the valley's left edge, of the others whether the move is the first.
-// (Own.)
+// Appends of the squares of a move whether their left edges lie on a vertical line that runs from the top between
+// squares of the first move: of the first square what is said of the valley's left edge, of the others whether the move
+// is the first.
+//
 fn push_lines<const N: usize>(
     lines: &mut ArrayVec<bool, N>,
     valley: bool,

@@ -25,8 +25,8 @@ pub fn begin_anew(m: &mut Move)
     m.signs.clear();
 }
 
-// Makes of the signs those that are next after all that begin with them: raises the last that isn't under, and drops those
-// behind it. Where all are under, it drops all and answers false.
+// Makes of the signs those that are next after all that begin with them: raises the last that isn't under, and drops
+// those behind it. Where all are under, it drops all and answers false.
 fn raise(signs: &mut ArrayVec<Sign, MOST_SIGNS>) -> bool
     requires { length signs.old.items ≤ 18 }
     ensures raised { IsTrue result → signs_after signs.old.items ≡ Some signs.new.items }

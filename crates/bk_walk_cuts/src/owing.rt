@@ -11,8 +11,8 @@ use bk_catalogue::{first_above, first_over, unders_behind};
 use bk_play::Skel;
 use bk_word::Move;
 
-// Passes over a move, and over all of its count whose signs are the same up to a place, where the signs up to there ask for
-// more squares than are left after it: one for each segment that ends above its neighbour on one segment's side.
+// Passes over a move, and over all of its count whose signs are the same up to a place, where the signs up to there ask
+// for more squares than are left after it: one for each segment that ends above its neighbour on one segment's side.
 pub(crate) fn skip_owing(skel: &Skel, order: u8, m: &mut Move) -> bool
     requires count { m.old.count < 17 }
     requires signs { length m.old.signs ≤ 18 }

@@ -6,8 +6,9 @@ ghost use Rattle.bk_word.specs.Outline.{IsLegalMove, valley_of};
 ghost use Rattle.bk_word.specs.Play.{new_squares, outline_of};
 ghost use Rattle.bk_word.specs.Word.{order_of};
 ghost use Rattle.bk_word.specs.declared.Class.TheVariants.{Perfect};
-ghost use Rattle.bk_walk_cuts.specs.Asking.{Answers, AreApart, KeepsFirst};
-ghost use Rattle.bk_walk_cuts.specs.FormCuts.{IsCutByForms, IsCutByLevels, LevelsContradict, WidthsContradict, kept_by_widths, kept_with_move};
+ghost use Rattle.bk_walk_cuts.specs.KnownSides.{Answers, AreSidesApart, KeepsFirst};
+ghost use Rattle.bk_walk_cuts.specs.FormCuts.{IsCutByForms, IsCutByLevels, LevelsContradict, WidthsContradict};
+ghost use Rattle.bk_walk_cuts.specs.FormCuts.{kept_by_widths, kept_with_move};
 ghost use Rattle.bk_walk_cuts.specs.SideForms.{brings_more};
 ghost use Rattle.bk_walk_cuts.specs.SidesOfTilings.{MeetsMove};
 ghost use Rattle.bk_walk_cuts.specs.Trace.{IsRuledOut, IsTraceOf};
@@ -27,8 +28,8 @@ pub(crate) struct Mark {
     pub(crate) squares: usize,
 }
 
-/// Equations between the sides of a word's squares, and the levels of their bottoms, along its first moves while at most 5
-/// squares hang. (Own.)
+/// Equations between the sides of a word's squares, and the levels of their bottoms, along its first moves while at
+/// most 5 squares hang.
 #[derive(Drop)]
 pub struct Tracing {
     ledger: Ledger,
@@ -56,17 +57,18 @@ impl Tracing {
         }
     }
 
-    /// Whether a legal move after these moves is known to be ruled out: no tiling of the class has a word that begins so. It is
-    /// said only while at most 5 squares hang with it, and of a move that brings more equations than squares; there always where
-    /// the widths or the levels beside a sign even contradict the equations before, where levels are known to compare otherwise
-    /// than a sign says, and in the class perfect where two sides are known to be equal.
+    /// Whether a legal move after these moves is known to be ruled out: no tiling of the class has a word that begins
+    /// so. It is said only while at most 5 squares hang with it, and of a move that brings more equations than squares;
+    /// there always where the widths or the levels beside a sign even contradict the equations before, where levels are
+    /// known to compare otherwise than a sign says, and in the class perfect where two sides are known to be equal.
     pub fn rules_out(&self, skel: &Skel, m: &Move, class: Class) -> bool
         requires trace { IsTraceOf skel.now self.now }
         requires legal { IsLegalMove (outline_of skel.now) m.now }
         ensures sound { IsTrue result → IsRuledOut class (skel.now ++ m.now ∷ []) }
         ensures few { IsTrue result → order_of skel.now + m.now.count ≤ 5 }
         ensures more { IsTrue result → IsTrue (brings_more m.now) }
-        ensures all { length self.now.marks ≡ length skel.now → order_of skel.now + m.now.count ≤ 5 → IsTrue (brings_more m.now)
+        ensures all { length self.now.marks ≡ length skel.now → order_of skel.now + m.now.count ≤ 5
+            → IsTrue (brings_more m.now)
             → IsCutByForms class skel.now m.now self.now.kept self.now.bottoms → IsTrue result }
     {
         if !self.follows(skel, m) {
@@ -78,7 +80,8 @@ impl Tracing {
         self.refuses(skel, m, class)
     }
 
-    /// The same, also of a move that brings no more equations than squares.
+    /// Whether a legal move after these moves is known to be ruled out, also where it brings no more equations than
+    /// squares.
     pub fn would_rule_out(&self, skel: &Skel, m: &Move, class: Class) -> bool
         requires trace { IsTraceOf skel.now self.now }
         requires legal { IsLegalMove (outline_of skel.now) m.now }
@@ -93,7 +96,7 @@ impl Tracing {
         self.refuses(skel, m, class)
     }
 
-    // The same of a move that is followed, by all that the ledger answers.
+    // Whether the ledger, by all that it answers, rules out a move that is followed.
     fn refuses(&self, skel: &Skel, m: &Move, class: Class) -> bool
         requires trace { IsTraceOf skel.now self.now }
         requires all { length self.now.marks ≡ length skel.now }
@@ -106,8 +109,8 @@ impl Tracing {
         is_refused(&mut ledger, levels.as_slice(), skel, m, class)
     }
 
-    /// Goes on by a legal move after these moves. It must be called before the move is played. A move with which 5 squares hang
-    /// isn't followed, since none after it is.
+    /// Goes on by a legal move after these moves. It must be called before the move is played. A move with which 5
+    /// squares hang isn't followed, since none after it is.
     pub fn push(&mut self, skel: &Skel, m: &Move)
         requires trace { IsTraceOf skel.now self.old }
         requires legal { IsLegalMove (outline_of skel.now) m.now }
@@ -124,7 +127,7 @@ impl Tracing {
         self.go_on(skel, m);
     }
 
-    // The same by a move that is followed.
+    // Goes on by a move that is followed.
     fn go_on(&mut self, skel: &Skel, m: &Move)
         requires trace { IsTraceOf skel.now self.old }
         requires legal { IsLegalMove (outline_of skel.now) m.now }
@@ -163,14 +166,15 @@ impl Tracing {
     fn follows(&self, skel: &Skel, m: &Move) -> bool
         ensures all { IsTrue result → length self.now.marks ≡ length skel.now }
         ensures few { IsTrue result → order_of skel.now + m.now.count ≤ 5 }
-        ensures no { result ≡ false → length self.now.marks ≡ length skel.now → order_of skel.now + m.now.count ≤ 5 → ⊥ }
+        ensures no { result ≡ false → length self.now.marks ≡ length skel.now → order_of skel.now + m.now.count ≤ 5
+            → ⊥ }
     {
         self.marks.len() == skel.moves() && skel.order() + usize::from(m.count) <= FOLLOWED
     }
 }
 
-// Whether a move brings more equations than squares: that of the widths, and one for each sign even. Any other says what its own
-// squares are, and nothing of those before.
+// Whether a move brings more equations than squares: that of the widths, and one for each sign even. Any other says
+// what its own squares are, and nothing of those before.
 fn binds_earlier(m: &Move) -> bool
     ensures { result ≡ brings_more m.now }
 {
@@ -181,7 +185,7 @@ fn binds_earlier(m: &Move) -> bool
 fn is_refused(ledger: &mut Ledger, levels: &[Form], skel: &Skel, m: &Move, class: Class) -> bool
     requires few { order_of skel.now + m.now.count ≤ 5 }
     ensures sound { IsTrue result → (sides : List ℕ) → MeetsMove skel.now m.now ledger.old levels.now sides
-        → (class ≡ Perfect → AreApart (order_of skel.now + m.now.count) sides) → ⊥ }
+        → (class ≡ Perfect → AreSidesApart (order_of skel.now + m.now.count) sides) → ⊥ }
     ensures all { IsCutByLevels class skel.now m.now ledger.old levels.now → IsTrue result }
 {
     if add_equations(ledger, levels, skel, m) {
@@ -196,11 +200,14 @@ fn is_refused(ledger: &mut Ledger, levels: &[Form], skel: &Skel, m: &Move, class
 // Adds the equations of a move, which compares these levels. Whether one contradicts those before.
 fn add_equations(ledger: &mut Ledger, levels: &[Form], skel: &Skel, m: &Move) -> bool
     requires few { order_of skel.now + m.now.count ≤ 5 }
-    ensures meets { (sides : List ℕ) → MeetsMove skel.now m.now ledger.old levels.now sides → Answers ledger.new sides result }
+    ensures meets { (sides : List ℕ) → MeetsMove skel.now m.now ledger.old levels.now sides
+        → Answers ledger.new sides result }
     ensures first { KeepsFirst ledger.old ledger.new }
     ensures kept { result ≡ false → ledger.new ≡ kept_with_move (outline_of skel.now) m.now ledger.old levels.now }
-    ensures widths { WidthsContradict ledger.old (valley_of (outline_of skel.now)) (new_squares (outline_of skel.now) m.now) → IsTrue result }
-    ensures levels { LevelsContradict (kept_by_widths ledger.old (valley_of (outline_of skel.now)) (new_squares (outline_of skel.now) m.now))
+    ensures widths { WidthsContradict ledger.old (valley_of (outline_of skel.now))
+        (new_squares (outline_of skel.now) m.now) → IsTrue result }
+    ensures levels { LevelsContradict
+        (kept_by_widths ledger.old (valley_of (outline_of skel.now)) (new_squares (outline_of skel.now) m.now))
         levels.now m.now.signs → IsTrue result }
 {
     let numbers = new_numbers(skel.order(), m.count);

@@ -8,8 +8,9 @@ use Rattle.std.proofs.lemmas.Bool.{cond-false, cond-true}
 use Rattle.std.proofs.lemmas.List.{drop_all, drop_more, length-drop, take-append-drop, take_rest}
 use Rattle.std.proofs.lemmas.List.Sums.{sum_by-cons}
 use Rattle.bk_laws.proofs.AllOfLists.{all_left}
+use Rattle.bk_laws.proofs.ListParts.{append-same_front}
 use Rattle.bk_word.specs.KeptWord.{CanStand, IsKeptWord}
-use Rattle.bk_word.specs.Stored.{IsStoredWord, front_signs, is_count, moves_in, sign_byte, sign_of, stored, stored_move}
+use Rattle.bk_word.specs.StoredWord.{IsStoredWord, front_signs, is_count, moves_in, sign_byte, sign_of, stored, stored_move}
 use Rattle.bk_word.specs.Word.{Move, Word}
 use Rattle.bk_word.specs.declared.Sign.{Sign}
 use Rattle.bk_word.proofs.StoredBytes.{few_low, order_one, stored_one}
@@ -31,7 +32,7 @@ pub count_here : (bytes : List ℕ) (i : ℕ) → i < length bytes → is_count 
     → moves_in (drop i bytes) ≡ move_of (get_or bytes i 0) (drop (i + 1) bytes) ∷ moves_in (drop (i + 1) bytes)
 count_here bytes i within h = ap moves_in (drop_more bytes i 0 within) ∙ at_count (get_or bytes i 0) (drop (i + 1) bytes) h
 
--- and those from the place of a sign on are those behind it
+-- the moves from the place of a sign on are those behind it
 pub sign_here : (bytes : List ℕ) (i : ℕ) → i < length bytes → is_count (get_or bytes i 0) ≡ false → moves_in (drop i bytes) ≡ moves_in (drop (i + 1) bytes)
 sign_here bytes i within h = ap moves_in (drop_more bytes i 0 within) ∙ at_sign (get_or bytes i 0) (drop (i + 1) bytes) h
 
@@ -62,16 +63,6 @@ first_dropped [] zero m rest e = absurd (cc)
 first_dropped [] (suc i) m rest e = absurd (cc)
 first_dropped (n ∷ w) zero m rest e = let same : n ≡ m = cc in ap (λ (k : Move). Some k) same
 first_dropped (n ∷ w) (suc i) m rest e = first_dropped w i m rest e
-
--- the last move is taken off
-append_same : (a b x y : List ℕ) → length x ≡ length y → a ++ x ≡ b ++ y → a ≡ b
-append_same [] [] x y n e = refl
-append_same [] (c ∷ b) x y n e = absurd (omega (arith, length-append b y, ap (λ (l : List ℕ). length l) e))
-append_same (c ∷ a) [] x y n e = absurd (omega (arith, length-append a x, ap (λ (l : List ℕ). length l) e))
-append_same (c ∷ a) (d ∷ b) x y n e =
-    let first : c ≡ d = cc in
-    let others : a ++ x ≡ b ++ y = cc in
-    λ i. first i ∷ append_same a b x y n others i
 
 front_before : (a : List ℕ) (c : ℕ) (rest : List ℕ) → is_count c ≡ true → front_signs (a ++ c ∷ rest) ≡ front_signs a
 front_before [] c rest h = cond-true _ _ _ h
@@ -111,7 +102,7 @@ last_off a c rest h none s =
     let long : length (c ∷ rest) ≡ length (stored_move (move_of c rest)) = ap (λ (n : ℕ). suc n) (sym (all_signs rest none)) in (
       moves,
       record {
-        same = append_same a (stored (moves_in a)) (c ∷ rest) (stored_move (move_of c rest)) long whole;
+        same = append-same_front a (stored (moves_in a)) (c ∷ rest) (stored_move (move_of c rest)) long whole;
         kept = record {
           moves = all_left CanStand (moves_in a) (move_of c rest ∷ []) kept.moves;
           few = omega (arith, kept.few, order_one (moves_in a) (move_of c rest));

@@ -1,45 +1,13 @@
 -- The parts of a line that holds an item.
 use Rattle.std.specs.List.{AllByRecursion}
-use Rattle.std.specs.Prelude.{List, [], drop, length, slice_range, suc, take, zero, ℕ, ◌++◌, ◌+◌, ◌-◌, ◌<◌, ◌∷◌, ◌≡◌, ◌≢◌, ◌≤◌}
-use Rattle.std.proofs.Common.{ap, append_assoc, arith, get_or, length-append, length-drop, length-take, refl, subst, sym, ◌∙◌}
-use Rattle.std.proofs.lemmas.List.{drop-drop, drop-take, take-append-drop, take-take, take_all, take_more}
-use Rattle.bk_laws.proofs.AllOfLists.{all_append, all_left, all_right}
+use Rattle.std.specs.Prelude.{List, [], drop, length, slice_range, take, ℕ, ◌++◌, ◌+◌, ◌-◌, ◌<◌, ◌∷◌, ◌≡◌, ◌≢◌, ◌≤◌}
+use Rattle.std.proofs.Common.{ap, arith, get_or, length-append, length-drop, length-take, subst, sym, ◌∙◌}
+use Rattle.std.proofs.lemmas.List.{drop-take, take-append-drop, take-take}
+use Rattle.bk_laws.proofs.AllOfLists.{all_left, all_right}
+use Rattle.bk_laws.proofs.ListItems.{get_or-append_back, get_or-append_front, get_or-snoc_last}
+use Rattle.bk_laws.proofs.ListParts.{append-three_parts}
 use Rattle.bk_grammar.specs.Grammar.{Blanks, Comment, IsBlank, Nothing, ◌or◌}
 use Rattle.bk_word.specs.WordItem.{IsItemAt, IsItemOf}
-
--- what holds of the first bytes and of the next one holds of one byte more
-pub all_more : (P : ℕ → Type 0) (text : List ℕ) (i : ℕ) → i < length text → AllByRecursion P (take i text) → P (get_or text i 0)
-    → AllByRecursion P (take (i + 1) text)
-all_more P text i within front here =
-    subst (AllByRecursion P) (sym (take_more text i 0 within)) (all_append P (take i text) (get_or text i 0 ∷ []) front (here, tt))
-
--- and where all bytes are passed, of all
-pub all_passed : (P : ℕ → Type 0) (text : List ℕ) (i : ℕ) → length text ≤ i → AllByRecursion P (take i text) → AllByRecursion P text
-all_passed P text i all front = subst (AllByRecursion P) (take_all i text all) front
-
--- a list in three parts
-three_parts : (text : List ℕ) (start end : ℕ) → start ≤ end → text ≡ (take start text ++ slice_range text start end) ++ drop end text
-three_parts text start end order =
-    let rest : drop (end - start) (drop start text) ≡ drop end text = drop-drop (end - start) start text
-    ∙ ap (λ (n : ℕ). drop n text) (let e : start + (end - start) ≡ end = omega arith in e) in
-    sym (take-append-drop start text)
-    ∙ ap (λ (z : List ℕ). take start text ++ z) (sym (take-append-drop (end - start) (drop start text))
-    ∙ ap (λ (z : List ℕ). slice_range text start end ++ z) rest)
-    ∙ sym (append_assoc (take start text) (slice_range text start end) (drop end text))
-
--- the byte at a place of a part
-get_append : (a b : List ℕ) (i : ℕ) → get_or (a ++ b) (length a + i) 0 ≡ get_or b i 0
-get_append [] b i = let e : 0 + i ≡ i = omega arith in ap (λ (n : ℕ). get_or b n 0) e
-get_append (x ∷ a) b i = let e : length (x ∷ a) + i ≡ suc (length a + i) = omega arith in ap (λ (n : ℕ). get_or (x ∷ a ++ b) n 0) e ∙ get_append a b i
-
-last_byte : (front : List ℕ) (b : ℕ) → get_or (front ++ b ∷ []) (length front) 0 ≡ b
-last_byte [] b = refl
-last_byte (x ∷ front) b = last_byte front b
-
-get_left : (a b : List ℕ) (i : ℕ) → i < length a → get_or (a ++ b) i 0 ≡ get_or a i 0
-get_left [] b i within = absurd (omega arith)
-get_left (x ∷ a) b zero within = refl
-get_left (x ∷ a) b (suc i) within = get_left a b i (omega arith)
 
 -- the parts of a text that holds an item
 pub record IsItemText (text before item after : List ℕ) : Type 0 where
@@ -70,18 +38,18 @@ item_of text before item after comment h rest = record {
         let at : length before + length item - 1 ≡ length before + length front = omega (arith, n) in
         ap (λ (z : List ℕ). get_or z (length before + length item - 1) 0) h.whole
         ∙ ap (λ (k : ℕ). get_or ((before ++ item) ++ after) k 0) at
-        ∙ get_left (before ++ item) after (length before + length front) (omega (arith, n, length-append before item))
-        ∙ get_append before item (length front)
+        ∙ get_or-append_front (before ++ item) after (length before + length front) (omega (arith, n, length-append before item))
+        ∙ get_or-append_back before item (length front)
         ∙ ap (λ (z : List ℕ). get_or z (length front) 0) e
-        ∙ last_byte front b
+        ∙ get_or-snoc_last front b
 
     first_is : (b : ℕ) (back : List ℕ) → item ≡ b ∷ back → get_or text (length before) 0 ≡ b
     first_is b back e =
         let at : length before ≡ length before + 0 = omega arith in
         ap (λ (z : List ℕ). get_or z (length before) 0) h.whole
-        ∙ get_left (before ++ item) after (length before) (omega (arith, h.some, length-append before item))
+        ∙ get_or-append_front (before ++ item) after (length before) (omega (arith, h.some, length-append before item))
         ∙ ap (λ (k : ℕ). get_or (before ++ item) k 0) at
-        ∙ get_append before item 0
+        ∙ get_or-append_back before item 0
         ∙ ap (λ (z : List ℕ). get_or z 0 0) e
 
 -- the item that was found in the text before the comment
@@ -96,7 +64,7 @@ item_found line text cut start end is within bare comment order ends before firs
     let long : length (slice_range text start end) ≡ end - start = length_taken (end - start) (drop start text) (omega (arith, length-drop start text)) in
     let short : length (take start text) ≡ start = length_taken start text (omega arith) in
     let parts : IsItemText text (take start text) (slice_range text start end) (drop end text) = record {
-      whole = three_parts text start end (omega arith);
+      whole = append-three_parts text start end (omega arith);
       some = omega (arith, long);
       first = λ blank. first (subst (λ (k : ℕ). IsBlank (get_or text k 0)) short blank);
       last = λ blank. last (subst (λ (k : ℕ). IsBlank (get_or text k 0)) (let e : length (take start text) + length (slice_range text start end) - 1

@@ -4,7 +4,7 @@ use Rattle.std.specs.Prelude.{List, [], length, ℕ, ◌∷◌, ◌<◌, ◌≡�
 use Rattle.std.proofs.Common.{ap, arith, inl, inr, subst, sym, ◌∙◌}
 use Rattle.std.proofs.lemmas.Bool.{cases_lt}
 use Rattle.bk_word.specs.KeptWord.{CanStand, IsKeptWord}
-use Rattle.bk_word.specs.Stored.{IsStoredWord, moves_in, stored}
+use Rattle.bk_word.specs.StoredWord.{IsStoredWord, moves_in, stored}
 use Rattle.bk_word.specs.Taken.{KeepsTextOf}
 use Rattle.bk_word.specs.Word.{Word, order_of}
 use Rattle.bk_word.specs.WordText.{IsTextOf, IsWrittenMove}
@@ -36,7 +36,7 @@ many_squares w h = elim (cases_lt 16 (order_of w)) [
   | inr few ↦ absurd (h few)
 ]
 
--- and more than 64 bytes
+-- a word of more than 64 bytes is stored in more than 64 bytes
 pub many_bytes : (bytes : List ℕ) → IsStoredWord bytes → (length bytes ≤ 64 → ⊥) → 64 < length (stored (moves_in bytes))
 many_bytes bytes are h = elim (cases_lt 64 (length bytes)) [
   | inl more ↦ omega (arith, more, same)

@@ -14,7 +14,6 @@ pub mod FollowLaws
 pub mod WordItemExamples
 pub mod WordsRead
 pub mod WordsSpelled
-pub mod Failing
 pub mod WordPieces
 pub mod ReadSoFar
 pub mod WordProgress

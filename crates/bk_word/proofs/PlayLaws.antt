@@ -10,7 +10,7 @@ pub after_moves-append : (o : Outline) (front rest : Word) → after_moves o (fr
 after_moves-append o [] rest = refl
 after_moves-append o (m ∷ front) rest = after_moves-append (after_move o m) front rest
 
--- and after one move more
+-- what is open after one move more
 pub after-snoc : (o : Outline) (w : Word) (m : Move) → after_moves o (w ++ m ∷ []) ≡ after_move (after_moves o w) m
 after-snoc o w m = after_moves-append o w (m ∷ [])
 
@@ -19,7 +19,7 @@ pub legal_rest : (o : Outline) (front rest : Word) → AreLegalFrom o (front ++ 
 legal_rest o [] rest l = l
 legal_rest o (m ∷ front) rest l = legal_rest (after_move o m) front rest l.1
 
--- and the first is legal
+-- the first part of a legal word is legal
 pub legal_front : (o : Outline) (front rest : Word) → AreLegalFrom o (front ++ rest) → AreLegalFrom o front
 legal_front o [] rest l = tt
 legal_front o (m ∷ front) rest l = (l.0, legal_front (after_move o m) front rest l.1)

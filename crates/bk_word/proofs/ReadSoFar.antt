@@ -48,7 +48,7 @@ many_signs : (n : ℕ) → length (more_signs n) ≡ n
 unfolding more_signs
 many_signs n = length-replicate n Even
 
--- and it begins a text
+-- what was read is the beginning of a text of a word
 pub begins : (r : Reading) → CanBeRead r → Begins IsWordText (spelled r)
 begins (Before w) can =
     let text : IsTextOf (dotted w ++ move_text (bare 1)) (w ++ bare 1 ∷ []) =

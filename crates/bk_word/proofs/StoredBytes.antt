@@ -7,7 +7,7 @@ use Rattle.std.proofs.lemmas.Grind.{flat_map-append}
 use Rattle.std.proofs.lemmas.List.{append-nil, length-map}
 use Rattle.std.proofs.lemmas.List.Sums.{sum_by-append, sum_by-cons}
 use Rattle.bk_word.specs.KeptWord.{CanStand, IsKeptWord}
-use Rattle.bk_word.specs.Stored.{IsKeptBuffer, IsStoredWord, front_signs, is_count, moves_in, sign_byte, stored, stored_move}
+use Rattle.bk_word.specs.StoredWord.{IsKeptBuffer, IsStoredWord, front_signs, is_count, moves_in, sign_byte, stored, stored_move}
 use Rattle.bk_word.specs.Word.{Move, Word, order_of}
 use Rattle.bk_word.specs.declared.Sign.{Sign}
 use Rattle.bk_word.specs.declared.Sign.TheVariants.{Above, Even, Under}
@@ -68,7 +68,7 @@ stored_kept bytes w is kept =
 pub stored_append : (v w : Word) → stored (v ++ w) ≡ stored v ++ stored w
 stored_append v w = flat_map-append stored_move v w
 
--- and so is a word with a further move
+-- a word with a further move is stored with that move behind it
 pub stored_one : (w : Word) (m : Move) → stored (w ++ m ∷ []) ≡ stored w ++ stored_move m
 stored_one w m = stored_append w (m ∷ []) ∙ ap (λ (z : List ℕ). stored w ++ z) (append-nil (stored_move m))
 
@@ -122,7 +122,7 @@ has_bytes bytes w m capacity kept is few =
     let same : length bytes ≡ length (stored w) = ap (λ (z : List ℕ). length z) ((kept.stored).same ∙ ap stored is) in
     omega (arith, same, kept.room)
 
--- and so where so few squares are hung
+-- a move has room where the word then has at most 16 squares
 pub has_room : (bytes : List ℕ) (w : Word) (m : Move) (capacity : ℕ) → IsKeptBuffer bytes capacity → moves_in bytes ≡ w → CanStand m → order_of w + m.count ≤ 16
     → length bytes + length (stored_move m) ≤ capacity
 has_room bytes w m capacity kept is one few =

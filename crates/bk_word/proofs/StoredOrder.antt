@@ -3,21 +3,15 @@ use Rattle.std.specs.Cmp.Lexicographic.{slice_cmp}
 use Rattle.std.specs.Ordering.{nat_cmp, ordering_then}
 use Rattle.std.specs.Prelude.{List, [], map, refl, ℕ, ◌++◌, ◌<◌, ◌∷◌, ◌≡◌}
 use Rattle.std.specs.declared.cmp.Ordering.{Ordering}
-use Rattle.std.specs.declared.cmp.Ordering.TheVariants.{Equal, Greater, Less}
+use Rattle.std.specs.declared.cmp.Ordering.TheVariants.{Greater, Less}
 use Rattle.std.proofs.Common.{ap, arith, sym, ◌∙◌}
 use Rattle.std.proofs.lemmas.Bool.{cond-true, lt-ltb}
-use Rattle.std.proofs.lemmas.Bool.Decides.{nat_tests}
-use Rattle.bk_word.specs.Stored.{IsStoredWord, moves_in, sign_byte, stored}
+use Rattle.bk_laws.proofs.Orderings.{nat_cmp-greater, ordering_then-assoc}
+use Rattle.bk_word.specs.StoredWord.{IsStoredWord, moves_in, sign_byte, stored}
 use Rattle.bk_word.specs.Word.{Word, sign_cmp, word_cmp}
 use Rattle.bk_word.specs.declared.Sign.{Sign}
 use Rattle.bk_word.specs.declared.Sign.TheVariants.{Above, Even, Under}
 use Rattle.bk_word.proofs.StoredBytes.{AreLow, few_low}
-
--- of three orders the first that decides counts, however they are grouped
-pub then_then : (a b c : Ordering) → ordering_then (ordering_then a b) c ≡ ordering_then a (ordering_then b c)
-then_then Less b c = refl
-then_then Equal b c = refl
-then_then Greater b c = refl
 
 abbrev bytes_cmp : List ℕ → List ℕ → Ordering
 bytes_cmp a b = slice_cmp nat_cmp a b
@@ -38,13 +32,10 @@ count_before c Above low = cond-true _ _ _ (lt-ltb c 201 low)
 count_before c Even low = cond-true _ _ _ (lt-ltb c 202 (omega arith))
 count_before c Under low = cond-true _ _ _ (lt-ltb c 203 (omega arith))
 
-greater : (m n : ℕ) → n < m → nat_cmp m n ≡ Greater
-greater m n h = grind (arith, nat_tests)
-
 count_behind : (c : ℕ) (s : Sign) → c < 201 → nat_cmp (sign_byte s) c ≡ Greater
-count_behind c Above low = greater 201 c low
-count_behind c Even low = greater 202 c (omega arith)
-count_behind c Under low = greater 203 c (omega arith)
+count_behind c Above low = nat_cmp-greater 201 c low
+count_behind c Even low = nat_cmp-greater 202 c (omega arith)
+count_behind c Under low = nat_cmp-greater 203 c (omega arith)
 
 fewer_signs : (v : Word) (s : Sign) (more : List ℕ) → AreLow v → bytes_cmp (stored v) (sign_byte s ∷ more) ≡ Less
 fewer_signs [] s more low = refl
@@ -60,7 +51,7 @@ signs_then [] [] v w o a b e = e
 signs_then [] (t ∷ ts) v w o a b e = fewer_signs v t (map sign_byte ts ++ stored w) a
 signs_then (s ∷ ss) [] v w o a b e = more_signs w s (map sign_byte ss ++ stored v) b
 signs_then (s ∷ ss) (t ∷ ts) v w o a b e =
-    (λ i. ordering_then (sign_bytes s t i) (signs_then ss ts v w o a b e i)) ∙ sym (then_then (sign_cmp s t) (slice_cmp sign_cmp ss ts) o)
+    (λ i. ordering_then (sign_bytes s t i) (signs_then ss ts v w o a b e i)) ∙ sym (ordering_then-assoc (sign_cmp s t) (slice_cmp sign_cmp ss ts) o)
 
 words_then : (v w : Word) → AreLow v → AreLow w → bytes_cmp (stored v) (stored w) ≡ word_cmp v w
 words_then [] [] a b = refl
@@ -68,7 +59,7 @@ words_then [] (n ∷ w) a b = refl
 words_then (m ∷ v) [] a b = refl
 words_then (m ∷ v) (n ∷ w) a b =
     ap (ordering_then (nat_cmp m.count n.count)) (signs_then m.signs n.signs v w (word_cmp v w) a.1 b.1 (words_then v w a.1 b.1))
-    ∙ sym (then_then (nat_cmp m.count n.count) (slice_cmp sign_cmp m.signs n.signs) (word_cmp v w))
+    ∙ sym (ordering_then-assoc (nat_cmp m.count n.count) (slice_cmp sign_cmp m.signs n.signs) (word_cmp v w))
 
 -- stored words compare as words do
 pub stored_cmp : (a b : List ℕ) (v w : Word) → IsStoredWord a → IsStoredWord b → moves_in a ≡ v → moves_in b ≡ w → bytes_cmp a b ≡ word_cmp v w

@@ -3,7 +3,7 @@ use Rattle.std.specs.Prelude.{List, [], codes, length, refl, replicate, ℕ, ◌
 use Rattle.std.proofs.Common.{ap, arith, inl, inr, lit<, lit≤}
 use Rattle.std.proofs.lemmas.List.{length-append}
 use Rattle.bk_grammar.specs.Grammar.{IsBlank}
-use Rattle.bk_word.specs.ReadWord.{IsFaultOf}
+use Rattle.bk_word.specs.ReadWord.{IsWordFaultOf}
 use Rattle.bk_word.specs.Word.{Word}
 use Rattle.bk_word.specs.WordItem.{IsItemAt, IsItemOf}
 use Rattle.bk_word.specs.WordText.{IsWrittenMove, word_text}
@@ -43,7 +43,7 @@ one_square_at = record { order = lit≤ tt; within = lit≤ tt; after = codes " 
 abbrev of_202 : Word
 of_202 = record { count = 101; signs = replicate 100 Even } ∷ record { count = 101; signs = replicate 100 Even } ∷ []
 
-too_many : IsFaultOf Many (word_text of_202)
+too_many : IsWordFaultOf Many (word_text of_202)
 too_many = (of_202, record { some = lit< tt; moves = (written, (written, tt)); text = refl }, lit< tt)
   where
     written : IsWrittenMove (record { count = 101; signs = replicate 100 Even })

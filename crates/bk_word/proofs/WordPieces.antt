@@ -7,7 +7,7 @@ use Rattle.std.proofs.lemmas.Fmt.{decimal_digit, length-decimal-le}
 use Rattle.std.proofs.lemmas.Grind.{flat_map-append}
 use Rattle.std.proofs.lemmas.List.{append-nil, length-map, take-append-drop, take_more}
 use Rattle.bk_word.specs.KeptWord.{CanStand, IsKeptWord}
-use Rattle.bk_word.specs.Stored.{is_count, piece, sign_byte, sign_of, stored, stored_move}
+use Rattle.bk_word.specs.StoredWord.{is_count, piece, sign_byte, sign_of, stored, stored_move}
 use Rattle.bk_word.specs.Word.{Move, Word, order_of}
 use Rattle.bk_word.specs.WordText.{IsTextOf, IsWrittenMove, letter, move_text, word_text}
 use Rattle.bk_word.specs.declared.Sign.{Sign}

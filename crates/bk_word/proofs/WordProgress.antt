@@ -6,8 +6,8 @@ use Rattle.std.proofs.Common.{Bool, ap, arith, get_or, length-append, subst, sym
 use Rattle.std.proofs.lemmas.List.{append-nil, take_all, take_more}
 use Rattle.bk_grammar.specs.Longest.{Begins}
 use Rattle.bk_grammar.proofs.Leaving.{leaves_at_end, leaves_before}
-use Rattle.bk_word.specs.Reader.{kind_of, may_end, next_place}
-use Rattle.bk_word.specs.Taken.{Before, Count, Keeps, KeepsTextOf, Reading, Signs, bare, counted, place_of, step, taken, with_sign}
+use Rattle.bk_word.specs.WordReading.{may_end, next_word_place, word_kind_of}
+use Rattle.bk_word.specs.Taken.{Before, Count, KeepsTextOf, KeepsWord, Reading, Signs, bare, moves_counted, reader_place, step, taken, with_sign}
 use Rattle.bk_word.specs.Word.{Move, Word, order_of}
 use Rattle.bk_word.specs.WordText.{IsNoWordText, IsTextOf, IsWordText, IsWrittenMove}
 use Rattle.bk_word.specs.declared.reader.Kind.{Kind}
@@ -22,12 +22,12 @@ use Rattle.bk_word.proofs.ReadSoFar.{begins, leads}
 
 -- ---- the place goes along with what was read
 
-place_when : (test : Bool) (next : Reading) (p : Place) → (test ≡ true → place_of next ≡ p)
-    → option_map place_of (if test then Some next else None) ≡ (if test then Some p else None)
+place_when : (test : Bool) (next : Reading) (p : Place) → (test ≡ true → reader_place next ≡ p)
+    → option_map reader_place (if test then Some next else None) ≡ (if test then Some p else None)
 place_when true next p f = ap (λ (q : Place). Some q) (f refl)
 place_when false next p f = refl
 
-steps_place : (r : Reading) (k : Kind) → CanBeRead r → option_map place_of (step r k) ≡ next_place (place_of r) k
+steps_place : (r : Reading) (k : Kind) → CanBeRead r → option_map reader_place (step r k) ≡ next_word_place (reader_place r) k
 steps_place (Before w) (Digit d) can = place_when (nat_lt 0 d) (Count w d) (InCount d) (λ h. refl)
 steps_place (Before w) (Letter s) can = refl
 steps_place (Before w) Dot can = refl
@@ -57,12 +57,12 @@ some_when : (test : Bool) (w : Word) → test ≡ true → (if test then Some w 
 some_when true w e = refl
 some_when false w e = absurd (cc)
 
-no_end : (r : Reading) → may_end (place_of r) ≡ false → ended r ≡ None
+no_end : (r : Reading) → may_end (reader_place r) ≡ false → ended r ≡ None
 no_end (Before w) e = refl
 no_end (Count w c) e = none_when (nat_le c 1) (w ++ bare c ∷ []) e
 no_end (Signs w m) e = none_when ((m.count - 1 - length m.signs) == 0) (w ++ m ∷ []) e
 
-an_end : (r : Reading) → may_end (place_of r) ≡ true → ended r ≡ Some (counted r)
+an_end : (r : Reading) → may_end (reader_place r) ≡ true → ended r ≡ Some (moves_counted r)
 an_end (Before w) e = absurd (cc)
 an_end (Count w c) e = some_when (nat_le c 1) (w ++ bare c ∷ []) e
 an_end (Signs w m) e = some_when ((m.count - 1 - length m.signs) == 0) (w ++ m ∷ []) e
@@ -74,32 +74,32 @@ pub record Progress (front : List ℕ) (p : Place) (t : Taken) : Type 0 where
   pub r : Reading
   pub can : CanBeRead r
   pub spells : spelled r ≡ front
-  pub place : p ≡ place_of r
-  pub keeps : Keeps (taken r) t
+  pub place : p ≡ reader_place r
+  pub keeps : KeepsWord (taken r) t
 
 -- nothing is read yet, and nothing taken
-pub at_start : (t : Taken) → Keeps [] t → Progress [] BeforeCount t
+pub at_start : (t : Taken) → KeepsWord [] t → Progress [] BeforeCount t
 at_start t keeps = record { r = Before []; can = tt; spells = refl; place = refl; keeps = keeps }
 
-from_some : (o : Option Reading) (p : Place) → option_map place_of o ≡ Some p → (next : Reading) × (o ≡ Some next) × (p ≡ place_of next)
+from_some : (o : Option Reading) (p : Place) → option_map reader_place o ≡ Some p → (next : Reading) × (o ≡ Some next) × (p ≡ reader_place next)
 from_some None p e = absurd (cc)
 from_some (Some next) p e = (next, refl, cc)
 
-from_none : (o : Option Reading) → option_map place_of o ≡ None → o ≡ None
+from_none : (o : Option Reading) → option_map reader_place o ≡ None → o ≡ None
 from_none None e = refl
 from_none (Some next) e = absurd (cc)
 
-step_at : (p next : Place) (r : Reading) (k : Kind) → CanBeRead r → p ≡ place_of r → next_place p k ≡ Some next
-    → (to : Reading) × (step r k ≡ Some to) × (next ≡ place_of to)
-step_at p next r k can place e = from_some (step r k) next (steps_place r k can ∙ ap (λ (q : Place). next_place q k) (sym place) ∙ e)
+step_at : (p next : Place) (r : Reading) (k : Kind) → CanBeRead r → p ≡ reader_place r → next_word_place p k ≡ Some next
+    → (to : Reading) × (step r k ≡ Some to) × (next ≡ reader_place to)
+step_at p next r k can place e = from_some (step r k) next (steps_place r k can ∙ ap (λ (q : Place). next_word_place q k) (sym place) ∙ e)
 
 -- one byte further
 pub one_further : (bs : List ℕ) (i : ℕ) (p next : Place) (t more : Taken) → i < length bs → Progress (take i bs) p t
-    → next_place p (kind_of (get_or bs i 0)) ≡ Some next
-    → ((r to : Reading) → p ≡ place_of r → step r (kind_of (get_or bs i 0)) ≡ Some to → Keeps (taken r) t → Keeps (taken to) more)
+    → next_word_place p (word_kind_of (get_or bs i 0)) ≡ Some next
+    → ((r to : Reading) → p ≡ reader_place r → step r (word_kind_of (get_or bs i 0)) ≡ Some to → KeepsWord (taken r) t → KeepsWord (taken to) more)
     → Progress (take (i + 1) bs) next more
 one_further bs i p next t more within g e keeps =
-    let to = step_at p next g.r (kind_of (get_or bs i 0)) g.can g.place e in
+    let to = step_at p next g.r (word_kind_of (get_or bs i 0)) g.can g.place e in
     let f = further g.r to.0 (get_or bs i 0) g.can to.1 in
     record {
       r = to.0;
@@ -110,15 +110,15 @@ one_further bs i p next t more within g e keeps =
     }
 
 -- a byte behind which there is no place begins no rest of a text
-pub stops : (bs : List ℕ) (i : ℕ) (p : Place) (t : Taken) → i < length bs → Progress (take i bs) p t → next_place p (kind_of (get_or bs i 0)) ≡ None
+pub stops : (bs : List ℕ) (i : ℕ) (p : Place) (t : Taken) → i < length bs → Progress (take i bs) p t → next_word_place p (word_kind_of (get_or bs i 0)) ≡ None
     → IsNoWordText bs i
 stops bs i p t within g e =
-    let none : step g.r (kind_of (get_or bs i 0)) ≡ None =
-    from_none (step g.r (kind_of (get_or bs i 0))) (steps_place g.r (kind_of (get_or bs i 0)) g.can
-    ∙ ap (λ (q : Place). next_place q (kind_of (get_or bs i 0))) (sym g.place) ∙ e) in
+    let none : step g.r (word_kind_of (get_or bs i 0)) ≡ None =
+    from_none (step g.r (word_kind_of (get_or bs i 0))) (steps_place g.r (word_kind_of (get_or bs i 0)) g.can
+    ∙ ap (λ (q : Place). next_word_place q (word_kind_of (get_or bs i 0))) (sym g.place) ∙ e) in
     leaves_before IsWordText bs i within (subst (Begins IsWordText) g.spells (begins g.r g.can)) (λ x h. no_more x none h)
   where
-    no_more : (x : List ℕ) → step g.r (kind_of (get_or bs i 0)) ≡ None → ¬ (IsWordText (take i bs ++ get_or bs i 0 ∷ x))
+    no_more : (x : List ℕ) → step g.r (word_kind_of (get_or bs i 0)) ≡ None → ¬ (IsWordText (take i bs ++ get_or bs i 0 ∷ x))
     no_more x none (w, text) =
         let found : read (take i bs ++ get_or bs i 0 ∷ x) (Before []) ≡ Some w = text_is_read (take i bs ++ get_or bs i 0 ∷ x) w text in
         let led : read (take i bs ++ get_or bs i 0 ∷ x) (Before []) ≡ read (get_or bs i 0 ∷ x) g.r =
@@ -145,11 +145,11 @@ stops_at_end bs p t g e =
 
 -- at an end the bytes are a text
 pub text_kept : (bs : List ℕ) (p : Place) (t last : Taken) → Progress bs p t → may_end p ≡ true
-    → ((r : Reading) → p ≡ place_of r → Keeps (taken r) t → Keeps (counted r) last) → KeepsTextOf bs last
+    → ((r : Reading) → p ≡ reader_place r → KeepsWord (taken r) t → KeepsWord (moves_counted r) last) → KeepsTextOf bs last
 text_kept bs p t last g e keeps = (
-  counted g.r,
-  subst (λ (z : List ℕ). IsTextOf z (counted g.r)) g.spells
-      (text_found g.r (counted g.r) g.can (an_end g.r (ap may_end (sym g.place) ∙ e))),
+  moves_counted g.r,
+  subst (λ (z : List ℕ). IsTextOf z (moves_counted g.r)) g.spells
+      (text_found g.r (moves_counted g.r) g.can (an_end g.r (ap may_end (sym g.place) ∙ e))),
   keeps g.r g.place g.keeps,
 )
 

@@ -6,7 +6,7 @@ use Rattle.std.proofs.Common.{ap, append_assoc, arith, eq-eqb, inl, inr, length-
 use Rattle.std.proofs.lemmas.Bool.{and_from, cond-true, le-leb, lt-ltb, cases_lt}
 use Rattle.std.proofs.lemmas.Fmt.{decimal_digit, decimal_step}
 use Rattle.std.proofs.lemmas.List.{append-nil}
-use Rattle.bk_word.specs.Reader.{kind_of}
+use Rattle.bk_word.specs.WordReading.{word_kind_of}
 use Rattle.bk_word.specs.Taken.{Before, Count, Reading, Signs, bare, step}
 use Rattle.bk_word.specs.Word.{Move, Word}
 use Rattle.bk_word.specs.WordText.{IsTextOf, IsWrittenMove, letter, move_text, word_text}
@@ -24,21 +24,21 @@ ended (Signs w m) = if (m.count - 1 - length m.signs) == 0 then Some (w ++ m ∷
 -- the word that is read with further bytes
 abbrev pub read : List ℕ → Reading → Option Word
 read [] r = ended r
-read (b ∷ bytes) r = option_and_then (read bytes) (step r (kind_of b))
+read (b ∷ bytes) r = option_and_then (read bytes) (step r (word_kind_of b))
 
 -- a further byte of a known kind
-pub read_next : (r next : Reading) (k : Kind) (b : ℕ) (bytes : List ℕ) → kind_of b ≡ k → step r k ≡ Some next → read (b ∷ bytes) r ≡ read bytes next
+pub read_next : (r next : Reading) (k : Kind) (b : ℕ) (bytes : List ℕ) → word_kind_of b ≡ k → step r k ≡ Some next → read (b ∷ bytes) r ≡ read bytes next
 read_next r next k b bytes kind e = ap (λ (k : Kind). option_and_then (read bytes) (step r k)) kind ∙ ap (option_and_then (read bytes)) e
 
 -- the byte of a digit is read as that digit
-pub kind_digit : (d : ℕ) → d < 10 → kind_of (48 + d) ≡ Digit d
+pub kind_digit : (d : ℕ) → d < 10 → word_kind_of (48 + d) ≡ Digit d
 kind_digit d small =
     let is_digit : (nat_le 48 (48 + d) && nat_le (48 + d) 57) ≡ true = and_from _ _ (le-leb 48 (48 + d) (omega arith)) (le-leb (48 + d) 57 (omega arith)) in
     let own : 48 + d - 48 ≡ d = omega arith in
     cond-true _ _ _ is_digit ∙ ap Digit own
 
 -- the letter of a sign is read as that sign
-pub kind_letter : (s : Sign) → kind_of (letter s) ≡ Letter s
+pub kind_letter : (s : Sign) → word_kind_of (letter s) ≡ Letter s
 kind_letter Above = refl
 kind_letter Even = refl
 kind_letter Under = refl

@@ -1,13 +1,14 @@
 -- What was read is the start of a text, and where a word may end it is a text.
 use Rattle.std.specs.List.{AllByRecursion}
-use Rattle.std.specs.Prelude.{List, None, Option, Some, [], decimal, flat_map, if◌then◌else◌, length, map, nat_le, nat_lt, refl, true, ℕ, ◌%◌, ◌&&◌}
-use Rattle.std.specs.Prelude.{◌*◌, ◌++◌, ◌+◌, ◌-◌, ◌/◌, ◌<◌, ◌==◌, ◌∷◌, ◌≡◌, ◌≤◌}
+use Rattle.std.specs.Prelude.{List, None, Option, Some, [], decimal, flat_map, if◌then◌else◌, length, map, nat_le, nat_lt, refl, true, ℕ, ◌&&◌}
+use Rattle.std.specs.Prelude.{◌*◌, ◌++◌, ◌+◌, ◌-◌, ◌<◌, ◌==◌, ◌∷◌, ◌≡◌, ◌≤◌}
 use Rattle.std.proofs.Common.{Bool, ap, append_assoc, arith, eqb-true, false, leb-true, length-append, ltb-true, subst, sym, ◌∙◌}
-use Rattle.std.proofs.lemmas.Bool.{and_parts}
-use Rattle.std.proofs.lemmas.Fmt.{decimal_digit, decimal_step}
+use Rattle.std.proofs.lemmas.Fmt.{decimal_digit}
 use Rattle.std.proofs.lemmas.Grind.{flat_map-append}
 use Rattle.std.proofs.lemmas.List.{append-nil, map-append}
-use Rattle.bk_word.specs.Reader.{kind_of}
+use Rattle.bk_laws.proofs.Digits.{decimal-one_digit_more}
+use Rattle.bk_laws.proofs.NumberTests.{digit_byte-from_test}
+use Rattle.bk_word.specs.WordReading.{word_kind_of}
 use Rattle.bk_word.specs.Taken.{Before, Count, Reading, Signs, bare, step, with_sign}
 use Rattle.bk_word.specs.Word.{Move, Word}
 use Rattle.bk_word.specs.WordText.{IsTextOf, IsWrittenMove, letter, move_text, word_text}
@@ -74,28 +75,16 @@ either : (test : Bool) (one two : Kind) (b : ℕ) → (test ≡ true → Means o
 either true one two b yes' no' = yes' refl
 either false one two b yes' no' = no'
 
-digit_means : (b : ℕ) → nat_le 48 b && nat_le b 57 ≡ true → (b ≡ 48 + (b - 48)) × (b - 48 < 10)
-digit_means b h =
-    let parts = and_parts (nat_le 48 b) (nat_le b 57) h in
-    (omega (arith, leb-true 48 b parts.0), omega (arith, leb-true b 57 parts.1))
-
 -- a byte is the one that its kind stands for
-pub means : (b : ℕ) → Means (kind_of b) b
+pub means : (b : ℕ) → Means (word_kind_of b) b
 means b =
-    either (nat_le 48 b && nat_le b 57) (Digit (b - 48)) _ b (λ h. digit_means b h) (
+    either (nat_le 48 b && nat_le b 57) (Digit (b - 48)) _ b (λ h. digit_byte-from_test b h) (
     either (b == 97) (Letter Above) _ b (λ h. eqb-true b 97 h) (
     either (b == 101) (Letter Even) _ b (λ h. eqb-true b 101 h) (
     either (b == 117) (Letter Under) _ b (λ h. eqb-true b 117 h) (
     either (b == 46) Dot Other b (λ h. eqb-true b 46 h) tt))))
 
 -- ---- one byte further
-
--- a digit behind the digits of a number of one or two
-pub longer_decimal : (n d : ℕ) → 0 < n → n < 100 → d < 10 → decimal (n * 10 + d) ≡ decimal n ++ (48 + d) ∷ []
-longer_decimal n d some few small =
-    let tens : (n * 10 + d) / 10 ≡ n = omega arith in
-    let ones : (n * 10 + d) % 10 ≡ d = omega arith in
-    decimal_step (n * 10 + d) (omega arith) (omega arith) ∙ (λ i. decimal (tens i) ++ (48 + ones i) ∷ [])
 
 longer_move : (m : Move) (s : Sign) → move_text (with_sign m s) ≡ move_text m ++ letter s ∷ []
 longer_move m s = ap (λ (z : List ℕ). decimal m.count ++ z) (map-append letter m.signs (s ∷ []))
@@ -134,7 +123,7 @@ one_further (Before w) Dot b can is = tt
 one_further (Before w) Other b can is = tt
 one_further (Count w c) (Digit d) b can is = when (nat_lt c 100) (Count w (c * 10 + d)) (Count w c) b (λ h. record {
   can = (can.0, (omega (arith, can.1.0), omega (arith, ltb-true c 100 h, is.1)));
-  spells = ap (λ (z : List ℕ). dotted w ++ z) (longer_decimal c d can.1.0 (ltb-true c 100 h) is.1 ∙ ap (λ (n : ℕ). decimal c ++ n ∷ []) (sym is.0))
+  spells = ap (λ (z : List ℕ). dotted w ++ z) (decimal-one_digit_more c d can.1.0 (ltb-true c 100 h) is.1 ∙ ap (λ (n : ℕ). decimal c ++ n ∷ []) (sym is.0))
       ∙ sym (append_assoc (dotted w) (decimal c) (b ∷ []));
 })
 one_further (Count w c) (Letter s) b can is = record {
@@ -164,8 +153,8 @@ one_further (Signs w m) Dot b can is = when ((m.count - 1 - length m.signs) == 0
 one_further (Signs w m) Other b can is = tt
 
 -- what is read with a further byte is spelled by the bytes before and that byte
-pub further : (r next : Reading) (b : ℕ) → CanBeRead r → step r (kind_of b) ≡ Some next → Further r next b
-further r next b can e = subst (λ (o : Option Reading). FurtherBy o r b) e (one_further r (kind_of b) b can (means b))
+pub further : (r next : Reading) (b : ℕ) → CanBeRead r → step r (word_kind_of b) ≡ Some next → Further r next b
+further r next b can e = subst (λ (o : Option Reading). FurtherBy o r b) e (one_further r (word_kind_of b) b can (means b))
 
 -- ---- where a word may end, and where it goes on
 

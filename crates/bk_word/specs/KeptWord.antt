@@ -3,6 +3,7 @@
 use Rattle.std.specs.List.{AllByRecursion}
 use Rattle.std.specs.Prelude.{length, ◌+◌, ◌<◌, ◌≤◌}
 use Rattle.bk_word.specs.Word.{Move, Word, order_of}
+use Rattle.bk_word.specs.declared.TheConstants.{LARGEST_ORDER}
 
 -- a move that can stand in a word: it hangs a square, and has one sign less than squares, as many or one more
 pub record CanStand (m : Move) : Type 0 where
@@ -13,4 +14,4 @@ pub record CanStand (m : Move) : Type 0 where
 -- what holds of each `Word`
 pub record IsKeptWord (w : Word) : Type 0 where
   pub moves : AllByRecursion CanStand w
-  pub few : order_of w ≤ 200
+  pub few : order_of w ≤ LARGEST_ORDER

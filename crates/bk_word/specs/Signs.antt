@@ -1,5 +1,6 @@
 -- Tests of a sign: how the left one of two neighbouring bottoms stands to the right one.
--- Example (WordExamples): of the signs of 2eue two are even, one is under and none is above, and only the sign under parts two segments.
+-- Example (WordExamples): of the signs of 2eue two are even, one is under and none is above, and only the sign under
+-- parts two segments.
 use Rattle.std.specs.Prelude.{Bool, false, true}
 use Rattle.bk_word.specs.declared.Sign.{Sign}
 use Rattle.bk_word.specs.declared.Sign.TheVariants.{Above, Even, Under}

@@ -2,9 +2,10 @@
 #![tactic(auto)]
 
 ghost use Rattle.std.specs.Cmp.{IsTotalOrder};
-ghost use Rattle.std.specs.Prelude.{IfOk, IsOk, OnErr, OnOk, Some, [], length, slice_get, take, ◌+◌, ◌++◌, ◌-◌, ◌<◌, ◌∷◌, ◌≡◌, ◌≤◌};
+ghost use Rattle.std.specs.Prelude.{IfOk, IsOk, OnErr, OnOk, Some, [], length, slice_get, take, ◌+◌, ◌++◌, ◌-◌, ◌<◌};
+ghost use Rattle.std.specs.Prelude.{◌∷◌, ◌≡◌, ◌≤◌};
 ghost use Rattle.bk_word.specs.KeptWord.{CanStand, IsKeptWord};
-ghost use Rattle.bk_word.specs.Stored.{IsStoredWord, moves_in, stored, stored_move};
+ghost use Rattle.bk_word.specs.StoredWord.{IsStoredWord, moves_in, stored, stored_move};
 ghost use Rattle.bk_word.specs.Word.{order_of, word_cmp};
 ghost use Rattle.bk_word.specs.WordTextLaws.{ATextIsOfOneWord, AWrittenWordIsRead};
 
@@ -53,16 +54,16 @@ pub enum Sign {
 /// Which simple tilings a catalogue holds.
 #[derive(Clone, Copy, Debug, PartialEq, Eq, Drop)]
 pub enum Class {
-    /// Those whose sides all differ.
+    /// Tilings whose sides all differ.
     Perfect,
-    /// Those with two equal sides.
+    /// Tilings with two equal sides.
     Imperfect,
     /// All.
     Simple,
 }
 
-/// A move: how many squares are hung under a valley, and the signs between their bottoms and those beside the valley, from
-/// left to right.
+/// A move: how many squares are hung under a valley, and the signs between their bottoms and those beside the valley,
+/// from left to right.
 #[derive(Drop)]
 pub struct Move {
     pub count: u8,
@@ -94,8 +95,8 @@ impl Move {
 #[error("NoMemory")]
 pub struct NoMemory;
 
-/// A word: a list of moves, whose order is the sum of their counts, at most 200. Each move hangs a square, and has one sign
-/// less than squares, as many or one more. Words are our own.
+/// A word: a list of moves, whose order is the sum of their counts, at most 200. Each move hangs a square, and has one
+/// sign less than squares, as many or one more. Words are our own.
 #[derive(Drop)]
 pub struct Word {
     bytes: SmallVec<u8, INLINE_BYTES>,
@@ -103,7 +104,7 @@ pub struct Word {
 
 impl Model for Word {
     ghost use Rattle.bk_word.specs.Word.{Word as Moves};
-    ghost use Rattle.bk_word.specs.Stored.{IsKeptBuffer, moves_in};
+    ghost use Rattle.bk_word.specs.StoredWord.{IsKeptBuffer, moves_in};
 
     ghost Value = { Moves };
 
@@ -122,11 +123,11 @@ impl Word {
         }
     }
 
-    /// Appends a move. Where there is no memory the word is as it was. It takes none where the word then has at most 64 bytes,
-    /// a byte for each count and each sign, and so none where the order is then at most 16.
+    /// Appends a move. Where there is no memory the word is as it was. It takes none where the word then has at most 64
+    /// bytes, a byte for each count and each sign, and so none where the order is then at most 16.
     pub fn push(&mut self, m: &Move) -> Result<(), NoMemory>
         requires stands { CanStand m.now }
-        requires few { order_of self.old + m.now.count ≤ 200 }
+        requires few { order_of self.old + m.now.count ≤ LARGEST_ORDER }
         ensures ok { OnOk result (self.new ≡ self.old ++ m.now ∷ []) }
         ensures unchanged { OnErr result (self.new ≡ self.old) }
         ensures inline { order_of self.old + m.now.count ≤ 16 → IsOk result }
@@ -163,7 +164,7 @@ impl Word {
         requires { i < length self.now }
         ensures value { slice_get self.now i ≡ Some result }
         ensures stands { CanStand result }
-        ensures few { result.count ≤ 200 }
+        ensures few { result.count ≤ LARGEST_ORDER }
     {
         let bytes = self.bytes.as_slice();
         let place = count_place(bytes, i);
@@ -176,12 +177,13 @@ impl Word {
     /// The order: how many squares the moves hang.
     pub fn order(&self) -> usize
         ensures value { result ≡ order_of self.now }
-        ensures few { result ≤ 200 }
+        ensures few { result ≤ LARGEST_ORDER }
     {
         sum_of_counts(self.bytes.as_slice())
     }
 
-    /// A copy of the word. It takes no memory where the word has at most 64 bytes, nor so where the order is at most 16.
+    /// A copy of the word. It takes no memory where the word has at most 64 bytes, nor so where the order is at most
+    /// 16.
     pub fn copy(&self, alloc: Global) -> Result<Word, NoMemory>
         ensures ok { IfOk result (λ w. w ≡ self.now) }
         ensures inline { order_of self.now ≤ 16 → IsOk result }

@@ -2,7 +2,7 @@
 #![tactic(auto)]
 
 ghost use Rattle.std.specs.Prelude.{◌≡◌};
-ghost use Rattle.bk_word.specs.Reader.{kind_of as kind_of_byte, may_end as may_end_at, next_place};
+ghost use Rattle.bk_word.specs.WordReading.{may_end as may_end_at, next_word_place, word_kind_of as kind_of_byte};
 
 use crate::Sign;
 
@@ -43,7 +43,7 @@ pub(crate) fn kind_of(byte: u8) -> Kind
 impl Place {
     // The place behind a further byte, or `None` where no word goes on with it.
     pub(crate) fn next(self, kind: Kind) -> Option<Place>
-        ensures { result ≡ next_place self kind }
+        ensures { result ≡ next_word_place self kind }
     {
         match self {
             Place::BeforeCount => before_count(kind),
@@ -65,7 +65,7 @@ impl Place {
 }
 
 fn before_count(kind: Kind) -> Option<Place>
-    ensures { result ≡ next_place Place.BeforeCount kind }
+    ensures { result ≡ next_word_place Place.BeforeCount kind }
 {
     match kind {
         Kind::Digit(digit) if digit > 0 => Some(Place::InCount(u16::from(digit))),
@@ -74,7 +74,7 @@ fn before_count(kind: Kind) -> Option<Place>
 }
 
 fn in_count(count: u16, kind: Kind) -> Option<Place>
-    ensures { result ≡ next_place (Place.InCount count) kind }
+    ensures { result ≡ next_word_place (Place.InCount count) kind }
 {
     match kind {
         Kind::Digit(digit) if count < 100 => Some(Place::InCount(count * 10 + u16::from(digit))),
@@ -85,7 +85,7 @@ fn in_count(count: u16, kind: Kind) -> Option<Place>
 }
 
 fn in_signs(least: u16, most: u16, kind: Kind) -> Option<Place>
-    ensures { result ≡ next_place (Place.InSigns least most) kind }
+    ensures { result ≡ next_word_place (Place.InSigns least most) kind }
 {
     match kind {
         Kind::Letter(_) if most > 0 => Some(Place::InSigns(least.saturating_sub(1), most - 1)),

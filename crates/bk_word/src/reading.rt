@@ -2,8 +2,9 @@
 #![tactic(auto)]
 
 ghost use Rattle.std.specs.Prelude.{IfErr, IfNone, IfOk, IfSome, Some, length, [], ◌+◌, ◌++◌, ◌∷◌, ◌≡◌, ◌≤◌};
-ghost use Rattle.bk_word.specs.ReadWord.{IsFaultOf};
-ghost use Rattle.bk_word.specs.Taken.{Keeps, KeepsTextOf, Reading, bare, counted, place_of, step, taken, with_sign};
+ghost use Rattle.bk_word.specs.ReadWord.{IsWordFaultOf};
+ghost use Rattle.bk_word.specs.Taken.{KeepsTextOf, KeepsWord, Reading, bare, moves_counted, reader_place, step, taken};
+ghost use Rattle.bk_word.specs.Taken.{with_sign};
 ghost use Rattle.bk_word.specs.Word.{Move as SeenMove, Word as Moves};
 ghost use Rattle.bk_word.specs.WordText.{IsNoWordText, IsTextOf, IsWordText, capped_order};
 
@@ -29,13 +30,13 @@ pub enum WordFault {
 }
 
 /// Reads the text of a word: its moves with a dot between each two, and of each the count, in 1 to 3 digits without a
-/// leading 0, and the letters `a`, `e` and `u` of its signs. It is refused, in this order: `Text` exactly where the bytes are
-/// no such text, with the length of their longest start that begins one; `Many` exactly where the order is above 200;
-/// `NoMemory` where there is none, and never where the order is at most 16 or the word has at most 64 bytes, a byte for each
-/// count and each sign. The form is our own.
+/// leading 0, and the letters `a`, `e` and `u` of its signs. It is refused, in this order: `Text` exactly where the
+/// bytes are no such text, with the length of their longest start that begins one; `Many` exactly where the order is
+/// above 200; `NoMemory` where there is none, and never where the order is at most 16 or the word has at most 64 bytes,
+/// a byte for each count and each sign. The form is our own.
 pub fn read_word(alloc: Global, text: &[u8]) -> Result<Word, WordFault>
     ensures read { IfOk result (λ w. IsTextOf text.now w) }
-    ensures fault { IfErr result (λ fault. IsFaultOf fault text.now) }
+    ensures fault { IfErr result (λ fault. IsWordFaultOf fault text.now) }
 {
     let taken = match take_text(text) {
         Ok(taken) => taken,
@@ -50,8 +51,8 @@ pub fn read_word(alloc: Global, text: &[u8]) -> Result<Word, WordFault>
     }
 }
 
-/// The order of the word whose text it is, or 201 where it is above 200. `None` comes exactly where it is no text of a word.
-/// It takes no memory.
+/// The order of the word whose text it is, or 201 where it is above 200. `None` comes exactly where it is no text of a
+/// word. It takes no memory.
 pub fn text_order(text: &[u8]) -> Option<u8>
     ensures none { IfNone result ((w : Moves) → IsTextOf text.now w → ⊥) }
     ensures some { IfSome result (λ order. (w : Moves) × IsTextOf text.now w × (order ≡ capped_order w)) }
@@ -99,7 +100,7 @@ fn take_text(text: &[u8]) -> Result<Taken, usize>
 
 impl Taken {
     fn new() -> Taken
-        ensures { Keeps [] result }
+        ensures { KeepsWord [] result }
     {
         Taken {
             order: 0,
@@ -109,8 +110,9 @@ impl Taken {
 
     // Takes a further byte.
     fn take(&mut self, place: Place, kind: Kind)
-        requires room { self.old.order ≤ 200 → length self.old.bytes.items ≤ 600 }
-        ensures { (r next : Reading) → place ≡ place_of r → step r kind ≡ Some next → Keeps (taken r) self.old → Keeps (taken next) self.new }
+        requires room { self.old.order ≤ LARGEST_ORDER → length self.old.bytes.items ≤ 600 }
+        ensures { (r next : Reading) → place ≡ reader_place r → step r kind ≡ Some next → KeepsWord (taken r) self.old
+            → KeepsWord (taken next) self.new }
     {
         match kind {
             Kind::Letter(sign) => {
@@ -124,9 +126,10 @@ impl Taken {
 
     // Takes the count that ends at a place, if there is one.
     fn end_count(&mut self, place: Place)
-        requires room { self.old.order ≤ 200 → length self.old.bytes.items ≤ 600 }
-        ensures keeps { (r : Reading) → place ≡ place_of r → Keeps (taken r) self.old → Keeps (counted r) self.new }
-        ensures room { self.new.order ≤ 200 → length self.new.bytes.items ≤ 601 }
+        requires room { self.old.order ≤ LARGEST_ORDER → length self.old.bytes.items ≤ 600 }
+        ensures keeps { (r : Reading) → place ≡ reader_place r → KeepsWord (taken r) self.old
+            → KeepsWord (moves_counted r) self.new }
+        ensures room { self.new.order ≤ LARGEST_ORDER → length self.new.bytes.items ≤ 601 }
     {
         if let Place::InCount(count) = place {
             self.add_count(count);
@@ -134,9 +137,9 @@ impl Taken {
     }
 
     fn add_count(&mut self, count: u16)
-        requires room { self.old.order ≤ 200 → length self.old.bytes.items ≤ 600 }
-        ensures keeps { (w : Moves) → Keeps w self.old → Keeps (w ++ bare count ∷ []) self.new }
-        ensures room { self.new.order ≤ 200 → length self.new.bytes.items ≤ 601 }
+        requires room { self.old.order ≤ LARGEST_ORDER → length self.old.bytes.items ≤ 600 }
+        ensures keeps { (w : Moves) → KeepsWord w self.old → KeepsWord (w ++ bare count ∷ []) self.new }
+        ensures room { self.new.order ≤ LARGEST_ORDER → length self.new.bytes.items ≤ 601 }
     {
         match u8::try_from(u32::from(self.order) + u32::from(count)) {
             Ok(order) if usize::from(order) <= LARGEST_ORDER => {
@@ -148,8 +151,9 @@ impl Taken {
     }
 
     fn add_sign(&mut self, sign: Sign)
-        requires room { self.old.order ≤ 200 → length self.old.bytes.items ≤ 601 }
-        ensures { (w : Moves) (m : SeenMove) → Keeps (w ++ m ∷ []) self.old → Keeps (w ++ with_sign m sign ∷ []) self.new }
+        requires room { self.old.order ≤ LARGEST_ORDER → length self.old.bytes.items ≤ 601 }
+        ensures { (w : Moves) (m : SeenMove) → KeepsWord (w ++ m ∷ []) self.old
+            → KeepsWord (w ++ with_sign m sign ∷ []) self.new }
     {
         if usize::from(self.order) <= LARGEST_ORDER {
             self.bytes.push(byte_of(sign));

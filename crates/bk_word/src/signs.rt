@@ -8,7 +8,7 @@ ghost use Rattle.bk_word.specs.Signs.{is_above, is_even, is_under};
 use crate::Sign;
 
 impl Sign {
-    /// Whether the left one of the two bottoms is higher. (Own.)
+    /// Whether the left one of the two bottoms is higher.
     pub fn is_above(self) -> bool
         ensures { result ≡ is_above self }
     {
@@ -18,7 +18,7 @@ impl Sign {
         }
     }
 
-    /// Whether both bottoms are level. (Own.)
+    /// Whether both bottoms are level.
     pub fn is_even(self) -> bool
         ensures { result ≡ is_even self }
     {
@@ -28,7 +28,7 @@ impl Sign {
         }
     }
 
-    /// Whether the left one of the two bottoms is lower. (Own.)
+    /// Whether the left one of the two bottoms is lower.
     pub fn is_under(self) -> bool
         ensures { result ≡ is_under self }
     {
@@ -38,7 +38,7 @@ impl Sign {
         }
     }
 
-    /// Whether the sign stays between two segments: the two bottoms aren't level. (Own.)
+    /// Whether the sign stays between two segments: the two bottoms aren't level.
     pub fn parts(self) -> bool
         ensures { result ≡ parts self }
     {

@@ -4,7 +4,8 @@
 ghost use Rattle.std.specs.Prelude.{count_by, drop, length, map, slice_index, true, ◌+◌, ◌++◌, ◌<◌, ◌∷◌, ◌≡◌, ◌≤◌};
 ghost use Rattle.smallvec.specs.SmallVec.{HasRoomFor};
 ghost use Rattle.bk_word.specs.Word.{order_of};
-ghost use Rattle.bk_word.specs.Stored.{front_signs, is_count, moves_in, sign_byte, sign_of as sign_of_byte};
+ghost use Rattle.bk_word.specs.declared.TheConstants.{LARGEST_ORDER};
+ghost use Rattle.bk_word.specs.StoredWord.{front_signs, is_count, moves_in, sign_byte, sign_of as sign_of_byte};
 
 use crate::{INLINE_BYTES, MOST_SIGNS, Sign};
 use arrayvec::ArrayVec;
@@ -60,7 +61,7 @@ pub(crate) fn append_move(bytes: &mut SmallVec<u8, INLINE_BYTES>, count: u8, sig
 
 // The signs before the first count, of which there are at most 201.
 pub(crate) fn signs_at(bytes: &[u8]) -> ArrayVec<Sign, MOST_SIGNS>
-    requires { length (front_signs bytes.now) ≤ 201 }
+    requires { length (front_signs bytes.now) ≤ MOST_SIGNS }
     ensures { result.items ≡ front_signs bytes.now }
 {
     let mut signs = ArrayVec::new();
@@ -101,7 +102,7 @@ pub(crate) fn counts(bytes: &[u8]) -> usize
 
 // The sum of the counts.
 pub(crate) fn sum_of_counts(bytes: &[u8]) -> usize
-    requires { order_of (moves_in bytes.now) ≤ 200 }
+    requires { order_of (moves_in bytes.now) ≤ LARGEST_ORDER }
     ensures { result ≡ order_of (moves_in bytes.now) }
 {
     let mut order = 0;

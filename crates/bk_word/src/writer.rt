@@ -3,15 +3,15 @@
 
 ghost use Rattle.std.specs.Prelude.{flat_map, length, ◌+◌, ◌++◌, ◌<◌, ◌≡◌, ◌≤◌};
 ghost use Rattle.arrayvec.specs.ArrayVec.{array_vec_len};
-ghost use Rattle.bk_word.specs.Stored.{piece};
+ghost use Rattle.bk_word.specs.StoredWord.{piece};
 ghost use Rattle.bk_word.specs.WordText.{letter as letter_of_sign, word_text};
 
 use crate::storage::{is_count, sign_of};
 use crate::{Sign, Word};
 use bk_grammar::{AnswerBuffer, push_bytes, push_number};
 
-/// Appends the text of a word: its moves with a dot between each two, and of each the count and the letters of its signs. The
-/// word must have a move, and `out` room for 1,000 bytes.
+/// Appends the text of a word: its moves with a dot between each two, and of each the count and the letters of its
+/// signs. The word must have a move, and `out` room for 1,000 bytes.
 pub fn write_word(word: &Word, out: &mut AnswerBuffer)
     requires some { 0 < length word.now }
     requires room { array_vec_len out.old + 1000 ≤ 9000 }

@@ -2,7 +2,8 @@
 -- compare as the word's signs say, is a tiling that has this word. Statements alone; each is proved apart.
 -- Example (WordNetExamples): 2u.1e is placed by the flow of the currents 2, 1, 1 with the potentials 2, 1, 0.
 use Rattle.std.specs.List.{AllByRecursion}
-use Rattle.std.specs.Prelude.{List, [], cond, map, nat_abs, pos, slice_index_or, ℕ, ⊤, ◌++◌, ◌+◌, ◌-ℤ◌, ◌-◌, ◌∷◌, ◌≡◌, ◌≤ℤ◌}
+use Rattle.std.specs.Prelude.{List, [], cond, map, nat_abs, pos, slice_index_or, ℕ, ⊤, ◌++◌, ◌+◌, ◌-ℤ◌, ◌-◌, ◌∷◌, ◌≡◌}
+use Rattle.std.specs.Prelude.{◌≤ℤ◌}
 use Rattle.bk_tiling.specs.Scale.{IsPrimitiveTiling}
 use Rattle.bk_tiling.specs.Tiling.{IsTiling, Tiling}
 use Rattle.bk_tiling.specs.declared.Square.{Square}

@@ -1,7 +1,9 @@
 -- Squares laid move by move, and the outline that shows them. Squares are numbered from 1 in the order of laying.
--- Example (BoardExamples of bk_skel): after 2u.2eu a square of side 1 fills the valley of square 4, and one of side 2 does not.
+-- Example (BoardExamples of bk_skel): after 2u.2eu a square of side 1 fills the valley of square 4, and one of side 2
+-- does not.
 use Rattle.std.specs.List.{AllByRecursion, AllZip, concat}
-use Rattle.std.specs.Prelude.{List, [], drop, length, map, slice_index_or, suc, sum, take, true, ℕ, ◌++◌, ◌+◌, ◌-◌, ◌<◌, ◌≡◌, ◌≤◌, ◌⊎◌}
+use Rattle.std.specs.Prelude.{List, [], drop, length, map, slice_index_or, suc, sum, take, true, ℕ, ◌++◌, ◌+◌, ◌-◌, ◌<◌}
+use Rattle.std.specs.Prelude.{◌≡◌, ◌≤◌, ◌⊎◌}
 use Rattle.bk_tiling.specs.Column.{AreRuns, IsFilled, depth}
 use Rattle.bk_tiling.specs.SquareGroups.{laid_group}
 use Rattle.bk_tiling.specs.Tiling.{IsOneOf}
@@ -27,13 +29,13 @@ IsNumber laid n = (0 < n) × (n ≤ length laid)
 
 -- the squares of these numbers stand side by side over the segment, with their bottoms at its level; where there are
 -- none it is the top
-abbrev pub IsGap : ℕ → List Square → List ℕ → Segment → Type 0
-IsGap width laid numbers v = Span laid v.level v.x numbers (v.x + v.width)
+abbrev pub StandsOver : ℕ → List Square → List ℕ → Segment → Type 0
+StandsOver width laid numbers v = Span laid v.level v.x numbers (v.x + v.width)
     ⊎ ((numbers ≡ []) × (v ≡ record { x = 0; width = width; level = 0 }))
 
 -- squares of these sides fill the leftmost valley, and their bottoms compare with each other and with those beside it
 -- as the move's signs say
-pub record IsTurn (width : ℕ) (laid : List Square) (m : Move) (new : List ℕ) (v : Segment) : Type 0 where
+pub record FillsValley (width : ℕ) (laid : List Square) (m : Move) (new : List ℕ) (v : Segment) : Type 0 where
   pub found : IsLeftmostValley width laid v
   pub count : length new ≡ m.count
   pub some : 0 < m.count

@@ -1,9 +1,9 @@
 -- What the crate says.
-pub mod WordNet
-pub mod Renumbering
-pub mod WordFlow
 pub mod FlowTiling
 pub mod LaidTiling
 pub mod Realised
+pub mod Renumbering
+pub mod WordFlow
+pub mod WordNet
 -- How its code keeps it.
 pub mod LaidOutline

@@ -1,7 +1,7 @@
 -- The way from a word to its one tiling: the sides in the order of laying are a flow of the word's own net, and with
 -- the word they fix all places. Statements alone; each is proved apart.
--- Example (RealisedExamples of bk_skel): the squares of the rectangle 65x47 in the order in which its word lays them, with
--- the levels of the valleys that it fills.
+-- Example (RealisedExamples of bk_skel): the squares of the rectangle 65x47 in the order in which its word lays them,
+-- with the levels of the valleys that it fills.
 use Rattle.std.specs.Prelude.{List, [], map, pos, ℕ, ◌*◌, ◌++◌, ◌-ℤ◌, ◌<◌, ◌∷◌, ◌≡◌, ◌≤ℤ◌}
 use Rattle.bk_tiling.specs.declared.Segment.{Segment}
 use Rattle.bk_tiling.specs.Scale.{AreAlike, IsPrimitiveTiling, enlarged}

@@ -1,8 +1,10 @@
 //! The theory of a word's net: its one flow, and which flows place the word's squares.
 #![tactic(auto)]
 
-ghost use Rattle.bk_word_net.specs.WordFlow.{AWordHasOneFlow, AWordHasOnePrimitiveTiling, AWordHasOneTiling, AWordNetHasNoLoose, LaidSidesAreAFlow};
-ghost use Rattle.bk_word_net.specs.FlowTiling.{AFlowPlacesATiling, APrimitiveFlowIsAPrimitiveTiling, AWordOfATilingIsPlaced};
+ghost use Rattle.bk_word_net.specs.WordFlow.{AWordHasOneFlow, AWordHasOnePrimitiveTiling, AWordHasOneTiling};
+ghost use Rattle.bk_word_net.specs.WordFlow.{AWordNetHasNoLoose, LaidSidesAreAFlow};
+ghost use Rattle.bk_word_net.specs.FlowTiling.{AFlowPlacesATiling, APrimitiveFlowIsAPrimitiveTiling};
+ghost use Rattle.bk_word_net.specs.FlowTiling.{AWordOfATilingIsPlaced};
 ghost use Rattle.bk_word_net.specs.Renumbering.{WordNetIsSmithDiagram};
 
 /// The net of a complete word has no loose node.

@@ -4,16 +4,17 @@ use Rattle.std.specs.Prelude.{cond, map}
 use Rattle.std.proofs.Common.{Bool, [], ap, length, refl, subst, sym, ℕ, ◌++◌, ◌∙◌, ◌∷◌, ◌≡◌}
 use Rattle.indexmap.specs.IndexMap.{keys, values, with_value_at}
 use Rattle.indexmap.proofs.CallerLemmas.{keys-with_value_at}
+use Rattle.bk_laws.proofs.Outcomes.{found-below_bound, le-from_none_found}
 use Rattle.bk_alike.specs.Alike.{size_eq}
 use Rattle.bk_alike.specs.Grouped.{with_place}
 use Rattle.bk_alike.proofs.GroupingLaws.{present_at}
-use Rattle.bk_alike.proofs.Storing.{groups_grown, keys_grown, none_late, set_placed, set_same, some_found}
+use Rattle.bk_alike.proofs.Storing.{groups_grown, keys_grown, set_placed, set_same}
 use Rattle.bk_alike.proofs.put_in_group.Goals as goal
 
 -- the size is there: its group is written back
 pub returns-in-Ok-clause-sizes : goal.returns-in-Ok-clause-sizes
 returns-in-Ok-clause-sizes c =
-    let found = some_found (position_or_len (size_eq c.args.size) (keys c.args.groups.now)) (length (keys c.args.groups.now)) c.in-Some.g
+    let found = found-below_bound (position_or_len (size_eq c.args.size) (keys c.args.groups.now)) (length (keys c.args.groups.now)) c.in-Some.g
     c.in-Some.ensures.index in
     keys-with_value_at c.args.groups.now c.in-Some.g c.push.new.self
     ∙ sym (ap (λ (b : Bool). cond b (keys c.args.groups.now) (keys c.args.groups.now ++ c.args.size ∷ []))
@@ -21,7 +22,7 @@ returns-in-Ok-clause-sizes c =
 
 pub returns-in-Ok-clause-groups : goal.returns-in-Ok-clause-groups
 returns-in-Ok-clause-groups c =
-    let found = some_found (position_or_len (size_eq c.args.size) (keys c.args.groups.now)) (length (keys c.args.groups.now)) c.in-Some.g
+    let found = found-below_bound (position_or_len (size_eq c.args.size) (keys c.args.groups.now)) (length (keys c.args.groups.now)) c.in-Some.g
     c.in-Some.ensures.index in
     subst (λ (k : ℕ). map (λ group. group.items) (values (with_value_at c.args.groups.now c.in-Some.g c.push.new.self))
     ≡ with_place (map (λ group. group.items) (values c.args.groups.now)) k c.args.place) found.0
@@ -39,13 +40,13 @@ returns-in-Some-clause-same_groups c =
 -- it is not there: a group is put at the end
 pub returns-in-Ok-insert-clause-sizes : goal.returns-in-Ok-insert-clause-sizes
 returns-in-Ok-insert-clause-sizes c =
-    let late = none_late (position_or_len (size_eq c.args.size) (keys c.args.groups.now)) (length (keys c.args.groups.now)) c.in-None.ensures.index in
+    let late = le-from_none_found (position_or_len (size_eq c.args.size) (keys c.args.groups.now)) (length (keys c.args.groups.now)) c.in-None.ensures.index in
     keys_grown (λ group. group.items) c.args.groups.now.entries c.insert.new.self.entries c.args.size c.in-Ok-from_slice.group c.args.place late
     c.in-Ok-insert.ensures.entries
 
 pub returns-in-Ok-insert-clause-groups : goal.returns-in-Ok-insert-clause-groups
 returns-in-Ok-insert-clause-groups c =
-    let late = none_late (position_or_len (size_eq c.args.size) (keys c.args.groups.now)) (length (keys c.args.groups.now)) c.in-None.ensures.index in
+    let late = le-from_none_found (position_or_len (size_eq c.args.size) (keys c.args.groups.now)) (length (keys c.args.groups.now)) c.in-None.ensures.index in
     groups_grown (λ group. group.items) c.args.groups.now.entries c.insert.new.self.entries c.args.size c.in-Ok-from_slice.group c.args.place late
     c.in-Ok-insert.ensures.entries c.in-Ok-from_slice.ensures.items
 

@@ -1,4 +1,4 @@
-use Rattle.bk_catalogue.proofs.CornerLaws.{corners_are_no_longer as the_law}
+use Rattle.bk_catalogue.proofs.Members.CornerLaws.{corners_are_no_longer as the_law}
 use Rattle.bk_catalogue.proofs.corners_are_no_longer.Goals as goal
 
 pub returns : goal.returns

@@ -1,4 +1,4 @@
-use Rattle.bk_catalogue.proofs.OneUnderOne.{one_under_one_is_barren as the_law}
+use Rattle.bk_catalogue.proofs.MoveCuts.OneUnderOne.{one_under_one_is_barren as the_law}
 use Rattle.bk_catalogue.proofs.one_under_one_is_barren.Goals as goal
 
 pub returns : goal.returns

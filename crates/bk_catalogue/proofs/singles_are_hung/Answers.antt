@@ -1,4 +1,4 @@
-use Rattle.bk_catalogue.proofs.WordBoundLaws.{singles_are_hung as the_law}
+use Rattle.bk_catalogue.proofs.HangingBounds.WordBoundLaws.{singles_are_hung as the_law}
 use Rattle.bk_catalogue.proofs.singles_are_hung.Goals as goal
 
 pub returns : goal.returns

@@ -1,4 +1,4 @@
-use Rattle.bk_catalogue.proofs.MostClosings.{the_closing_bound_is_most as the_law}
+use Rattle.bk_catalogue.proofs.HangingBounds.MostClosings.{the_closing_bound_is_most as the_law}
 use Rattle.bk_catalogue.proofs.the_closing_bound_is_most.Goals as goal
 
 pub returns : goal.returns

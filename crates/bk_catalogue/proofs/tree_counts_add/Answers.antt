@@ -1,4 +1,4 @@
-use Rattle.bk_catalogue.proofs.TreeCounts.{tree_counts_add as the_law}
+use Rattle.bk_catalogue.proofs.TreeOfWords.TreeCounts.{tree_counts_add as the_law}
 use Rattle.bk_catalogue.proofs.tree_counts_add.Goals as goal
 
 pub returns : goal.returns

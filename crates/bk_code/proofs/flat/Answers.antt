@@ -1,6 +1,6 @@
 use Rattle.std.specs.List.{AllByRecursion}
 use Rattle.std.proofs.Common.{List, ap, subst, sym, ℕ, ◌∙◌}
-use Rattle.bk_tiling.specs.Kept.{IsSide}
+use Rattle.bk_tiling.specs.KeptTiling.{IsSide}
 use Rattle.bk_code.specs.Code.{flat}
 use Rattle.bk_code.proofs.Storing.{flat_good, groups_flat}
 use Rattle.bk_code.proofs.flat.Goals as goal

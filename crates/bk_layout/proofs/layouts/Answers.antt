@@ -1,8 +1,8 @@
-use Rattle.bk_layout.proofs.LayoutNet.{a_layout_has_a_free_word}
-use Rattle.bk_layout.proofs.TilingFits.{a_tiling_has_a_layout}
-use Rattle.bk_layout.proofs.SimpleFits.{a_simple_tiling_has_a_simple_layout}
-use Rattle.bk_layout.proofs.ReversedFits.{a_reversed_layout_fits}
-use Rattle.bk_layout.proofs.RuleScan.{a_layout_has_a_word_by_rule_r}
+use Rattle.bk_layout.proofs.Sweeps.LayoutNet.{a_layout_has_a_free_word}
+use Rattle.bk_layout.proofs.TilingLayouts.TilingFits.{a_tiling_has_a_layout}
+use Rattle.bk_layout.proofs.FreeCuts.SimpleFits.{a_simple_tiling_has_a_simple_layout}
+use Rattle.bk_layout.proofs.Reversals.ReversedFits.{a_reversed_layout_fits}
+use Rattle.bk_layout.proofs.Reversals.RuleScan.{a_layout_has_a_word_by_rule_r}
 use Rattle.bk_layout.proofs.layouts.Goals as goal
 
 pub returns-clause-a_layout_has_a_free_word : goal.returns-clause-a_layout_has_a_free_word

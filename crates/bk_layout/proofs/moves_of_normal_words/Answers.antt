@@ -1,8 +1,8 @@
-use Rattle.bk_layout.proofs.NumbersShown.{a_word_shows_numbers}
-use Rattle.bk_layout.proofs.RunsOfLines.{wall_moves_hang_one}
-use Rattle.bk_layout.proofs.FewMoves.{a_move_hangs_at_walls, most_moves_are_most, most_moves_stay}
-use Rattle.bk_layout.proofs.LastMoves.{a_move_leaves_segments}
-use Rattle.bk_layout.proofs.NextMove.{most_moves_hold_then}
+use Rattle.bk_layout.proofs.NormalCuts.NumbersShown.{a_word_shows_numbers}
+use Rattle.bk_layout.proofs.FreeCuts.RunsOfLines.{wall_moves_hang_one}
+use Rattle.bk_layout.proofs.NormalCuts.FewMoves.{a_move_hangs_at_walls, most_moves_are_most, most_moves_stay}
+use Rattle.bk_layout.proofs.NormalCuts.LastMoves.{a_move_leaves_segments}
+use Rattle.bk_layout.proofs.NormalCuts.NextMove.{most_moves_hold_then}
 use Rattle.bk_layout.proofs.moves_of_normal_words.Goals as goal
 
 pub returns-clause-a_word_shows_numbers : goal.returns-clause-a_word_shows_numbers

@@ -1,17 +1,16 @@
-use Rattle.bk_layout.proofs.CutsOfTilings.{a_simple_tiling_has_a_sound_layout, even_squares_are_free_barren, one_segment_is_free_barren}
-use Rattle.bk_layout.proofs.CutsOfTilings.{one_under_one_is_free_barren, staying_above_is_free_barren, too_many_lines_is_free_barren}
-use Rattle.bk_layout.proofs.CutsOfTilings.{too_many_singles_is_free_barren, too_many_to_close_is_free_barren}
-use Rattle.bk_layout.proofs.OpenRuns.{open_segments_end_together}
-use Rattle.bk_layout.proofs.ApartLines.{lines_of_a_tiling_are_apart}
-use Rattle.bk_layout.proofs.SharedPairs.{lines_share_the_node_above}
-use Rattle.bk_layout.proofs.NumberedLines.{line_numbers_are_lines}
-use Rattle.bk_layout.proofs.CutByNodes.{shared_node_is_free_barren}
-use Rattle.bk_layout.proofs.SignedWords.{a_tiling_has_a_positive_word, a_word_up_to_reversals_is_signed}
-use Rattle.bk_layout.proofs.SignedFlows.{signed_sides_are_the_one_flow, signed_squares_hang_by_flow}
-use Rattle.bk_layout.proofs.SoundReversal.{a_reversed_layout_is_sound}
-use Rattle.bk_layout.proofs.SoundWords.{a_simple_tiling_is_sound_around, a_sound_layout_has_a_sound_word_by_rule_r}
-use Rattle.bk_layout.proofs.NetWords.{a_free_barren_word_is_net_barren, a_simple_tiling_has_a_net_word, a_simple_tiling_has_a_positive_word}
-use Rattle.bk_layout.proofs.NetWords.{even_then_above_is_net_barren, what_goes_on_is_net_barren}
+use Rattle.bk_layout.proofs.FreeCuts.CutsOfTilings.{a_simple_tiling_has_a_sound_layout, even_squares_are_free_barren, one_segment_is_free_barren}
+use Rattle.bk_layout.proofs.FreeCuts.CutsOfTilings.{one_under_one_is_free_barren, staying_above_is_free_barren, too_many_lines_is_free_barren}
+use Rattle.bk_layout.proofs.Sweeps.OpenRuns.{open_segments_end_together}
+use Rattle.bk_layout.proofs.TilingLayouts.ApartLines.{lines_of_a_tiling_are_apart}
+use Rattle.bk_layout.proofs.FreeCuts.SharedPairs.{lines_share_the_node_above}
+use Rattle.bk_layout.proofs.FreeCuts.NumberedLines.{line_numbers_are_lines}
+use Rattle.bk_layout.proofs.FreeCuts.CutByNodes.{shared_node_is_free_barren}
+use Rattle.bk_layout.proofs.SignedWords.SignedTilingWords.{a_word_up_to_reversals_is_signed}
+use Rattle.bk_layout.proofs.SignedWords.SignedFlows.{signed_sides_are_the_one_flow}
+use Rattle.bk_layout.proofs.Reversals.SoundReversal.{a_reversed_layout_is_sound}
+use Rattle.bk_layout.proofs.Reversals.SoundWords.{a_simple_tiling_is_sound_around, a_sound_layout_has_a_sound_word_by_rule_r}
+use Rattle.bk_layout.proofs.FreeCuts.NetWords.{a_free_barren_word_is_net_barren, a_simple_tiling_has_a_net_word}
+use Rattle.bk_layout.proofs.FreeCuts.NetWords.{even_then_above_is_net_barren}
 use Rattle.bk_layout.proofs.net_words.Goals as goal
 
 pub returns-clause-a_simple_tiling_has_a_sound_layout : goal.returns-clause-a_simple_tiling_has_a_sound_layout
@@ -28,12 +27,6 @@ returns-clause-even_squares_are_free_barren c = even_squares_are_free_barren
 
 pub returns-clause-one_under_one_is_free_barren : goal.returns-clause-one_under_one_is_free_barren
 returns-clause-one_under_one_is_free_barren c = one_under_one_is_free_barren
-
-pub returns-clause-too_many_to_close_is_free_barren : goal.returns-clause-too_many_to_close_is_free_barren
-returns-clause-too_many_to_close_is_free_barren c = too_many_to_close_is_free_barren
-
-pub returns-clause-too_many_singles_is_free_barren : goal.returns-clause-too_many_singles_is_free_barren
-returns-clause-too_many_singles_is_free_barren c = too_many_singles_is_free_barren
 
 pub returns-clause-too_many_lines_is_free_barren : goal.returns-clause-too_many_lines_is_free_barren
 returns-clause-too_many_lines_is_free_barren c = too_many_lines_is_free_barren
@@ -56,14 +49,8 @@ returns-clause-shared_node_is_free_barren c = shared_node_is_free_barren
 pub returns-clause-a_word_up_to_reversals_is_signed : goal.returns-clause-a_word_up_to_reversals_is_signed
 returns-clause-a_word_up_to_reversals_is_signed c = a_word_up_to_reversals_is_signed
 
-pub returns-clause-a_tiling_has_a_positive_word : goal.returns-clause-a_tiling_has_a_positive_word
-returns-clause-a_tiling_has_a_positive_word c = a_tiling_has_a_positive_word
-
 pub returns-clause-signed_sides_are_the_one_flow : goal.returns-clause-signed_sides_are_the_one_flow
 returns-clause-signed_sides_are_the_one_flow c = signed_sides_are_the_one_flow
-
-pub returns-clause-signed_squares_hang_by_flow : goal.returns-clause-signed_squares_hang_by_flow
-returns-clause-signed_squares_hang_by_flow c = signed_squares_hang_by_flow
 
 pub returns-clause-a_reversed_layout_is_sound : goal.returns-clause-a_reversed_layout_is_sound
 returns-clause-a_reversed_layout_is_sound c = a_reversed_layout_is_sound
@@ -80,11 +67,5 @@ returns-clause-a_free_barren_word_is_net_barren c = a_free_barren_word_is_net_ba
 pub returns-clause-even_then_above_is_net_barren : goal.returns-clause-even_then_above_is_net_barren
 returns-clause-even_then_above_is_net_barren c = even_then_above_is_net_barren
 
-pub returns-clause-what_goes_on_is_net_barren : goal.returns-clause-what_goes_on_is_net_barren
-returns-clause-what_goes_on_is_net_barren c = what_goes_on_is_net_barren
-
 pub returns-clause-a_simple_tiling_has_a_net_word : goal.returns-clause-a_simple_tiling_has_a_net_word
 returns-clause-a_simple_tiling_has_a_net_word c = a_simple_tiling_has_a_net_word
-
-pub returns-clause-a_simple_tiling_has_a_positive_word : goal.returns-clause-a_simple_tiling_has_a_positive_word
-returns-clause-a_simple_tiling_has_a_positive_word c = a_simple_tiling_has_a_positive_word

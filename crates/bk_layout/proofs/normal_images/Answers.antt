@@ -1,8 +1,7 @@
-use Rattle.bk_layout.proofs.EachNormalImage.{each_tiling_has_a_normal_image}
-use Rattle.bk_layout.proofs.NormalImages.{images_are_simple}
-use Rattle.bk_layout.proofs.LayoutCounts.{the_layout_has_the_counts}
-use Rattle.bk_layout.proofs.LayoutSides.{the_layout_has_the_sides}
-use Rattle.bk_layout.proofs.NumbersKept.{a_normal_tiling_has_a_normal_layout, reversals_keep_counts}
+use Rattle.bk_layout.proofs.NormalImages.EachNormalImage.{each_tiling_has_a_normal_image}
+use Rattle.bk_layout.proofs.NormalImages.ImagesToMeet.{images_are_simple}
+use Rattle.bk_layout.proofs.NormalImages.LayoutCounts.{the_layout_has_the_counts}
+use Rattle.bk_layout.proofs.Reversals.NumbersKept.{a_normal_tiling_has_a_normal_layout, reversals_keep_counts}
 use Rattle.bk_layout.proofs.normal_images.Goals as goal
 
 pub returns-clause-each_tiling_has_a_normal_image : goal.returns-clause-each_tiling_has_a_normal_image
@@ -13,9 +12,6 @@ returns-clause-images_are_simple c = images_are_simple
 
 pub returns-clause-the_layout_has_the_counts : goal.returns-clause-the_layout_has_the_counts
 returns-clause-the_layout_has_the_counts c = the_layout_has_the_counts
-
-pub returns-clause-the_layout_has_the_sides : goal.returns-clause-the_layout_has_the_sides
-returns-clause-the_layout_has_the_sides c = the_layout_has_the_sides
 
 pub returns-clause-reversals_keep_counts : goal.returns-clause-reversals_keep_counts
 returns-clause-reversals_keep_counts c = reversals_keep_counts

@@ -1,4 +1,4 @@
-use Rattle.bk_layout.proofs.PassCounts.{even_asks_least, fewer_marks_ask_less, the_pass_counts_the_bound, the_pass_is_strong}
+use Rattle.bk_layout.proofs.NormalCuts.PassCounts.{even_asks_least, fewer_marks_ask_less, the_pass_counts_the_bound, the_pass_is_strong}
 use Rattle.bk_layout.proofs.strong_bound.Goals as goal
 
 pub returns-clause-the_pass_is_strong : goal.returns-clause-the_pass_is_strong

@@ -1,6 +1,6 @@
-use Rattle.bk_layout.proofs.NormalWords.{a_normal_tiling_has_a_normal_word}
-use Rattle.bk_layout.proofs.NormalImages.{a_normal_word_has_settled_corners, a_normal_word_has_settled_counts, a_normal_word_is_sought}
-use Rattle.bk_layout.proofs.NormalImages.{each_image_is_a_members, each_member_is_met, each_simple_tiling_has_a_normal_word}
+use Rattle.bk_layout.proofs.NormalCuts.NormalWords.{a_normal_tiling_has_a_normal_word}
+use Rattle.bk_layout.proofs.NormalImages.ImagesToMeet.{a_normal_word_has_settled_corners, a_normal_word_has_settled_counts, a_normal_word_is_sought}
+use Rattle.bk_layout.proofs.NormalImages.ImagesToMeet.{each_image_is_a_members, each_member_is_met, each_simple_tiling_has_a_normal_word}
 use Rattle.bk_layout.proofs.words_to_meet.Goals as goal
 
 pub returns-clause-a_normal_tiling_has_a_normal_word : goal.returns-clause-a_normal_tiling_has_a_normal_word

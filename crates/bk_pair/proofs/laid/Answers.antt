@@ -1,7 +1,7 @@
 use Rattle.std.proofs.Common.{ap, arith, length, map, subst, sym, ◌∙◌, ◌≡◌}
 use Rattle.std.proofs.lemmas.List.{length-append, length-map}
 use Rattle.bk_tiling.specs.CodeOrder.{in_code_order}
-use Rattle.bk_tiling.specs.Kept.{IsKept}
+use Rattle.bk_tiling.specs.KeptTiling.{IsKept}
 use Rattle.bk_tiling.specs.Refusal.{HaveSides, ShareNoCell}
 use Rattle.bk_tiling.specs.Scale.{moved_square}
 use Rattle.bk_pair.specs.Pair.{laid_squares}

@@ -11,7 +11,7 @@ one_size : (a b : Tiling) (width height wide high : ℕ) → width ≡ a.width �
     → wide ≡ width → high ≡ height → AreOneSize a b
 one_size a b width height wide high x y z w same equal = record { width = sym x ∙ sym same ∙ z; height = sym y ∙ sym equal ∙ w }
 
--- and that is no square's
+-- a tiling whose width and height differ is no square, from what is read of it
 oblong : (a : Tiling) (width height : ℕ) → width ≡ a.width → height ≡ a.height → width ≢ height → a.width ≢ a.height
 oblong a width height x y differ = λ e. differ (x ∙ e ∙ sym y)
 

@@ -2,7 +2,7 @@ use Rattle.std.proofs.Common.{false, true, ◌≡◌, ap, arith, count_by, take,
 use Rattle.bk_simple.proofs.TwoParts.{uncut_parts, inside_parts, uncut_whole}
 use Rattle.bk_simple.specs.Border.{rectangle_of, is_inside}
 use Rattle.std.specs.List.{All}
-use Rattle.bk_tiling.specs.Kept.{IsKept}
+use Rattle.bk_tiling.specs.KeptTiling.{IsKept}
 use Rattle.bk_tiling.specs.Sharing.{EdgesFit}
 use Rattle.bk_simple.proofs.UncutParts.{side_at, within_at}
 use Rattle.bk_tiling.specs.Tiling.{Tiling}

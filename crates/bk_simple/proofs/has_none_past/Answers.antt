@@ -6,7 +6,7 @@ use Rattle.bk_tiling.specs.declared.Square.{Square}
 use Rattle.bk_simple.proofs.Seams.{run_more, run_start}
 use Rattle.bk_simple.proofs.TopRuns.{begins_left, goes_past, none_beyond}
 use Rattle.std.specs.List.{All}
-use Rattle.bk_tiling.specs.Kept.{IsKept}
+use Rattle.bk_tiling.specs.KeptTiling.{IsKept}
 use Rattle.bk_tiling.specs.Sharing.{EdgesFit}
 use Rattle.bk_simple.proofs.UncutParts.{side_at, within_at}
 use Rattle.bk_simple.proofs.has_none_past.Goals as goal

@@ -6,7 +6,7 @@ use Rattle.bk_tiling.specs.declared.Square.{Square}
 use Rattle.bk_simple.proofs.SideWalks.{AreNext, left_low, none_but_whole, walk_all, walk_crossed, walk_more, walk_start}
 use Rattle.bk_simple.proofs.TopRuns.{begins_right, run_of}
 use Rattle.std.specs.List.{All}
-use Rattle.bk_tiling.specs.Kept.{IsKept}
+use Rattle.bk_tiling.specs.KeptTiling.{IsKept}
 use Rattle.bk_tiling.specs.Sharing.{EdgesFit}
 use Rattle.bk_simple.proofs.UncutParts.{side_at, within_at}
 use Rattle.bk_simple.proofs.has_none_under.Goals as goal

@@ -3,11 +3,11 @@ use Rattle.bk_tiling.specs.declared.Square.{Square}
 use Rattle.bk_simple.proofs.PartTrials.{none_between, none_cut, none_single, none_whole, part_at_from}
 use Rattle.bk_simple.specs.Border.{rectangle_of}
 use Rattle.std.specs.List.{All}
-use Rattle.bk_tiling.specs.Kept.{IsKept}
+use Rattle.bk_tiling.specs.KeptTiling.{IsKept}
 use Rattle.bk_tiling.specs.Sharing.{EdgesFit}
 use Rattle.bk_simple.proofs.UncutParts.{side_at, within_at}
 use Rattle.bk_tiling.specs.Tiling.{Rectangle, Tiling}
-use Rattle.bk_simple.specs.Corners.{IsBetween}
+use Rattle.bk_simple.specs.CornerSquares.{IsBetween}
 use Rattle.bk_simple.proofs.part_at.Goals as goal
 use Rattle.bk_simple.proofs.part_at.Goals.{else-inside-ge2-via-then-inside-ge2+else-inside-order, else-inside-ge2-via-else-inside-ge2}
 

@@ -4,7 +4,7 @@ use Rattle.bk_simple.proofs.PartTrials.{NoneBelow, none_below_start, none_from, 
 use Rattle.bk_tiling.specs.declared.Square.{Square}
 use Rattle.bk_simple.proofs.Reaching.{none_behind}
 use Rattle.bk_simple.proofs.Seams.{none_higher}
-use Rattle.bk_tiling.specs.Kept.{IsKept}
+use Rattle.bk_tiling.specs.KeptTiling.{IsKept}
 use Rattle.bk_simple.specs.Border.{rectangle_of}
 use Rattle.bk_simple.proofs.part_from.Goals as goal
 

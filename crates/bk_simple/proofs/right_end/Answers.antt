@@ -2,7 +2,7 @@ use Rattle.std.proofs.Common.{arith, Fits, length, w64, ℕ, ◌*◌, ◌+◌, �
 use Rattle.bk_tiling.specs.declared.Square.{Square}
 use Rattle.bk_simple.proofs.Seams.{none_wider, run_more, run_start}
 use Rattle.std.specs.List.{All}
-use Rattle.bk_tiling.specs.Kept.{IsKept}
+use Rattle.bk_tiling.specs.KeptTiling.{IsKept}
 use Rattle.bk_tiling.specs.Sharing.{EdgesFit}
 use Rattle.bk_simple.proofs.UncutParts.{side_at, within_at}
 use Rattle.bk_tiling.specs.Tiling.{Tiling}

@@ -3,7 +3,7 @@ use Rattle.std.proofs.Common.{arith, get_or, refl, rules, subst, sym, ◌∙◌,
 use Rattle.std.proofs.lemmas.Bool.{not-false}
 use Rattle.bk_sym.proofs.Greatest.{IsGreatestSoFar, greatest_of, so_far-more, so_far-none, so_far-same}
 use Rattle.bk_sym.proofs.KeptImages.{kept_image}
-use Rattle.bk_tiling.specs.Kept.{IsKept}
+use Rattle.bk_tiling.specs.KeptTiling.{IsKept}
 use Rattle.bk_sym.specs.Canonical.{IsAtMost}
 use Rattle.bk_sym.specs.Image.{image}
 use Rattle.bk_sym.specs.Turns.{turns}

@@ -1,10 +1,10 @@
 use Rattle.std.proofs.Common.{List, ap, map, subst, sym, ℕ, ◌∙◌, ◌≡◌, arith, get_or, length, ◌+◌, ◌<◌, ◌≤◌, [], lit<, take, ◌++◌, ◌∷◌}
-use Rattle.bk_tiling.specs.CodeOrder.{InCodeOrder, in_code_order}
-use Rattle.bk_tiling.specs.Kept.{IsKept}
+use Rattle.bk_tiling.specs.CodeOrder.{in_code_order}
+use Rattle.bk_tiling.specs.KeptTiling.{IsKept}
+use Rattle.bk_tiling.specs.Refusal.{HaveSides, ShareNoCell}
 use Rattle.bk_tiling.specs.Tiling.{Tiling, IsTiling, IsWithin, whole}
 use Rattle.bk_tiling.specs.declared.Square.{Square}
-use Rattle.bk_sym.proofs.Images.{images_are_tilings}
-use Rattle.bk_sym.proofs.KeptImages.{all_turned, kept_image, made}
+use Rattle.bk_sym.proofs.KeptImages.{all_turned, kept_image, made, turned_apart, turned_sides}
 use Rattle.bk_sym.specs.Image.{image, image_size, image_square}
 use Rattle.std.proofs.lemmas.List.Elements.{All-from_recursion}
 use Rattle.std.proofs.lemmas.List.{length-map, length-take, map_more}
@@ -25,14 +25,21 @@ room : (f : Square → Square) (made squares : List Square) (k : ℕ) → made �
     (take k squares) → k < length squares → length squares ≤ 200 → length made < 200
 room f made squares k e few most = omega (arith, ap length e, length-map (take k squares) f, length-take k squares)
 
-pub put_in_order-requires : goal.put_in_order-requires
-put_in_order-requires c =
+pub put_in_order-requires-clause-sides : goal.put_in_order-requires-clause-sides
+put_in_order-requires-clause-sides c =
     let t : Tiling = c.args.tiling.now in
     let items : c.loop-q.squares.items ≡ map (image_square c.args.which t.width t.height) t.squares =
     all_turned c.args.which t c.width-width.result c.height-height.result c.loop-q.q-index c.squares-q-items.result.now c.loop-q.squares.items
     c.width-width.ensures.value c.height-height.ensures.value c.squares-q-items.ensures.value c.loop-q-test.false c.loop-q.invariant in
-    subst (λ (squares : List Square). InCodeOrder (in_code_order squares)) (sym items)
-    (images_are_tilings t c.args.which c.squares-q-items.ensures.kept.tiling).ordered
+    subst HaveSides (sym items) (turned_sides c.args.which t c.squares-q-items.ensures.kept)
+
+pub put_in_order-requires-clause-apart : goal.put_in_order-requires-clause-apart
+put_in_order-requires-clause-apart c =
+    let t : Tiling = c.args.tiling.now in
+    let items : c.loop-q.squares.items ≡ map (image_square c.args.which t.width t.height) t.squares =
+    all_turned c.args.which t c.width-width.result c.height-height.result c.loop-q.q-index c.squares-q-items.result.now c.loop-q.squares.items
+    c.width-width.ensures.value c.height-height.ensures.value c.squares-q-items.ensures.value c.loop-q-test.false c.loop-q.invariant in
+    subst ShareNoCell (sym items) (turned_apart c.args.which t c.squares-q-items.ensures.kept)
 
 pub from_known-requires : goal.from_known-requires
 from_known-requires c =

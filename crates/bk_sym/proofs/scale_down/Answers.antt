@@ -1,5 +1,5 @@
 use Rattle.std.proofs.Common.{ap, subst, sym, ◌∙◌, ◌≡◌, List, [], arith, get_or, length, lit<, map, take, ℕ, ◌++◌, ◌/◌, ◌<◌, ◌∷◌, ◌≤◌}
-use Rattle.bk_tiling.specs.Kept.{IsKept}
+use Rattle.bk_tiling.specs.KeptTiling.{IsKept}
 use Rattle.bk_tiling.specs.Scale.{IsPrimitiveTiling, enlarged}
 use Rattle.bk_tiling.specs.Tiling.{Tiling}
 use Rattle.bk_sym.proofs.CanonicalPrimitive.{scaled_primitive}

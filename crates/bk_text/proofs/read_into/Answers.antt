@@ -2,8 +2,8 @@ use Rattle.std.specs.Prelude.{List, [], false, length, refl, take, true, ℕ, �
 use Rattle.std.proofs.lemmas.List.{length-drop}
 use Rattle.std.proofs.Common.{ap, arith, le_refl, lit<, subst, sym, zero-le, ◌∙◌}
 use Rattle.std.proofs.lemmas.List.{take_all}
-use Rattle.bk_text.specs.Gathered.{Gathered, gathered_after, line_gathered, nothing_gathered}
-use Rattle.bk_text.specs.Reader.{next_place}
+use Rattle.bk_text.specs.GatheredSides.{Gathered, gathered_after, line_gathered, nothing_gathered}
+use Rattle.bk_text.specs.LineReading.{next_line_place}
 use Rattle.bk_text.specs.CodeLine.{IsLine}
 use Rattle.bk_text.specs.declared.reader.Place.{Place}
 use Rattle.bk_text.specs.declared.reader.Place.TheVariants.{Start}
@@ -42,7 +42,7 @@ returns-in_default-clause-fault c =
     (none_further c.args.line.now c.bytes.at c.take_ahead-taken.result c.bytes.place c.take_ahead-taken.new.place c.bytes.gatherer c.take_ahead-taken.new.self
     (omega arith) c.bytes.invariant.read
     c.take_ahead-taken.ensures.was c.take_ahead-taken.ensures.leads)
-    (ap (next_place c.take_ahead-taken.new.place) (sym c.kind_of-kind.ensures) ∙ sym c.next.ensures ∙ c.in_default.is)
+    (ap (next_line_place c.take_ahead-taken.new.place) (sym c.kind_of-kind.ensures) ∙ sym c.next.ensures ∙ c.in_default.is)
 
 pub take-requires-clause-side : goal.take-requires-clause-side
 take-requires-clause-side c = side_fits (take c.bytes.at c.args.line.now) c.take_ahead-taken.new.place c.take_ahead-taken.new.self c.kind_of-kind.result
@@ -65,7 +65,7 @@ bytes-preserved c = record {
       (none_further c.args.line.now c.bytes.at c.take_ahead-taken.result c.bytes.place c.take_ahead-taken.new.place c.bytes.gatherer c.take_ahead-taken.new.self
       (omega arith) c.bytes.invariant.read
       c.take_ahead-taken.ensures.was c.take_ahead-taken.ensures.leads)
-      c.take.ensures.was (ap (next_place c.take_ahead-taken.new.place) (sym c.kind_of-kind.ensures) ∙ sym c.next.ensures ∙ c.in-Some.is));
+      c.take.ensures.was (ap (next_line_place c.take_ahead-taken.new.place) (sym c.kind_of-kind.ensures) ∙ sym c.next.ensures ∙ c.in-Some.is));
 }
 
 -- the whole line was read

@@ -1,4 +1,4 @@
-use Rattle.bk_word_net.proofs.PrimitiveTiling.{a_word_has_one_primitive_tiling as the_law}
+use Rattle.bk_word_net.proofs.PlacedSquares.PrimitiveTiling.{a_word_has_one_primitive_tiling as the_law}
 use Rattle.bk_word_net.proofs.a_word_has_one_primitive_tiling.Goals as goal
 
 pub returns : goal.returns

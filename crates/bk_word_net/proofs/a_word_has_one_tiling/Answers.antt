@@ -1,4 +1,4 @@
-use Rattle.bk_word_net.proofs.OneTiling.{a_word_has_one_tiling as the_law}
+use Rattle.bk_word_net.proofs.PlacedSquares.OneTiling.{a_word_has_one_tiling as the_law}
 use Rattle.bk_word_net.proofs.a_word_has_one_tiling.Goals as goal
 
 pub returns : goal.returns

@@ -5,15 +5,15 @@ use Rattle.std.proofs.Common.{List, ap, arith, length, subst, sym, ℕ, ◌<◌,
 use Rattle.std.proofs.lemmas.List.{length-map}
 use Rattle.std.proofs.lemmas.Option.{same_Some}
 use Rattle.indexmap.specs.IndexMap.{keys}
+use Rattle.bk_laws.proofs.Outcomes.{found-below_bound, le-from_none_found}
 use Rattle.bk_alike.specs.Alike.{alike_groups, group_of, size_eq, sizes}
 use Rattle.bk_alike.specs.declared.item.KeptItem.{KeptItem}
 use Rattle.bk_alike.proofs.GroupingLaws.{absent_at, found_at}
-use Rattle.bk_alike.proofs.Storing.{none_late, some_found}
 use Rattle.bk_alike.proofs.Alike.of_size.Goals as goal
 
 pub members-requires : goal.members-requires
 members-requires c =
-    let found = some_found (position_or_len (size_eq c.args.size) (keys c.self.inside.groups)) (length (keys c.self.inside.groups)) c.in-Some.g
+    let found = found-below_bound (position_or_len (size_eq c.args.size) (keys c.self.inside.groups)) (length (keys c.self.inside.groups)) c.in-Some.g
     c.in-Some.ensures.index in
     let many = ap (λ (l : List (ℕ × ℕ)). length l) (c.self.invariant).sizes_are in
     subst (λ (l : List KeptItem). c.in-Some.g < length (alike_groups l)) c.self.view_is
@@ -21,7 +21,7 @@ members-requires c =
 
 pub returns-in-Some-clause-value : goal.returns-in-Some-clause-value
 returns-in-Some-clause-value c =
-    let found = some_found (position_or_len (size_eq c.args.size) (keys c.self.inside.groups)) (length (keys c.self.inside.groups)) c.in-Some.g
+    let found = found-below_bound (position_or_len (size_eq c.args.size) (keys c.self.inside.groups)) (length (keys c.self.inside.groups)) c.in-Some.g
     c.in-Some.ensures.index in
     let are = (c.self.invariant).sizes_are in
     let place : c.in-Some.g ≡ position_or_len (size_eq c.args.size) (sizes c.self.inside.items.items) = found.0
@@ -37,7 +37,8 @@ returns-in-Some-clause-value c =
 pub returns-in-None-clause-value : goal.returns-in-None-clause-value
 returns-in-None-clause-value c =
     let are = (c.self.invariant).sizes_are in
-    let late = none_late (position_or_len (size_eq c.args.size) (keys c.self.inside.groups)) (length (keys c.self.inside.groups)) c.in-None.ensures.index in
+    let late = le-from_none_found (position_or_len (size_eq c.args.size) (keys c.self.inside.groups)) (length (keys c.self.inside.groups))
+    c.in-None.ensures.index in
     let none = absent_at c.args.size (sizes c.self.inside.items.items)
     (subst (λ (l : List (ℕ × ℕ)). length l ≤ position_or_len (size_eq c.args.size) l) are late) in
     sym ((c.self.invariant).no_others c.args.size none) ∙ ap (λ (l : List KeptItem). group_of l c.args.size) c.self.view_is

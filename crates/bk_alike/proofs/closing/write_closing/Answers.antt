@@ -1,8 +1,8 @@
 use Rattle.std.proofs.Common.{subst, sym, ℕ, ◌∙◌}
 use Rattle.std.proofs.lemmas.Result.{err_from_is_err_and}
 use Rattle.bk_ports.specs.Causes.{HasCause}
-use Rattle.bk_alike.specs.Closing.{closing_lines}
-use Rattle.bk_alike.specs.Writing.{WritesLines}
+use Rattle.bk_alike.specs.GroupsEnd.{closing_lines}
+use Rattle.bk_alike.specs.WrittenLines.{WritesLines}
 use Rattle.bk_alike.specs.declared.Wanted.{Wanted}
 use Rattle.bk_alike.proofs.LastLines.{groups_broken, groups_closed, pairs_closed, pairs_cut}
 use Rattle.bk_alike.proofs.closing.write_closing.Goals as goal

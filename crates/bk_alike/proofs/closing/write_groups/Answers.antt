@@ -5,7 +5,7 @@ use Rattle.std.proofs.lemmas.List.{at_drop_all}
 use Rattle.std.specs.Prelude.{drop}
 use Rattle.bk_alike.specs.Alike.{sizes}
 use Rattle.bk_answer.proofs.PieceByPiece.{failed_later}
-use Rattle.bk_alike.specs.Closing.{group_lines}
+use Rattle.bk_alike.specs.GroupsEnd.{group_lines}
 use Rattle.bk_alike.proofs.ListLoops.{ends_broken, loop_broken, loop_more}
 use Rattle.bk_alike.proofs.GroupMembers.{length-groups, size_within}
 use Rattle.bk_alike.proofs.WrittenLines.{item_at, written_all, written_none}

@@ -2,7 +2,7 @@ use Rattle.std.specs.List.{flat_map}
 use Rattle.std.specs.Prelude.{drop}
 use Rattle.std.proofs.Common.{◌≡◌}
 use Rattle.bk_alike.specs.Alike.{sizes}
-use Rattle.bk_alike.specs.Closing.{group_lines}
+use Rattle.bk_alike.specs.GroupsEnd.{group_lines}
 use Rattle.bk_alike.proofs.WrittenLines.{IsWrittenTo}
 use Rattle.bk_alike.proofs.closing.write_groups.Given as goal
 

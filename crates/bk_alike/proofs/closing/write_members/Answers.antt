@@ -6,7 +6,7 @@ use Rattle.std.specs.Prelude.{drop}
 use Rattle.std.proofs.lemmas.List.Elements.{All-from_recursion}
 use Rattle.bk_report.specs.ListLines.{member_line}
 use Rattle.bk_answer.proofs.PieceByPiece.{failed_later}
-use Rattle.bk_alike.specs.Closing.{member_at}
+use Rattle.bk_alike.specs.GroupsEnd.{member_at}
 use Rattle.bk_alike.proofs.ListLoops.{ends_broken, members_broken, members_more}
 use Rattle.bk_alike.proofs.WrittenLines.{written_all, written_none}
 use Rattle.bk_alike.proofs.closing.write_members.Goals as goal

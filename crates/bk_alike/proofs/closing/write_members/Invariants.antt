@@ -1,7 +1,7 @@
 use Rattle.std.specs.List.{flat_map}
 use Rattle.std.specs.Prelude.{drop}
 use Rattle.std.proofs.Common.{◌≡◌}
-use Rattle.bk_alike.specs.Closing.{member_at}
+use Rattle.bk_alike.specs.GroupsEnd.{member_at}
 use Rattle.bk_alike.proofs.WrittenLines.{IsWrittenTo}
 use Rattle.bk_alike.proofs.closing.write_members.Given as goal
 

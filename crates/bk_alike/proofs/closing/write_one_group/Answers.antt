@@ -4,8 +4,8 @@ use Rattle.std.proofs.lemmas.Result.{err_from_is_err_and}
 use Rattle.bk_ports.specs.Causes.{AppendsPrefix, HasCause}
 use Rattle.bk_report.specs.ListLines.{group_line}
 use Rattle.bk_alike.specs.Alike.{sizes}
-use Rattle.bk_alike.specs.Closing.{group_lines, member_at}
-use Rattle.bk_alike.specs.Writing.{WritesLines}
+use Rattle.bk_alike.specs.GroupsEnd.{group_lines, member_at}
+use Rattle.bk_alike.specs.WrittenLines.{WritesLines}
 use Rattle.bk_alike.proofs.ListLoops.{ends_broken, first_broken, first_then}
 use Rattle.bk_alike.proofs.GroupMembers.{length-groups, lines_of_group, places_below}
 use Rattle.bk_alike.proofs.closing.write_one_group.Goals as goal

@@ -4,8 +4,8 @@ use Rattle.std.specs.Io.KnownBytes.{Appends}
 use Rattle.std.proofs.lemmas.Result.{err_from_is_err_and}
 use Rattle.std.specs.List.{concat}
 use Rattle.bk_ports.specs.Causes.{AppendsPrefix}
-use Rattle.bk_ask.specs.declared.Kind.{Kind}
-use Rattle.bk_ask.specs.declared.Kind.TheVariants as kinds
+use Rattle.bk_pair.specs.declared.Kind.{Kind}
+use Rattle.bk_pair.specs.declared.Kind.TheVariants as kinds
 use Rattle.bk_tiling.specs.Tiling.{Tiling}
 use Rattle.bk_pair.specs.Pair.{CanBeLaid, joined_square}
 use Rattle.bk_report.specs.ListLines.{pair_line}

@@ -2,9 +2,9 @@
 use Rattle.std.proofs.Common.{Err, IsErr, Ok, Result, lit<, refl, subst, ℕ, ◌∙◌, ◌≤◌}
 use Rattle.std.specs.Io.KnownBytes.{Appends}
 use Rattle.std.proofs.lemmas.Result.{IfOk-from_err}
+use Rattle.bk_laws.proofs.Outcomes.{on_err-intro}
 use Rattle.bk_ports.specs.Causes.{AppendsPrefix, HasCause, Rose}
 use Rattle.bk_ports.specs.declared.Failed.{Failed}
-use Rattle.bk_word.proofs.Failing.{on_err}
 use Rattle.bk_answer.proofs.answer.refuse.Goals as goal
 
 pub returns-clause-outcome : goal.returns-clause-outcome
@@ -22,7 +22,7 @@ returns-in_err-write_all-clause-outcome g c = IfOk-from_err c.from_residual.resu
 
 pub returns-in_err-write_all-clause-failed : goal.returns-in_err-write_all-clause-failed
 returns-in_err-write_all-clause-failed g c =
-    on_err c.from_residual.result
+    on_err-intro c.from_residual.result
     (subst (AppendsPrefix (g.O.Sink.written c.args.out.now) (g.O.Sink.written c.write_all.new.self)) (c.as_slice.ensures.value ∙ c.write_refused.ensures)
     c.in_err-write_all.ensures.err)
 

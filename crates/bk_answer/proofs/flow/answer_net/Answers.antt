@@ -1,6 +1,6 @@
 use Rattle.std.proofs.Common.{subst, ◌∙◌}
 use Rattle.bk_net.specs.Net.{HasNoLoose}
-use Rattle.bk_flow.specs.Refusal.{IsRefusedFor}
+use Rattle.bk_flow.specs.RefusedNet.{IsRefusedFor}
 use Rattle.bk_flow.specs.Wide.{IsWide}
 use Rattle.bk_flow.specs.declared.FlowFault.{FlowFault}
 use Rattle.bk_report.specs.Answers.{flow_line}

@@ -2,7 +2,7 @@ use Rattle.bk_report.specs.declared.refusal.Refused.TheVariants.{Long}
 use Rattle.std.proofs.Common.{[], arith, false, subst, sym, true, ◌∷◌}
 use Rattle.bk_ports.proofs.Pieces.{writes_none}
 use Rattle.bk_net.specs.NetLine.{IsNetLine}
-use Rattle.bk_net.specs.ReadNet.{IsKeptLine, stands_for}
+use Rattle.bk_net.specs.ReadNet.{IsKeptLine, net_line_of}
 use Rattle.bk_net.specs.declared.NetLine.{NetLine}
 use Rattle.bk_report.specs.Refusals.{refusal_line}
 use Rattle.bk_report.specs.declared.refusal.Refused.{Refused}
@@ -14,7 +14,7 @@ pub returns-in-Ok-Skip-clause-reply : goal.returns-in-Ok-Skip-clause-reply
 returns-in-Ok-Skip-clause-reply g c =
     writes_none (AnswersNetLine c.args.line.now) false (g.O.Sink.written c.args.out.now) (no_net_item (record {
       short = omega (arith, c.if-line-gt-LONGEST_LINE.false);
-      meaning = subst (λ (l : NetLine). IsNetLine (stands_for l) c.args.line.now) c.in-Ok-Skip.field-0-is c.in-Ok-Skip.ensures.read;
+      meaning = subst (λ (l : NetLine). IsNetLine (net_line_of l) c.args.line.now) c.in-Ok-Skip.field-0-is c.in-Ok-Skip.ensures.read;
     }))
 
 pub returns-in-Ok-Item-clause-reply : goal.returns-in-Ok-Item-clause-reply
@@ -22,7 +22,7 @@ returns-in-Ok-Item-clause-reply g c =
     let has : HasNet c.args.line.now c.in-Ok-Item.net = record {
       item = record {
         short = omega (arith, c.if-line-gt-LONGEST_LINE.false);
-        meaning = subst (λ (l : NetLine). IsNetLine (stands_for l) c.args.line.now) c.in-Ok-Item.field-0-is c.in-Ok-Item.ensures.read;
+        meaning = subst (λ (l : NetLine). IsNetLine (net_line_of l) c.args.line.now) c.in-Ok-Item.field-0-is c.in-Ok-Item.ensures.read;
       };
       kept = subst IsKeptLine c.in-Ok-Item.field-0-is c.in-Ok-Item.ensures.kept;
     } in

@@ -2,7 +2,7 @@
 use Rattle.std.proofs.Common.{List, ap, arith, subst, sym, ℕ, ◌∙◌, ◌≡◌, ◌≤◌}
 use Rattle.std.proofs.lemmas.Result.{IfOk-from_err}
 use Rattle.bk_text.specs.CodeLine.{Flat, Item, Line}
-use Rattle.bk_text.specs.Gathered.{line_gathered}
+use Rattle.bk_text.specs.GatheredSides.{line_gathered}
 use Rattle.bk_text.specs.ReadLine.{IsInRange}
 use Rattle.bk_text.specs.declared.reader.Ending.{Ending}
 use Rattle.bk_answer.specs.Item.{IsStatedBy, side_count}

@@ -1,5 +1,5 @@
 use Rattle.std.proofs.Common.{arith}
-use Rattle.bk_text.specs.Gathered.{line_gathered}
+use Rattle.bk_text.specs.GatheredSides.{line_gathered}
 use Rattle.bk_answer.specs.Item.{HasItem}
 use Rattle.bk_answer.specs.Refusing.{too_long}
 use Rattle.bk_answer.proofs.ItemSteps.{laid_of_item, not_read, refused_of_item}

@@ -1,5 +1,6 @@
 -- The word is realised, and the tiling or the refusal is written.
 use Rattle.std.proofs.Common.{arith, length, lit<, refl, subst, ◌<◌, ◌∙◌}
+use Rattle.bk_laws.proofs.Bytes.{keeps-itself}
 use Rattle.bk_word.specs.Play.{IsComplete, IsLegal, outline_of}
 use Rattle.bk_word.specs.Word.{order_of}
 use Rattle.bk_word_net.specs.Realised.{IsRealised}
@@ -10,7 +11,7 @@ use Rattle.bk_skel.specs.WideWord.{IsWideWord}
 use Rattle.bk_report.specs.Answers.{tiling_line}
 use Rattle.bk_report.specs.declared.refusal.Refused.TheVariants.{Illegal, Nothing, Unfinished, Wide}
 use Rattle.bk_answer.specs.WordAnswer.{AnswersWord, illegal, no_tiling, realised, unfinished, wide_word}
-use Rattle.bk_answer.proofs.ReplySteps.{keeps_itself, refusal_replies}
+use Rattle.bk_answer.proofs.ReplySteps.{refusal_replies}
 use Rattle.bk_answer.proofs.Writing.{cause_told, piece_replies}
 use Rattle.bk_answer.proofs.solve.answer_word.Goals as goal
 
@@ -84,7 +85,7 @@ as_slice-requires g c = lit< tt
 pub returns-in-Err-NoMemory-clause-reply : goal.returns-in-Err-NoMemory-clause-reply
 returns-in-Err-NoMemory-clause-reply g c =
     let fault = subst (IsSolveFault c.args.word.now) c.in-Err-NoMemory.field-0-is c.in-Err-NoMemory.ensures.refused in
-    record { cause = fault.1; kept = keeps_itself (g.O.Sink.written c.args.out.now) }
+    record { cause = fault.1; kept = keeps-itself (g.O.Sink.written c.args.out.now) }
 
 pub returns-in-Err-NoMemory-clause-cause : goal.returns-in-Err-NoMemory-clause-cause
 returns-in-Err-NoMemory-clause-cause g c = record { later = omega arith; ok = refl; failed = tt }

@@ -1,15 +1,16 @@
 -- The item of the line is read as a word, and the word is answered.
 use Rattle.std.proofs.Common.{None, Option, arith, false, refl, subst, sym, ℕ, ◌<◌, ◌≡◌, ◌≤◌}
 use Rattle.std.specs.Prelude.{IfNone, slice_range}
+use Rattle.bk_laws.proofs.Bytes.{keeps-itself}
 use Rattle.bk_grammar.specs.Grammar.{LineEnd}
 use Rattle.bk_ports.proofs.Pieces.{writes_none}
-use Rattle.bk_word.specs.ReadWord.{IsFaultOf}
+use Rattle.bk_word.specs.ReadWord.{IsWordFaultOf}
 use Rattle.bk_word.specs.Word.{Word, order_of}
 use Rattle.bk_word.specs.WordText.{IsTextOf}
 use Rattle.bk_word.specs.declared.reading.WordFault.{WordFault}
 use Rattle.bk_report.specs.declared.refusal.Refused.TheVariants.{Long, Many}
 use Rattle.bk_answer.specs.WordAnswer.{AnswersWord, AnswersWordLine, HasWord, MayWantForWord, large_word, no_word, no_word_item, of_word, word_too_long}
-use Rattle.bk_answer.proofs.ReplySteps.{keeps_itself, refusal_replies, replies_more, text_replies}
+use Rattle.bk_answer.proofs.ReplySteps.{refusal_replies, replies_more, text_replies}
 use Rattle.bk_answer.proofs.solve.answer_word_line.Goals as goal
 
 none_is : {T : Type 0} (P : Type 0) (o : Option T) → o ≡ None → IfNone o P → P
@@ -40,13 +41,13 @@ returns-in-Err-Text-clause-reply g c =
     (g.O.Sink.written c.args.out.now) (g.O.Sink.written c.refuse-in-Err-Text.new.out) c.refuse-in-Err-Text.result (sym c.in-Err-Text.at-is)
     (no_word c.in-Some.start c.in-Err-Text.at (slice_range c.args.line.now c.in-Some.start c.in-Some.end)
     (record { short = omega (arith, c.if-line-gt-LONGEST_LINE.false); stop = c.in-Some.end; item = c.in-Some.ensures.some; text_is = refl })
-    (subst (λ (f : WordFault). IsFaultOf f (slice_range c.args.line.now c.in-Some.start c.in-Some.end)) c.in-Err-Text.field-0-is c.in-Err-Text.ensures.fault))
+    (subst (λ (f : WordFault). IsWordFaultOf f (slice_range c.args.line.now c.in-Some.start c.in-Some.end)) c.in-Err-Text.field-0-is c.in-Err-Text.ensures.fault))
     c.refuse-in-Err-Text.ensures.outcome c.refuse-in-Err-Text.ensures.failed
 
 pub returns-in-Err-Many-clause-reply : goal.returns-in-Err-Many-clause-reply
 returns-in-Err-Many-clause-reply g c =
     let cause : (w : Word) × IsTextOf (slice_range c.args.line.now c.in-Some.start c.in-Some.end) w × (200 < order_of w) =
-    subst (λ (f : WordFault). IsFaultOf f (slice_range c.args.line.now c.in-Some.start c.in-Some.end)) c.in-Err-Many.field-0-is c.in-Err-Many.ensures.fault in
+    subst (λ (f : WordFault). IsWordFaultOf f (slice_range c.args.line.now c.in-Some.start c.in-Some.end)) c.in-Err-Many.field-0-is c.in-Err-Many.ensures.fault in
     refusal_replies (AnswersWordLine c.args.line.now) (MayWantForWord c.args.line.now) Many (g.O.Sink.written c.args.out.now)
     (g.O.Sink.written c.refuse-in-Err-Many.new.out) c.refuse-in-Err-Many.result
     (large_word c.in-Some.start (slice_range c.args.line.now c.in-Some.start c.in-Some.end) cause.0
@@ -90,7 +91,7 @@ returns-in-Err-NoMemory-clause-cause g c = record { later = omega arith; ok = re
 
 pub returns-in-Err-NoMemory-clause-reply : goal.returns-in-Err-NoMemory-clause-reply
 returns-in-Err-NoMemory-clause-reply g c =
-    let wanting = subst (λ (f : WordFault). IsFaultOf f (slice_range c.args.line.now c.in-Some.start c.in-Some.end)) c.in-Err-NoMemory.field-0-is
+    let wanting = subst (λ (f : WordFault). IsWordFaultOf f (slice_range c.args.line.now c.in-Some.start c.in-Some.end)) c.in-Err-NoMemory.field-0-is
     c.in-Err-NoMemory.ensures.fault in
     let has : HasWord c.args.line.now wanting.0 = record {
       start = c.in-Some.start;
@@ -99,4 +100,4 @@ returns-in-Err-NoMemory-clause-reply g c =
       word = wanting.1;
       few = wanting.3;
     } in
-    record { cause = (wanting.0, has, wanting.2); kept = keeps_itself (g.O.Sink.written c.args.out.now) }
+    record { cause = (wanting.0, has, wanting.2); kept = keeps-itself (g.O.Sink.written c.args.out.now) }

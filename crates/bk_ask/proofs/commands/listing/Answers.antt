@@ -1,18 +1,18 @@
 -- Each option is read, and where one has no meaning nothing is asked.
 use Rattle.std.proofs.Common.{false, map, refl, string_bytes, sym, true, ◌∙◌, ◌≡◌}
-use Rattle.bk_ask.proofs.OptionLaws.{fault_of, no_some, none_of, ok_of}
+use Rattle.bk_laws.proofs.Outcomes.{if_err-apply, if_none-intro, if_ok-apply, if_some-of_none}
 use Rattle.bk_ask.proofs.Unasked.{nothing_listed}
 use Rattle.bk_ask.proofs.commands.listing.Goals as goal
 
 pub returns-in_err-order-clause-none : goal.returns-in_err-order-clause-none
 returns-in_err-order-clause-none c =
-    none_of c.from_residual.result _
+    if_none-intro c.from_residual.result _
     (nothing_listed (map string_bytes c.args.options.now) (λ order class from limit l. c.in_err-order.ensures.none order l.has_order))
 
 pub returns-in_err-class-clause-none : goal.returns-in_err-class-clause-none
 returns-in_err-class-clause-none c =
-    none_of c.from_residual-in_err-class.result _
-    (nothing_listed (map string_bytes c.args.options.now) (λ order class from limit l. fault_of c.class_in.result _
+    if_none-intro c.from_residual-in_err-class.result _
+    (nothing_listed (map string_bytes c.args.options.now) (λ order class from limit l. if_err-apply c.class_in.result _
     (sym c.ok.ensures.value ∙ c.in_err-class.was) c.class_in.ensures.err class l.has_class))
 
 pub returns-then-not-are_options-clause-none : goal.returns-then-not-are_options-clause-none
@@ -33,27 +33,27 @@ pub limit_in-requires : goal.limit_in-requires
 limit_in-requires c = (c.if-not-are_options.ensures.0 refl).once
 
 pub returns-in_err-order-clause-some : goal.returns-in_err-order-clause-some
-returns-in_err-order-clause-some c = no_some c.from_residual.result _ c.from_residual.ensures
+returns-in_err-order-clause-some c = if_some-of_none c.from_residual.result _ c.from_residual.ensures
 
 pub returns-in_err-class-clause-some : goal.returns-in_err-class-clause-some
-returns-in_err-class-clause-some c = no_some c.from_residual-in_err-class.result _ c.from_residual-in_err-class.ensures
+returns-in_err-class-clause-some c = if_some-of_none c.from_residual-in_err-class.result _ c.from_residual-in_err-class.ensures
 
 pub returns-in_err-from-clause-some : goal.returns-in_err-from-clause-some
-returns-in_err-from-clause-some c = no_some c.from_residual-in_err-from.result _ c.from_residual-in_err-from.ensures
+returns-in_err-from-clause-some c = if_some-of_none c.from_residual-in_err-from.result _ c.from_residual-in_err-from.ensures
 
 pub returns-in_err-limit-clause-some : goal.returns-in_err-limit-clause-some
-returns-in_err-limit-clause-some c = no_some c.from_residual-in_err-limit.result _ c.from_residual-in_err-limit.ensures
+returns-in_err-limit-clause-some c = if_some-of_none c.from_residual-in_err-limit.result _ c.from_residual-in_err-limit.ensures
 
 pub returns-in_err-from-clause-none : goal.returns-in_err-from-clause-none
 returns-in_err-from-clause-none c =
-    none_of c.from_residual-in_err-from.result _
-    (nothing_listed (map string_bytes c.args.options.now) (λ order class from limit l. fault_of c.cursor_given.result _
+    if_none-intro c.from_residual-in_err-from.result _
+    (nothing_listed (map string_bytes c.args.options.now) (λ order class from limit l. if_err-apply c.cursor_given.result _
     (sym c.ok-2.ensures.value ∙ c.in_err-from.was) c.cursor_given.ensures.err from l.has_from))
 
 pub returns-in_err-limit-clause-none : goal.returns-in_err-limit-clause-none
 returns-in_err-limit-clause-none c =
-    none_of c.from_residual-in_err-limit.result _
-    (nothing_listed (map string_bytes c.args.options.now) (λ order class from limit l. fault_of c.limit_in.result _
+    if_none-intro c.from_residual-in_err-limit.result _
+    (nothing_listed (map string_bytes c.args.options.now) (λ order class from limit l. if_err-apply c.limit_in.result _
     (sym c.ok-3.ensures.value ∙ c.in_err-limit.was) c.limit_in.ensures.err limit l.has_limit))
 
 pub returns-clause-some : goal.returns-clause-some
@@ -63,8 +63,8 @@ returns-clause-some c = record {
   say = record {
     options = c.if-not-are_options.ensures.0 refl;
     has_order = c.in_ok-order.ensures.some;
-    has_class = ok_of c.class_in.result _ c.in_ok-class.class (sym c.ok.ensures.value ∙ c.in_ok-class.was) c.class_in.ensures.ok;
-    has_from = ok_of c.cursor_given.result _ c.in_ok-from.from (sym c.ok-2.ensures.value ∙ c.in_ok-from.was) c.cursor_given.ensures.ok;
-    has_limit = ok_of c.limit_in.result _ c.in_ok-limit.limit (sym c.ok-3.ensures.value ∙ c.in_ok-limit.was) c.limit_in.ensures.ok;
+    has_class = if_ok-apply c.class_in.result _ c.in_ok-class.class (sym c.ok.ensures.value ∙ c.in_ok-class.was) c.class_in.ensures.ok;
+    has_from = if_ok-apply c.cursor_given.result _ c.in_ok-from.from (sym c.ok-2.ensures.value ∙ c.in_ok-from.was) c.cursor_given.ensures.ok;
+    has_limit = if_ok-apply c.limit_in.result _ c.in_ok-limit.limit (sym c.ok-3.ensures.value ∙ c.in_ok-limit.was) c.limit_in.ensures.ok;
   };
 }

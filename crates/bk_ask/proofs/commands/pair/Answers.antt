@@ -1,13 +1,13 @@
 -- The kind is read, and where it has no meaning nothing is asked.
 use Rattle.std.proofs.Common.{false, map, refl, string_bytes, sym, true, ◌∙◌, ◌≡◌}
-use Rattle.bk_ask.proofs.OptionLaws.{fault_of, no_some, none_of, ok_of}
+use Rattle.bk_laws.proofs.Outcomes.{if_err-apply, if_none-intro, if_ok-apply, if_some-of_none}
 use Rattle.bk_ask.proofs.Unasked.{nothing_paired}
 use Rattle.bk_ask.proofs.commands.pair.Goals as goal
 
 pub returns-in_err-kind-clause-none : goal.returns-in_err-kind-clause-none
 returns-in_err-kind-clause-none c =
-    none_of c.from_residual.result _
-    (nothing_paired (map string_bytes c.args.options.now) (λ kind p. fault_of c.kind_in.result _ (sym c.ok.ensures.value ∙ c.in_err-kind.was)
+    if_none-intro c.from_residual.result _
+    (nothing_paired (map string_bytes c.args.options.now) (λ kind p. if_err-apply c.kind_in.result _ (sym c.ok.ensures.value ∙ c.in_err-kind.was)
     c.kind_in.ensures.err kind p.has_kind))
 
 pub returns-then-not-are_options-clause-none : goal.returns-then-not-are_options-clause-none
@@ -18,7 +18,7 @@ pub kind_in-requires : goal.kind_in-requires
 kind_in-requires c = (c.if-not-are_options.ensures.0 refl).once
 
 pub returns-in_err-kind-clause-some : goal.returns-in_err-kind-clause-some
-returns-in_err-kind-clause-some c = no_some c.from_residual.result _ c.from_residual.ensures
+returns-in_err-kind-clause-some c = if_some-of_none c.from_residual.result _ c.from_residual.ensures
 
 pub returns-clause-some : goal.returns-clause-some
 returns-clause-some c = record {
@@ -26,6 +26,6 @@ returns-clause-some c = record {
   line = refl;
   say = record {
     options = c.if-not-are_options.ensures.0 refl;
-    has_kind = ok_of c.kind_in.result _ c.in_ok-kind.kind (sym c.ok.ensures.value ∙ c.in_ok-kind.was) c.kind_in.ensures.ok;
+    has_kind = if_ok-apply c.kind_in.result _ c.in_ok-kind.kind (sym c.ok.ensures.value ∙ c.in_ok-kind.was) c.kind_in.ensures.ok;
   };
 }

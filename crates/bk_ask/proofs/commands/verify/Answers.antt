@@ -1,11 +1,11 @@
 use Rattle.std.proofs.Common.{false, map, refl, string_bytes, true, ◌≡◌}
-use Rattle.bk_ask.proofs.OptionLaws.{none_of}
+use Rattle.bk_laws.proofs.Outcomes.{if_none-intro}
 use Rattle.bk_ask.proofs.Unasked.{nothing_verified}
 use Rattle.bk_ask.proofs.commands.verify.Goals as goal
 
 pub returns-in_err-order-clause-none : goal.returns-in_err-order-clause-none
 returns-in_err-order-clause-none c =
-    none_of c.from_residual.result _
+    if_none-intro c.from_residual.result _
     (nothing_verified (map string_bytes c.args.options.now) (λ order v. c.in_err-order.ensures.none order v.has_order))
 
 pub returns-then-not-are_options-clause-none : goal.returns-then-not-are_options-clause-none

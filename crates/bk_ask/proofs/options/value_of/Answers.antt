@@ -1,6 +1,7 @@
 -- The words passed say nothing of the name, and the first option of this name says its value.
 use Rattle.std.proofs.Common.{arith, map, string_bytes}
-use Rattle.bk_ask.proofs.OptionSteps.{fewer_left, say_found, say_none, say_rest}
+use Rattle.bk_laws.proofs.ListParts.{length-take_behind_two}
+use Rattle.bk_ask.proofs.OptionSteps.{say_found, say_none, say_rest}
 use Rattle.bk_ask.proofs.options.value_of.Goals as goal
 
 pub options-preserved : goal.options-preserved
@@ -36,4 +37,4 @@ returns-then-eq-clause-some c =
     c.if-eq.ensures c.options.invariant
 
 pub options-smaller : goal.options-smaller
-options-smaller c = fewer_left _ c.in-len2-up.len_at_least
+options-smaller c = length-take_behind_two _ c.in-len2-up.len_at_least

@@ -1,5 +1,5 @@
 use Rattle.std.proofs.Common.{IfErr, IfOk, List, arith, subst, sym, ℕ}
-use Rattle.bk_word.specs.ReadWord.{IsFaultOf}
+use Rattle.bk_word.specs.ReadWord.{IsWordFaultOf}
 use Rattle.bk_word.specs.WordText.{IsTextOf}
 use Rattle.bk_ask.proofs.CursorTexts.{HasOrder, IsRead, cursor_read, many_squares}
 use Rattle.bk_ask.proofs.values.cursor_in.Goals as goal
@@ -11,8 +11,8 @@ is_read c =
     let has : HasOrder text c.in-Some.order = subst (λ (t : List ℕ). HasOrder t c.in-Some.order) c.as_bytes.ensures.value c.in-Some.ensures.some in
     let read : IfOk c.read_word.result (IsTextOf text) = subst (λ (t : List ℕ). IfOk c.read_word.result (IsTextOf t)) c.as_bytes-in-Some.ensures.value
     c.read_word.ensures.read in
-    let fault : IfErr c.read_word.result (λ fault. IsFaultOf fault text) = subst
-    (λ (t : List ℕ). IfErr c.read_word.result (λ fault. IsFaultOf fault t)) c.as_bytes-in-Some.ensures.value c.read_word.ensures.fault in
+    let fault : IfErr c.read_word.result (λ fault. IsWordFaultOf fault text) = subst
+    (λ (t : List ℕ). IfErr c.read_word.result (λ fault. IsWordFaultOf fault t)) c.as_bytes-in-Some.ensures.value c.read_word.ensures.fault in
     subst (IsRead text) (sym c.ok.ensures.value) (cursor_read text c.in-Some.order c.read_word.result has (omega arith) read fault)
 
 pub returns-in-Some-clause-some : goal.returns-in-Some-clause-some

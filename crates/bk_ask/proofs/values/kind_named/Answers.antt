@@ -1,5 +1,5 @@
-use Rattle.bk_ask.specs.declared.Kind.TheVariants.{Any, Perfect}
-use Rattle.bk_ask.specs.declared.Kind.{Kind}
+use Rattle.bk_pair.specs.declared.Kind.TheVariants.{Any, Perfect}
+use Rattle.bk_pair.specs.declared.Kind.{Kind}
 use Rattle.bk_ask.specs.OptionValues.{kind_name}
 use Rattle.std.proofs.Common.{List, codes, ℕ, ◌≡◌}
 use Rattle.bk_ask.proofs.values.kind_named.Goals as goal

@@ -1,5 +1,6 @@
 use Rattle.std.proofs.Common.{arith, false, refl, true, ◌≡◌}
-use Rattle.bk_ask.proofs.NumberTexts.{no_number, same_number, text_begins, text_of_read}
+use Rattle.bk_laws.proofs.Digits.{parsed_number-is_written, parsed_number-no_fault}
+use Rattle.bk_ask.proofs.NumberTexts.{text_begins, text_of_read}
 use Rattle.bk_ask.proofs.values.number_within.Goals as goal
 
 pub returns-then-not-begins_number-clause-none : goal.returns-then-not-begins_number-clause-none
@@ -18,7 +19,7 @@ pub returns-in_default-clause-none : goal.returns-in_default-clause-none
 returns-in_default-clause-none c n is =
     omega (
       arith,
-      same_number c.args.text.now c.in-Ok.number n (omega (arith, is.at_most)) is.text c.parse.result c.in-Ok.is c.parse.ensures.value.0,
+      parsed_number-is_written c.args.text.now c.in-Ok.number n (omega (arith, is.at_most)) is.text c.parse.result c.in-Ok.is c.parse.ensures.value.0,
       is.at_most,
     )
 
@@ -26,10 +27,10 @@ pub returns-in_default-2-clause-none : goal.returns-in_default-2-clause-none
 returns-in_default-2-clause-none c n is =
     omega (
       arith,
-      same_number c.args.text.now c.in-Ok.number n (omega (arith, is.at_most)) is.text c.parse.result c.in-Ok.is c.parse.ensures.value.0,
+      parsed_number-is_written c.args.text.now c.in-Ok.number n (omega (arith, is.at_most)) is.text c.parse.result c.in-Ok.is c.parse.ensures.value.0,
       is.at_least,
     )
 
 pub returns-in_default-3-clause-none : goal.returns-in_default-3-clause-none
 returns-in_default-3-clause-none c n is =
-    no_number c.args.text.now n (omega (arith, is.at_most)) is.text c.parse.result c.in_default.field-0 c.in_default.is c.parse.ensures.value.0
+    parsed_number-no_fault c.args.text.now n (omega (arith, is.at_most)) is.text c.parse.result c.in_default.field-0 c.in_default.is c.parse.ensures.value.0

@@ -1,5 +1,5 @@
 use Rattle.std.proofs.Common.{arith, ◌+◌}
-use Rattle.bk_catalogue.proofs.LineCounting.{last_within, lined_above, lined_end, lined_even, lined_start, lined_under, two_within}
+use Rattle.bk_catalogue.proofs.HangingBounds.LineCounting.{last_within, lined_above, lined_end, lined_even, lined_start, lined_under, two_within}
 use Rattle.bk_catalogue.proofs.lines.line_bound.Goals.{in-Above, in-Even, in-Under}
 use Rattle.bk_catalogue.proofs.lines.line_bound.Goals as goal
 

@@ -1,4 +1,4 @@
-use Rattle.bk_catalogue.proofs.LineCounting.{IsLined}
+use Rattle.bk_catalogue.proofs.HangingBounds.LineCounting.{IsLined}
 use Rattle.bk_catalogue.proofs.lines.line_bound.Given as goal
 
 abbrev pub invariant-loop-i : goal.invariant-loop-i

@@ -1,5 +1,5 @@
 use Rattle.std.proofs.Common.{arith, slice_index_or, length}
-use Rattle.bk_catalogue.proofs.CountingLaws.{found_above, found_end, found_even, found_start, found_under, single_few}
+use Rattle.bk_catalogue.proofs.HangingBounds.CountingLaws.{found_above, found_end, found_even, found_start, found_under, single_few}
 use Rattle.bk_catalogue.proofs.singles.single_valleys.Goals as goal
 use Rattle.bk_catalogue.proofs.singles.single_valleys.Goals.{in-Above, in-Even, in-Under}
 

@@ -1,4 +1,4 @@
-use Rattle.bk_catalogue.proofs.CountingLaws.{IsFound}
+use Rattle.bk_catalogue.proofs.HangingBounds.CountingLaws.{IsFound}
 use Rattle.bk_catalogue.proofs.singles.single_valleys.Given as goal
 
 abbrev pub invariant-loop-i : goal.invariant-loop-i

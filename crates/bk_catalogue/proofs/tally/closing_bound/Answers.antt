@@ -1,5 +1,5 @@
 use Rattle.std.proofs.Common.{[], arith, take, ◌++◌}
-use Rattle.bk_catalogue.proofs.TallyLaws.{tally_all, tally_next}
+use Rattle.bk_catalogue.proofs.HangingBounds.TallyLaws.{tally_all, tally_next}
 use Rattle.bk_catalogue.proofs.tally.closing_bound.Goals as goal
 
 pub signs-preserved : goal.signs-preserved

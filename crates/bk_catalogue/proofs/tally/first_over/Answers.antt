@@ -1,5 +1,5 @@
 use Rattle.std.proofs.Common.{arith, take, ◌++◌, List, append-nil, subst, sym, ◌<◌}
-use Rattle.bk_catalogue.proofs.TallyLaws.{tally_all, tally_next}
+use Rattle.bk_catalogue.proofs.HangingBounds.TallyLaws.{tally_all, tally_next}
 use Rattle.bk_word.specs.declared.Sign.{Sign}
 use Rattle.bk_catalogue.specs.ClosingBound.{closing_bound}
 use Rattle.bk_catalogue.specs.Tally.{IsTally}

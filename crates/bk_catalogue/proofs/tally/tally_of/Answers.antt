@@ -1,5 +1,5 @@
 use Rattle.std.proofs.Common.{[], arith, take, ◌++◌}
-use Rattle.bk_catalogue.proofs.TallyLaws.{tally_all, tally_next, tally_over}
+use Rattle.bk_catalogue.proofs.HangingBounds.TallyLaws.{tally_all, tally_next, tally_over}
 use Rattle.bk_catalogue.proofs.tally.tally_of.Goals as goal
 
 pub returns-then-tally-room-clause-over : goal.returns-then-tally-room-clause-over

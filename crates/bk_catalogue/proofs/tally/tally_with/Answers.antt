@@ -1,6 +1,6 @@
 use Rattle.std.proofs.Common.{[], refl, subst, sym, ◌++◌, ◌+◌, ◌∷◌, arith}
 use Rattle.bk_word.specs.declared.Sign.{Sign}
-use Rattle.bk_catalogue.proofs.TallyLaws.{tally_above, tally_even, tally_under}
+use Rattle.bk_catalogue.proofs.HangingBounds.TallyLaws.{tally_above, tally_even, tally_under}
 use Rattle.bk_catalogue.specs.Tally.{IsTally}
 use Rattle.bk_catalogue.proofs.tally.tally_with.Goals as goal
 

@@ -31,8 +31,8 @@ push-requires c = (
 
 pub signs-preserved : goal.signs-preserved
 signs-preserved c =
-    pushed_more c.args.signs.now c.signs.sign-index c.place_of.result _ c.args.digits.now.items c.signs.digits.items c.push.new.self.items
-    c.signs-test.true c.place_of.ensures c.push.ensures.items c.signs.invariant
+    pushed_more c.args.signs.now c.signs.sign-index c.sign_place.result _ c.args.digits.now.items c.signs.digits.items c.push.new.self.items
+    c.signs-test.true c.sign_place.ensures c.push.ensures.items c.signs.invariant
 
 pub returns : goal.returns
 returns c =

@@ -4,13 +4,13 @@ use Rattle.std.proofs.Common.{arith, of_z, refl, slice_index_or, subst, sym, to_
 use Rattle.std.proofs.lemmas.Int.{ints}
 use Rattle.std.proofs.lemmas.List.{get_or-replicate}
 use Rattle.bk_found.proofs.LevelSteps.{fits_small, levelled_all, levelled_more, small_more, small_zero}
-use Rattle.bk_found.specs.Placing.{IsSmall}
+use Rattle.bk_found.specs.Placing.{IsSmallNumber}
 use Rattle.bk_found.proofs.levels.levels_of.Goals as goal
 
 pub loop-i-init : goal.loop-i-init
 loop-i-init c = record {
   room = refl;
-  small = λ v h. subst (λ (z : ℤ). IsSmall (0 * 2 ^ 34) z) (sym (get_or-replicate 17 v (pos 0) (pos 0) h)) (small_zero (0 * 2 ^ 34));
+  small = λ v h. subst (λ (z : ℤ). IsSmallNumber (0 * 2 ^ 34) z) (sym (get_or-replicate 17 v (pos 0) (pos 0) h)) (small_zero (0 * 2 ^ 34));
   right = λ at are. (sym are.top, λ j h. absurd (omega (arith, h)));
 }
 

@@ -4,19 +4,19 @@ use Rattle.std.proofs.Common.{List, ap, arith, lit<, of_z, slice_index_or, subst
 use Rattle.std.proofs.lemmas.Int.{ints, to_z-of_z}
 use Rattle.bk_found.specs.Candidate.{line_place}
 use Rattle.bk_found.proofs.LevelSteps.{AreEdges, edges_more, fits_small, place_small, small_more}
-use Rattle.bk_found.specs.Placing.{IsSmall}
+use Rattle.bk_found.specs.Placing.{IsSmallNumber}
 use Rattle.bk_found.proofs.levels.rights_of.Goals as goal
 
 pub overflow_add-right : goal.overflow_add-right
 overflow_add-right c =
     let total = to_z w64 (of_z w64 c.args.total) in
-    let held : IsSmall (2 ^ 34) (to_z w64 (of_z w64 c.args.total)) =
-    subst (λ (z : ℤ). IsSmall (2 ^ 34) z) (sym (to_z-of_z w64 c.args.total c.ranges.total)) c.requires.total in
+    let held : IsSmallNumber (2 ^ 34) (to_z w64 (of_z w64 c.args.total)) =
+    subst (λ (z : ℤ). IsSmallNumber (2 ^ 34) z) (sym (to_z-of_z w64 c.args.total c.ranges.total)) c.requires.total in
     let line = slice_index_or c.args.lefts.now c.loop-i.i 0 in
-    let is : c.place_of.result ≡ line_place (to_z w64 (of_z w64 c.args.total)) c.loop-i.rights.items (slice_index_or c.args.lefts.now c.loop-i.i 0)
-    = c.place_of.ensures ∙ ap (λ (rs : List ℤ). line_place (to_z w64 (of_z w64 c.args.total)) rs
+    let is : c.line_place.result ≡ line_place (to_z w64 (of_z w64 c.args.total)) c.loop-i.rights.items (slice_index_or c.args.lefts.now c.loop-i.i 0)
+    = c.line_place.ensures ∙ ap (λ (rs : List ℤ). line_place (to_z w64 (of_z w64 c.args.total)) rs
     (slice_index_or c.args.lefts.now c.loop-i.i 0)) c.deref.ensures.0 in
-    let p = small_more ((c.loop-i.i + 1) * 2 ^ 34) (2 ^ 39) c.place_of.result (subst (λ (z : ℤ). IsSmall ((c.loop-i.i + 1) * 2 ^ 34) z) (sym is)
+    let p = small_more ((c.loop-i.i + 1) * 2 ^ 34) (2 ^ 39) c.line_place.result (subst (λ (z : ℤ). IsSmallNumber ((c.loop-i.i + 1) * 2 ^ 34) z) (sym is)
     (place_small c.loop-i.rights.items total c.loop-i.i line held c.loop-i.invariant.many c.loop-i.invariant.small
     (c.requires.known c.loop-i.i c.loop-i-test.true))) (omega (arith, c.loop-i-test.true, c.requires.few)) in
     let q = c.requires.small c.loop-i.i (omega (arith, c.loop-i-test.true, c.requires.many)) in
@@ -25,21 +25,21 @@ overflow_add-right c =
 pub loop-i-preserved : goal.loop-i-preserved
 loop-i-preserved c =
     let total = to_z w64 (of_z w64 c.args.total) in
-    let held : IsSmall (2 ^ 34) (to_z w64 (of_z w64 c.args.total)) =
-    subst (λ (z : ℤ). IsSmall (2 ^ 34) z) (sym (to_z-of_z w64 c.args.total c.ranges.total)) c.requires.total in
+    let held : IsSmallNumber (2 ^ 34) (to_z w64 (of_z w64 c.args.total)) =
+    subst (λ (z : ℤ). IsSmallNumber (2 ^ 34) z) (sym (to_z-of_z w64 c.args.total c.ranges.total)) c.requires.total in
     let line = slice_index_or c.args.lefts.now c.loop-i.i 0 in
     let current = slice_index_or c.args.currents.now c.loop-i.i (pos 0) in
-    let is : c.place_of.result ≡ line_place (to_z w64 (of_z w64 c.args.total)) c.loop-i.rights.items (slice_index_or c.args.lefts.now c.loop-i.i 0)
-    = c.place_of.ensures ∙ ap (λ (rs : List ℤ). line_place (to_z w64 (of_z w64 c.args.total)) rs
+    let is : c.line_place.result ≡ line_place (to_z w64 (of_z w64 c.args.total)) c.loop-i.rights.items (slice_index_or c.args.lefts.now c.loop-i.i 0)
+    = c.line_place.ensures ∙ ap (λ (rs : List ℤ). line_place (to_z w64 (of_z w64 c.args.total)) rs
     (slice_index_or c.args.lefts.now c.loop-i.i 0)) c.deref.ensures.0 in
-    let p = small_more ((c.loop-i.i + 1) * 2 ^ 34) (2 ^ 39) c.place_of.result (subst (λ (z : ℤ). IsSmall ((c.loop-i.i + 1) * 2 ^ 34) z) (sym is)
+    let p = small_more ((c.loop-i.i + 1) * 2 ^ 34) (2 ^ 39) c.line_place.result (subst (λ (z : ℤ). IsSmallNumber ((c.loop-i.i + 1) * 2 ^ 34) z) (sym is)
     (place_small c.loop-i.rights.items total c.loop-i.i line held c.loop-i.invariant.many c.loop-i.invariant.small
     (c.requires.known c.loop-i.i c.loop-i-test.true))) (omega (arith, c.loop-i-test.true, c.requires.few)) in
     let q = c.requires.small c.loop-i.i (omega (arith, c.loop-i-test.true, c.requires.many)) in
-    let right = to_z w64 (of_z w64 (to_z w64 (of_z w64 c.place_of.result) +ℤ to_z w64
+    let right = to_z w64 (of_z w64 (to_z w64 (of_z w64 c.line_place.result) +ℤ to_z w64
     (of_z w64 (slice_index_or c.args.currents.now c.loop-i.i (pos 0))))) in
-    let sum : to_z w64 (of_z w64 (to_z w64 (of_z w64 c.place_of.result) +ℤ to_z w64
-    (of_z w64 (slice_index_or c.args.currents.now c.loop-i.i (pos 0))))) ≡ c.place_of.result +ℤ slice_index_or c.args.currents.now c.loop-i.i (pos 0)
+    let sum : to_z w64 (of_z w64 (to_z w64 (of_z w64 c.line_place.result) +ℤ to_z w64
+    (of_z w64 (slice_index_or c.args.currents.now c.loop-i.i (pos 0))))) ≡ c.line_place.result +ℤ slice_index_or c.args.currents.now c.loop-i.i (pos 0)
     = omega (arith, ints, p.0, p.1, q.0, q.1) in
     subst (λ (rs : List ℤ). AreEdges c.args.lefts.now c.args.currents.now rs (to_z w64 (of_z w64 c.args.total)) (c.loop-i.i + 1)) (sym c.push.ensures.items)
     (edges_more c.args.lefts.now c.args.currents.now c.loop-i.rights.items total c.loop-i.i right c.loop-i.invariant c.loop-i-test.true

@@ -3,8 +3,9 @@ use Rattle.std.specs.Prelude.{nat_abs, pos, ℤ}
 use Rattle.std.proofs.Common.{List, ap, arith, length, lit<, of_z, refl, slice_index_or, subst, sym, to_z, ℕ, ◌*◌, ◌-◌, ◌^◌, ◌∙◌, ◌≡◌}
 use Rattle.bk_net.specs.Flow.{IsPrimitiveFlow}
 use Rattle.bk_net.specs.Net.{Net}
+use Rattle.bk_word.specs.Word.{order_of}
 use Rattle.bk_found.specs.declared.placing.Placed.{Placed}
-use Rattle.bk_found.specs.Placing.{AreSmall, edges_by_lefts}
+use Rattle.bk_found.specs.Placing.{AreSmallNumbers, edges_by_lefts}
 use Rattle.bk_found.proofs.CornerSquares.{never_lost}
 use Rattle.bk_found.proofs.LeafRun.{is_height, is_width}
 use Rattle.bk_found.proofs.LeafRun.{IsLeafRun, flow_shown, held_height, held_small, held_total, leaf_run, lefts_known, lefts_many, net_few}
@@ -96,47 +97,6 @@ rights_of-rights-requires-clause-total c = held_small c.args.skel.now c.requires
     (flow_shown c.small_net-net.result c.narrow_flow-flow.result c.total-total.result c.currents-currents.result.now c.total-total.ensures.value
     c.currents-currents.ensures.value c.narrow_flow-flow.ensures.flow)
 
-pub squares_at-squares-requires-clause-wires : goal.squares_at-squares-requires-clause-wires
-squares_at-squares-requires-clause-wires c = omega (
-  arith,
-  ap length c.wires-wires.ensures.value,
-  wires_many c.args.skel.now c.requires.complete
-      c.requires.few c.small_net-net.result c.small_net-net.ensures,
-  lefts_many c.args.skel.now c.requires.complete c.requires.few c.small_net-net.result
-      c.small_net-net.ensures c.args.lefts.now c.requires.lefts,
-)
-
-pub squares_at-squares-requires-clause-currents : goal.squares_at-squares-requires-clause-currents
-squares_at-squares-requires-clause-currents c = omega (
-  arith,
-  shown_many c.args.skel.now c.requires.complete c.requires.few c.small_net-net.result c.small_net-net.ensures
-      c.total-total.result c.currents-currents.result.now
-      (flow_shown c.small_net-net.result c.narrow_flow-flow.result c.total-total.result c.currents-currents.result.now c.total-total.ensures.value
-      c.currents-currents.ensures.value c.narrow_flow-flow.ensures.flow) c.currents-currents.result.now refl,
-  lefts_many c.args.skel.now c.requires.complete c.requires.few c.small_net-net.result c.small_net-net.ensures c.args.lefts.now c.requires.lefts,
-)
-
-pub squares_at-squares-requires-clause-known : goal.squares_at-squares-requires-clause-known
-squares_at-squares-requires-clause-known c = lefts_known c.args.skel.now c.requires.complete c.requires.few c.small_net-net.result c.small_net-net.ensures
-    c.args.lefts.now c.requires.lefts
-
-pub squares_at-squares-requires-clause-ends : goal.squares_at-squares-requires-clause-ends
-squares_at-squares-requires-clause-ends c = shown_ends c.args.skel.now c.requires.complete c.requires.few c.small_net-net.result c.small_net-net.ensures
-    c.wires-wires.result.now c.wires-wires.ensures.value
-
-pub squares_at-squares-requires-clause-small_currents : goal.squares_at-squares-requires-clause-small_currents
-squares_at-squares-requires-clause-small_currents c = shown_small c.args.skel.now c.requires.complete c.requires.few c.small_net-net.result
-    c.small_net-net.ensures
-    c.total-total.result c.currents-currents.result.now
-    (flow_shown c.small_net-net.result c.narrow_flow-flow.result c.total-total.result c.currents-currents.result.now c.total-total.ensures.value
-    c.currents-currents.ensures.value c.narrow_flow-flow.ensures.flow) c.currents-currents.result.now refl
-
-pub squares_at-squares-requires-clause-small_total : goal.squares_at-squares-requires-clause-small_total
-squares_at-squares-requires-clause-small_total c = held_small c.args.skel.now c.requires.complete c.requires.few c.small_net-net.result c.small_net-net.ensures
-    c.total-total.result c.currents-currents.result.now
-    (flow_shown c.small_net-net.result c.narrow_flow-flow.result c.total-total.result c.currents-currents.result.now c.total-total.ensures.value
-    c.currents-currents.ensures.value c.narrow_flow-flow.ensures.flow)
-
 pub returns : goal.returns
 returns c = λ t met lowest class.
     let width : c.unsigned_abs-width.result ≡ nat_abs c.total-total.result =
@@ -160,8 +120,8 @@ returns c = λ t met lowest class.
     c.small_net-net.result c.small_net-net.ensures
     c.total-total.result c.currents-currents.result.now
     (flow_shown c.small_net-net.result c.narrow_flow-flow.result c.total-total.result c.currents-currents.result.now c.total-total.ensures.value
-    c.currents-currents.ensures.value c.narrow_flow-flow.ensures.flow)) c.deref-2.result.now
-    (c.deref-2.ensures.0 ∙ c.rights_of-rights.ensures.value) c.squares_at-squares.result.items c.squares_at-squares.ensures.many
+    c.currents-currents.ensures.value c.narrow_flow-flow.ensures.flow)) c.as_slice.result.now
+    (c.as_slice.ensures.value ∙ c.rights_of-rights.ensures.value) c.squares_at-squares.result.items c.squares_at-squares.ensures.many
     c.squares_at-squares.ensures.each in
     let placed : Placed = record { width = c.unsigned_abs-width.result; height = c.unsigned_abs-height.result; squares = c.squares_at-squares.result } in (
       placed,
@@ -174,51 +134,9 @@ returns c = λ t met lowest class.
       },
     )
 
-pub longest_in_corners-longest-requires-clause-few : goal.longest_in_corners-longest-requires-clause-few
-longest_in_corners-longest-requires-clause-few c = omega (
-  arith,
-  ap length c.wires-wires.ensures.value,
-  wires_many c.args.skel.now
-      c.requires.complete c.requires.few c.small_net-net.result c.small_net-net.ensures,
-  c.requires.few,
-)
-
-pub longest_in_corners-longest-requires-clause-currents : goal.longest_in_corners-longest-requires-clause-currents
-longest_in_corners-longest-requires-clause-currents c = omega (
-  arith,
-  ap length c.wires-wires.ensures.value,
-  wires_many c.args.skel.now c.requires.complete c.requires.few c.small_net-net.result c.small_net-net.ensures,
-  shown_many c.args.skel.now c.requires.complete c.requires.few c.small_net-net.result c.small_net-net.ensures
-      c.total-total.result c.currents-currents.result.now
-      (flow_shown c.small_net-net.result c.narrow_flow-flow.result c.total-total.result c.currents-currents.result.now c.total-total.ensures.value
-      c.currents-currents.ensures.value c.narrow_flow-flow.ensures.flow) c.currents-currents.result.now refl,
-)
-
-pub longest_in_corners-longest-requires-clause-lefts : goal.longest_in_corners-longest-requires-clause-lefts
-longest_in_corners-longest-requires-clause-lefts c = omega (
-  arith,
-  ap length c.wires-wires.ensures.value,
-  wires_many c.args.skel.now c.requires.complete c.requires.few c.small_net-net.result c.small_net-net.ensures,
-  lefts_many c.args.skel.now c.requires.complete c.requires.few c.small_net-net.result c.small_net-net.ensures c.args.lefts.now c.requires.lefts,
-)
-
-pub longest_in_corners-longest-requires-clause-known : goal.longest_in_corners-longest-requires-clause-known
-longest_in_corners-longest-requires-clause-known c = lefts_known c.args.skel.now c.requires.complete c.requires.few c.small_net-net.result
-    c.small_net-net.ensures
-    c.args.lefts.now c.requires.lefts
-
-pub longest_in_corners-longest-requires-clause-rights : goal.longest_in_corners-longest-requires-clause-rights
-longest_in_corners-longest-requires-clause-rights c = omega (
-  arith,
-  ap length c.deref.ensures.0,
-  c.rights_of-rights.ensures.many,
-  ap length c.wires-wires.ensures.value,
-  wires_many c.args.skel.now c.requires.complete c.requires.few c.small_net-net.result c.small_net-net.ensures,
-  lefts_many c.args.skel.now c.requires.complete c.requires.few c.small_net-net.result c.small_net-net.ensures c.args.lefts.now c.requires.lefts,
-)
-
-pub returns-then-not-corners_allow : goal.returns-then-not-corners_allow
-returns-then-not-corners_allow c = λ t met lowest class.
+pub returns-then-loses_by_corners : goal.returns-then-loses_by_corners
+returns-then-loses_by_corners c = λ t met lowest class.
+    let lost = c.loses_by_corners.ensures c.if-loses_by_corners.true in
     let shown : IsPrimitiveFlow c.small_net-net.result c.total-total.result c.currents-currents.result.now =
     (flow_shown c.small_net-net.result c.narrow_flow-flow.result c.total-total.result c.currents-currents.result.now c.total-total.ensures.value
     c.currents-currents.ensures.value c.narrow_flow-flow.ensures.flow) in
@@ -236,14 +154,14 @@ returns-then-not-corners_allow c = λ t met lowest class.
       wires = c.wires-wires.result.now;
       currents = c.currents-currents.result.now;
       lefts = c.args.lefts.now;
-      rights = c.deref.result.now;
+      rights = c.as_slice.result.now;
       total = to_z w64 (of_z w64 c.total-total.result);
       last = c.nodes-nodes.result - 1;
     })
     (c.wires-wires.ensures.value ∙ ap (λ (n : Net). n.wires) c.small_net-net.ensures) refl c.requires.lefts
-    (c.deref.ensures.0 ∙ c.rights_of-rights.ensures.value ∙ (λ i. edges_by_lefts (held i) (c.requires.lefts i) c.currents-currents.result.now)) held
+    (c.as_slice.ensures.value ∙ c.rights_of-rights.ensures.value ∙ (λ i. edges_by_lefts (held i) (c.requires.lefts i) c.currents-currents.result.now)) held
     (ap (λ (n : ℕ). n - 1) (c.nodes-nodes.ensures.value ∙ ap (λ (n : Net). n.nodes) c.small_net-net.ensures)) t c.args.ties
-    c.unsigned_abs-width.result c.unsigned_abs-height.result c.longest_in_corners-longest.result met lowest
+    c.unsigned_abs-width.result c.unsigned_abs-height.result lost.0 met lowest
     (is_width c.args.skel.now c.requires.complete c.requires.few c.small_net-net.result c.small_net-net.ensures c.total-total.result
     c.currents-currents.result.now shown c.currents-currents.result.now refl
     c.wires-wires.result.now c.wires-wires.ensures.value c.levels_of-levels.result c.levels_of-levels.ensures.right
@@ -252,18 +170,7 @@ returns-then-not-corners_allow c = λ t met lowest class.
     c.currents-currents.result.now shown c.currents-currents.result.now refl
     c.wires-wires.result.now c.wires-wires.ensures.value c.levels_of-levels.result c.levels_of-levels.ensures.right
     c.unsigned_abs-width.result c.unsigned_abs-height.result width height t met.tiling lowest (met.is_word).signed)
-    c.longest_in_corners-longest.ensures c.requires.ties (c.corners_allow.ensures c.if-not-corners_allow.true))
-
-pub longest_in_corners-longest-requires-clause-small_currents : goal.longest_in_corners-longest-requires-clause-small_currents
-longest_in_corners-longest-requires-clause-small_currents c = shown_small c.args.skel.now c.requires.complete c.requires.few c.small_net-net.result
-    c.small_net-net.ensures
-    c.total-total.result c.currents-currents.result.now
-    (flow_shown c.small_net-net.result c.narrow_flow-flow.result c.total-total.result c.currents-currents.result.now c.total-total.ensures.value
-    c.currents-currents.ensures.value c.narrow_flow-flow.ensures.flow) c.currents-currents.result.now refl
-
-pub longest_in_corners-longest-requires-clause-small_rights : goal.longest_in_corners-longest-requires-clause-small_rights
-longest_in_corners-longest-requires-clause-small_rights c =
-    subst (λ (rs : List ℤ). AreSmall (17 * 2 ^ 34) rs) (sym c.deref.ensures.0) c.rights_of-rights.ensures.small
+    lost.1 c.requires.ties lost.2)
 
 pub small_net-net-requires : goal.small_net-net-requires
 small_net-net-requires c = c.requires.complete
@@ -287,29 +194,42 @@ levels_of-levels-requires-clause-few c = omega (
   c.requires.few,
 )
 
-pub deref-requires : goal.deref-requires
-deref-requires c = lit< tt
+-- what is known of the candidate, before any square is placed
+pub invariant_of-candidate : goal.invariant_of-candidate
+invariant_of-candidate c =
+    let shown : IsPrimitiveFlow c.small_net-net.result c.total-total.result c.currents-currents.result.now =
+    flow_shown c.small_net-net.result c.narrow_flow-flow.result c.total-total.result c.currents-currents.result.now c.total-total.ensures.value
+    c.currents-currents.ensures.value c.narrow_flow-flow.ensures.flow in
+    let lefts : length c.args.lefts.now ≡ order_of c.args.skel.now = lefts_many c.args.skel.now c.requires.complete c.requires.few
+    c.small_net-net.result c.small_net-net.ensures c.args.lefts.now c.requires.lefts in
+    record {
+      known = record {
+        few = omega (arith, lefts, c.requires.few);
+        wires = omega (
+          arith,
+          ap length c.wires-wires.ensures.value,
+          wires_many c.args.skel.now c.requires.complete c.requires.few c.small_net-net.result c.small_net-net.ensures,
+          lefts,
+        );
+        currents = omega (
+          arith,
+          shown_many c.args.skel.now c.requires.complete c.requires.few c.small_net-net.result c.small_net-net.ensures
+              c.total-total.result c.currents-currents.result.now shown c.currents-currents.result.now refl,
+          lefts,
+        );
+        rights = omega (arith, ap length c.as_slice.ensures.value, c.rights_of-rights.ensures.many);
+        lines = lefts_known c.args.skel.now c.requires.complete c.requires.few c.small_net-net.result c.small_net-net.ensures
+            c.args.lefts.now c.requires.lefts;
+        ends = shown_ends c.args.skel.now c.requires.complete c.requires.few c.small_net-net.result c.small_net-net.ensures
+            c.wires-wires.result.now c.wires-wires.ensures.value;
+        small_currents = shown_small c.args.skel.now c.requires.complete c.requires.few c.small_net-net.result c.small_net-net.ensures
+            c.total-total.result c.currents-currents.result.now shown c.currents-currents.result.now refl;
+        small_rights = subst (λ (rs : List ℤ). AreSmallNumbers (17 * 2 ^ 34) rs) (sym c.as_slice.ensures.value) c.rights_of-rights.ensures.small;
+        small_levels = c.levels_of-levels.ensures.small;
+        small_total = held_small c.args.skel.now c.requires.complete c.requires.few c.small_net-net.result c.small_net-net.ensures
+            c.total-total.result c.currents-currents.result.now shown;
+      };
+    }
 
-pub deref-requires-2 : goal.deref-requires-2
-deref-requires-2 c = lit< tt
-
-pub squares_at-squares-requires-clause-few : goal.squares_at-squares-requires-clause-few
-squares_at-squares-requires-clause-few c = omega (
-  arith,
-  lefts_many c.args.skel.now c.requires.complete c.requires.few c.small_net-net.result c.small_net-net.ensures c.args.lefts.now c.requires.lefts,
-  c.requires.few,
-)
-
-pub squares_at-squares-requires-clause-rights : goal.squares_at-squares-requires-clause-rights
-squares_at-squares-requires-clause-rights c = omega (
-  arith,
-  ap length c.deref-2.ensures.0,
-  c.rights_of-rights.ensures.many,
-)
-
-pub squares_at-squares-requires-clause-small_rights : goal.squares_at-squares-requires-clause-small_rights
-squares_at-squares-requires-clause-small_rights c =
-    subst (λ (rs : List ℤ). AreSmall (17 * 2 ^ 34) rs) (sym c.deref-2.ensures.0) c.rights_of-rights.ensures.small
-
-pub squares_at-squares-requires-clause-small_levels : goal.squares_at-squares-requires-clause-small_levels
-squares_at-squares-requires-clause-small_levels c = c.levels_of-levels.ensures.small
+pub as_slice-requires : goal.as_slice-requires
+as_slice-requires c = lit< tt

@@ -13,19 +13,19 @@ digit_at-requires c = omega (arith, c.signs-test.true, c.requires)
 pub overflow_add-place : goal.overflow_add-place
 overflow_add-place c = record { fits = omega (arith, c.signs-test.true, c.requires) }
 
-pub place_of-requires : goal.place_of-requires
-place_of-requires c = tt
+pub sign_place-requires : goal.sign_place-requires
+sign_place-requires c = tt
 
 pub signs-preserved : goal.signs-preserved
-signs-preserved c = below_more _ _ c.signs.invariant (sym c.digit_at.ensures ∙ c.if-digit_at-place_of.false ∙ c.place_of.ensures
+signs-preserved c = below_more _ _ c.signs.invariant (sym c.digit_at.ensures ∙ c.if-digit_at-sign_place.false ∙ c.sign_place.ensures
     ∙ sym (get_or-map sign_place c.args.signs.now c.signs.i Above 0 c.signs-test.true))
 
-pub returns-then-digit_at-place_of : goal.returns-then-digit_at-place_of
-returns-then-digit_at-place_of c = (
+pub returns-then-digit_at-sign_place : goal.returns-then-digit_at-sign_place
+returns-then-digit_at-sign_place c = (
   λ no. absurd (true≢false (sym no)),
-  λ has. absurd (c.if-digit_at-place_of.true (c.digit_at.ensures
+  λ has. absurd (c.if-digit_at-sign_place.true (c.digit_at.ensures
       ∙ has c.signs.i (omega (arith, c.signs-test.true, length-map c.args.signs.now sign_place))
-      ∙ get_or-map sign_place c.args.signs.now c.signs.i Above 0 c.signs-test.true ∙ sym c.place_of.ensures)),
+      ∙ get_or-map sign_place c.args.signs.now c.signs.i Above 0 c.signs-test.true ∙ sym c.sign_place.ensures)),
 )
 
 pub returns : goal.returns

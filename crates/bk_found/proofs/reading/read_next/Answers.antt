@@ -3,7 +3,7 @@ use Rattle.std.proofs.lemmas.List.{length-map}
 use Rattle.bk_word.specs.Outline.{open_side}
 use Rattle.bk_word.specs.Word.{sign_place}
 use Rattle.bk_found.specs.Packed.{move_digits}
-use Rattle.bk_found.specs.Reading.{HasDigits}
+use Rattle.bk_found.specs.ReadMoves.{HasDigits}
 use Rattle.bk_found.proofs.NextDigits.{has_made, made_count, made_signs, sign_low}
 use Rattle.bk_found.proofs.ReadMoves.{one_move, read_from}
 use Rattle.bk_found.proofs.reading.read_next.Goals as goal

@@ -2,7 +2,7 @@ use Rattle.std.proofs.Common.{List, Some, ap, arith, length, slice_get, subst, s
 use Rattle.bk_word.specs.Word.{Move, Word}
 use Rattle.bk_word.specs.declared.Sign.{Sign}
 use Rattle.bk_found.specs.Packed.{move_digits, packed, word_digits}
-use Rattle.bk_found.specs.Reading.{HasDigits, IsSharedFront}
+use Rattle.bk_found.specs.ReadMoves.{HasDigits, IsSharedFront}
 use Rattle.bk_found.proofs.NextDigits.{IsMoveAt, has_at, has_next, longer, move_at, move_is_at}
 use Rattle.bk_found.proofs.ReadMoves.{shared}
 use Rattle.bk_found.proofs.reading.shared_moves.Goals as goal

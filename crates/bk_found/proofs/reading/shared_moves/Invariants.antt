@@ -1,6 +1,6 @@
 use Rattle.std.proofs.Common.{length, take, ◌≡◌}
 use Rattle.bk_found.specs.Packed.{word_digits}
-use Rattle.bk_found.specs.Reading.{HasDigits}
+use Rattle.bk_found.specs.ReadMoves.{HasDigits}
 use Rattle.bk_found.proofs.reading.shared_moves.Given as goal
 
 abbrev pub invariant-moves : goal.invariant-moves

@@ -1,20 +1,21 @@
 use Rattle.std.proofs.Common.{Contains, List, ap, length, rules, subst, sym, ℕ, ◌∙◌, ◌↔◌}
 use Rattle.std.specs.List.Sorted.{IsNonDecreasing}
 use Rattle.std.proofs.lemmas.List.Sorted.{Contains-permutation, IsNonDecreasingBy-from_sort, IsPermutation-sym}
-use Rattle.bk_found.proofs.BroughtForward.{refilled}
+use Rattle.bk_laws.proofs.ListPlaces.{refill-whole}
 use Rattle.bk_found.proofs.settling.sort_once.Goals as goal
 
 pub drop_equals-requires : goal.drop_equals-requires
 drop_equals-requires g c = (
   search rules,
   subst (λ (l : List ℕ). IsNonDecreasing l)
-      (sym (refilled c.args.numbers.now.items c.sort_unstable.new.self (c.sort_unstable.ensures.len ∙ ap (λ (l : List ℕ). length l) c.deref_mut.ensures.value)))
+      (sym (refill-whole c.args.numbers.now.items c.sort_unstable.new.self
+      (c.sort_unstable.ensures.len ∙ ap (λ (l : List ℕ). length l) c.deref_mut.ensures.value)))
       (IsNonDecreasingBy-from_sort (λ x. x) c.sort_unstable.new.self c.sort_unstable.ensures.sorted),
 )
 
 pub returns-clause-same : goal.returns-clause-same
 returns-clause-same g c x =
-    let sorted = refilled c.args.numbers.now.items c.sort_unstable.new.self (c.sort_unstable.ensures.len
+    let sorted = refill-whole c.args.numbers.now.items c.sort_unstable.new.self (c.sort_unstable.ensures.len
     ∙ ap (λ (l : List ℕ). length l) c.deref_mut.ensures.value) in
     let there : Contains c.args.numbers.now.items x ↔ Contains c.sort_unstable.new.self x = subst (λ l. Contains l x ↔ Contains c.sort_unstable.new.self x)
     c.deref_mut.ensures.value (

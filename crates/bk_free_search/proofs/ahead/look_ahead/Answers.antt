@@ -1,11 +1,11 @@
 use Rattle.std.proofs.Common.{Bool, ap, arith, cond, false, length, max, true, ℕ, ◌+◌, ◌∙◌, ◌≡◌, ◌≤◌}
 use Rattle.bk_word.specs.Play.{outline_of}
 use Rattle.bk_word.specs.Word.{Word}
-use Rattle.bk_catalogue.proofs.BoundsOfWords.{shape_of_word}
+use Rattle.bk_catalogue.proofs.HangingBounds.BoundsOfWords.{shape_of_word}
 use Rattle.bk_layout.specs.Normal.{Counts}
-use Rattle.bk_layout.proofs.NextMove.{too_few_evens_is_normal_barren}
-use Rattle.bk_layout.specs.NextMove.{AreMostMovesThen, left_squares_then, right_squares_then}
-use Rattle.bk_free_search.proofs.AheadMoves.{most_then_is}
+use Rattle.bk_layout.proofs.NormalCuts.NextMove.{too_few_evens_is_normal_barren}
+use Rattle.bk_layout.specs.BeforeNextMove.{AreMostMovesThen, left_squares_then, right_squares_then}
+use Rattle.bk_free_search.proofs.NextWords.AheadMoves.{most_then_is}
 use Rattle.bk_free_search.proofs.ahead.look_ahead.Goals as goal
 
 at_most_one : (b : Bool) → cond {A = ℕ} b 1 0 ≤ 1

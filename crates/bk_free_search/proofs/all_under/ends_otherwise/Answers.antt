@@ -1,12 +1,12 @@
 use Rattle.std.specs.Prelude.{◌/◌}
 use Rattle.std.proofs.Common.{[], ap, arith, cond, false, length, nat_lt, subst, true, ℕ, ◌++◌, ◌+◌, ◌∙◌, ◌∷◌, ◌≡◌}
 use Rattle.std.proofs.lemmas.List.{length-append}
+use Rattle.bk_laws.proofs.NumberTests.{lt-from_nat_lt}
 use Rattle.bk_word.specs.Play.{IsLegal}
 use Rattle.bk_word.specs.Word.{Move, Word, order_of}
 use Rattle.bk_word.proofs.StoredBytes.{order_append, order_more}
-use Rattle.bk_layout.proofs.LastMoves.{all_under_at_left_is_normal_barren, all_under_at_right_is_normal_barren, all_under_is_normal_barren}
-use Rattle.bk_free_search.proofs.AheadMoves.{below_told}
-use Rattle.bk_free_search.proofs.UnderSigns.{all_under, moves_few, then_legal}
+use Rattle.bk_layout.proofs.NormalCuts.LastMoves.{all_under_at_left_is_normal_barren, all_under_at_right_is_normal_barren, all_under_is_normal_barren}
+use Rattle.bk_free_search.proofs.NextWords.UnderSigns.{all_under, moves_few, then_legal}
 use Rattle.bk_free_search.proofs.all_under.ends_otherwise.Goals as goal
 
 pub overflow_add-moves : goal.overflow_add-moves
@@ -133,7 +133,7 @@ returns-then-moves-from c told = all_under_at_right_is_normal_barren c.args.orde
     ))
     (omega (
       arith,
-      below_told c.from-then-moves-from.result (c.look_after-after.result.right + c.look_after-after.result.signs) told,
+      lt-from_nat_lt c.from-then-moves-from.result (c.look_after-after.result.right + c.look_after-after.result.signs) told,
       c.from-then-moves-from.ensures,
       c.look_after-after.ensures.stands.top_is,
       c.look_after-after.ensures.stands.right_is,

@@ -1,12 +1,12 @@
 use Rattle.std.proofs.Common.{ap, arith, cond, count_by, length, subst, ℕ, ◌∙◌}
+use Rattle.bk_laws.proofs.TestsAsNumbers.{cond_count-le_one}
 use Rattle.bk_word.specs.Outline.{has_left_wall, has_right_wall}
 use Rattle.bk_word.specs.Play.{IsLegal, outline_of}
 use Rattle.bk_word.specs.Signs.{is_even}
 use Rattle.bk_word.specs.Word.{Move, Word, order_of}
-use Rattle.bk_catalogue.proofs.ClosingLaws.{at_most_one}
-use Rattle.bk_free_search.proofs.Cutting.{few_signs_open}
+use Rattle.bk_free_search.proofs.NextWords.Cutting.{few_signs_open}
 use Rattle.bk_layout.specs.Normal.{Counts}
-use Rattle.bk_free_search.proofs.UnderSigns.{left_then, right_then, signs_then, top_then}
+use Rattle.bk_free_search.proofs.NextWords.UnderSigns.{left_then, right_then, signs_then, top_then}
 use Rattle.bk_free_search.proofs.all_under.look_after.Goals as goal
 
 pub returns-clause-stands : goal.returns-clause-stands
@@ -59,8 +59,8 @@ overflow_sub-result-2 c = omega (
 
 pub returns-clause-few : goal.returns-clause-few
 returns-clause-few c = (
-  omega (arith, c.from.ensures, c.one_if.ensures, at_most_one c.walls-left_wall.result.0),
-  omega (arith, c.from-2.ensures, c.one_if-2.ensures, at_most_one c.walls-left_wall.result.1),
+  omega (arith, c.from.ensures, c.one_if.ensures, cond_count-le_one c.walls-left_wall.result.0),
+  omega (arith, c.from-2.ensures, c.one_if-2.ensures, cond_count-le_one c.walls-left_wall.result.1),
   omega (
     arith,
     c.from-3.ensures,

@@ -1,5 +1,5 @@
 use Rattle.std.proofs.Common.{ap, cond, ◌∙◌}
-use Rattle.bk_free_search.proofs.AskedNext.{asked_own, inside}
+use Rattle.bk_free_search.proofs.Asks.AskedNext.{asked_own, inside}
 use Rattle.bk_free_search.proofs.asking.asked_with.Goals as goal
 
 pub returns-clause-asked : goal.returns-clause-asked

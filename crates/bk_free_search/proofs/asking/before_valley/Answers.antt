@@ -1,6 +1,6 @@
 use Rattle.std.proofs.Common.{ap, arith, subst, sym, ◌-◌}
-use Rattle.bk_free_search.proofs.AskedNext.{asked_none, few_up, left_apart}
-use Rattle.bk_free_search.proofs.CountedSigns.{counted_none}
+use Rattle.bk_free_search.proofs.Asks.AskedNext.{asked_none, few_up, left_apart}
+use Rattle.bk_free_search.proofs.Asks.CountedSigns.{counted_none}
 use Rattle.bk_free_search.specs.Apart.{IsCountedTo}
 use Rattle.bk_free_search.proofs.asking.before_valley.Goals as goal
 

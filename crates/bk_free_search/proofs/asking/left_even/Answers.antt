@@ -1,7 +1,7 @@
 use Rattle.std.proofs.Common.{arith}
 use Rattle.bk_word.proofs.PlayLists.{place_within}
 use Rattle.bk_word.specs.Play.{outline_of}
-use Rattle.bk_free_search.proofs.AskedNext.{asked_even}
+use Rattle.bk_free_search.proofs.Asks.AskedNext.{asked_even}
 use Rattle.bk_free_search.proofs.asking.left_even.Goals as goal
 
 pub is_wide_then-requires-clause-place : goal.is_wide_then-requires-clause-place

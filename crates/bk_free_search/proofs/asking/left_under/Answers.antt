@@ -1,5 +1,5 @@
 use Rattle.std.proofs.Common.{arith, ◌-◌}
-use Rattle.bk_free_search.proofs.AskedNext.{asked_on_line, asked_under}
+use Rattle.bk_free_search.proofs.Asks.AskedNext.{asked_on_line, asked_under}
 use Rattle.bk_free_search.proofs.asking.left_under.Goals as goal
 
 pub returns-then-is_left_on_line : goal.returns-then-is_left_on_line

@@ -1,5 +1,5 @@
 use Rattle.std.proofs.Common.{arith}
-use Rattle.bk_free_search.proofs.AskedNext.{few_up}
+use Rattle.bk_free_search.proofs.Asks.AskedNext.{few_up}
 use Rattle.bk_free_search.proofs.asking.needs_of.Goals as goal
 
 pub least_left-requires-clause-few : goal.least_left-requires-clause-few

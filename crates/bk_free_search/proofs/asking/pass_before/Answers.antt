@@ -4,9 +4,9 @@ use Rattle.bk_word.specs.Play.{outline_of}
 use Rattle.bk_word.specs.Word.{Word, order_of}
 use Rattle.bk_word.specs.declared.Sign.TheVariants.{Above}
 use Rattle.bk_layout.specs.StrongPass.{pass}
-use Rattle.bk_free_search.proofs.AskedBefore.{past_before}
-use Rattle.bk_free_search.proofs.Cutting.{few_signs_open}
-use Rattle.bk_free_search.proofs.CountedSigns.{counted_none}
+use Rattle.bk_free_search.proofs.Asks.AskedBefore.{past_before}
+use Rattle.bk_free_search.proofs.NextWords.Cutting.{few_signs_open}
+use Rattle.bk_free_search.proofs.Asks.CountedSigns.{counted_none}
 use Rattle.bk_free_search.specs.Apart.{IsCountedTo}
 use Rattle.bk_free_search.specs.Strong.{seen_passed}
 use Rattle.bk_free_search.proofs.asking.pass_before.Goals as goal

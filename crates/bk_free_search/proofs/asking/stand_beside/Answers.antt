@@ -2,8 +2,8 @@
 use Rattle.std.proofs.Common.{ap, arith, length, nat_eq, ◌∙◌}
 use Rattle.bk_word.specs.Play.{outline_of}
 use Rattle.bk_word.specs.Word.{Word}
-use Rattle.bk_play.specs.SmallSkeleton.{IsValley}
-use Rattle.bk_free_search.proofs.ValleyPlaces.{valley_of_equal}
+use Rattle.bk_play.specs.SmallSkeleton.{IsValleyPlace}
+use Rattle.bk_free_search.proofs.Boards.ValleyPlaces.{valley_of_equal}
 use Rattle.bk_free_search.proofs.asking.stand_beside.Goals as goal
 
 pub marks_of-marks-requires : goal.marks_of-marks-requires
@@ -61,5 +61,5 @@ returns c = record {
   valley_is = valley;
 }
   where
-    valley : IsValley c.args.board.now c.valley_place-valley.result
+    valley : IsValleyPlace c.args.board.now c.valley_place-valley.result
     valley = valley_of_equal c.skel-2.result.now c.args.board.now c.valley_place-valley.result c.skel-2.ensures.value c.valley_place-valley.ensures

@@ -1,7 +1,7 @@
 use Rattle.std.proofs.Common.{Bool, ap, arith, cond, drop, false, length, slice_index_or, subst, ◌+◌, ◌-◌, ◌≡◌}
 use Rattle.bk_word.specs.Signs.{is_under}
 use Rattle.bk_word.specs.declared.Sign.TheVariants.{Above}
-use Rattle.bk_free_search.proofs.BehindLists.{last_asks, next_asks}
+use Rattle.bk_free_search.proofs.Asks.BehindLists.{last_asks, next_asks}
 use Rattle.bk_free_search.specs.Apart.{AreAsks}
 use Rattle.bk_free_search.proofs.behind.asks_from.Goals as goal
 

@@ -2,7 +2,7 @@ use Rattle.std.proofs.Common.{Bool, List, drop, false, length, slice_index_or, t
 use Rattle.bk_word.specs.Signs.{is_under}
 use Rattle.bk_word.specs.declared.Sign.TheVariants.{Above}
 use Rattle.bk_free_search.specs.Apart.{AreAsks}
-use Rattle.bk_free_search.specs.Asking.{AreFewAsks}
+use Rattle.bk_free_search.specs.AskedSigns.{AreFewAsks}
 use Rattle.bk_free_search.specs.NodeLines.{Has}
 use Rattle.bk_free_search.proofs.behind.asks_from.Given as goal
 

@@ -8,9 +8,9 @@ use Rattle.bk_word.specs.declared.Sign.TheVariants.{Above}
 use Rattle.bk_layout.specs.WordNumbers.{first_count}
 use Rattle.bk_free_search.specs.Apart.{AreAsks, marks_of_word}
 use Rattle.bk_word.proofs.PlayLists.{place_within}
-use Rattle.bk_catalogue.proofs.BoundsOfWords.{sizes_long}
-use Rattle.bk_free_search.proofs.BehindLists.{asks_at_wall, marks_many, told_apart, told_apart_last, told_joined, told_joined_last, wide_mark}
-use Rattle.bk_free_search.proofs.Cutting.{few_signs_open}
+use Rattle.bk_catalogue.proofs.HangingBounds.BoundsOfWords.{sizes_long}
+use Rattle.bk_free_search.proofs.Asks.BehindLists.{asks_at_wall, marks_many, told_apart, told_apart_last, told_joined, told_joined_last, wide_mark}
+use Rattle.bk_free_search.proofs.NextWords.Cutting.{few_signs_open}
 use Rattle.bk_free_search.proofs.behind.behind_valley.Goals as goal
 
 pub returns-then-place-signs : goal.returns-then-place-signs

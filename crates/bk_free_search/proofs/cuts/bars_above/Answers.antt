@@ -1,7 +1,7 @@
 use Rattle.std.proofs.Common.{IsTrue, ap, arith, length, nat_eq, ℕ, ◌≡◌}
 use Rattle.std.proofs.lemmas.Bool.Decides.{nat_tests}
 use Rattle.bk_word.specs.Word.{Move}
-use Rattle.bk_free_search.proofs.SignPhases.{one_even}
+use Rattle.bk_free_search.proofs.NextWords.SignPhases.{one_even}
 use Rattle.bk_free_search.proofs.cuts.bars_above.Goals as goal
 
 one_told : (a : ℕ) → IsTrue (nat_eq a 1) → a ≡ 1

@@ -1,8 +1,8 @@
 use Rattle.std.specs.List.{concat}
 use Rattle.std.proofs.Common.{refl, slice_index_or}
 use Rattle.bk_word.specs.Play.{outline_of}
-use Rattle.bk_free_search.proofs.Cutting.{lone_is_barren}
-use Rattle.bk_free_search.proofs.ValleyPlaces.{place_low, valley_long}
+use Rattle.bk_free_search.proofs.NextWords.Cutting.{lone_is_barren}
+use Rattle.bk_free_search.proofs.Boards.ValleyPlaces.{place_low, valley_long}
 use Rattle.bk_free_search.proofs.cuts.least_count.Goals as goal
 
 pub bounds-sizes-valley : goal.bounds-sizes-valley

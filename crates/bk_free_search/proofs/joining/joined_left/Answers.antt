@@ -2,8 +2,8 @@ use Rattle.std.proofs.Common.{Some, ap, arith, drop, inr, length, rules, slice_g
 use Rattle.bk_word.proofs.PlayLists.{place_within}
 use Rattle.bk_word.specs.declared.Sign.TheVariants.{Even}
 use Rattle.bk_word.specs.Play.{outline_of}
-use Rattle.bk_catalogue.proofs.BoundsOfWords.{sizes_long}
-use Rattle.bk_free_search.proofs.ValleyPlaces.{ends_within, left_read}
+use Rattle.bk_catalogue.proofs.HangingBounds.BoundsOfWords.{sizes_long}
+use Rattle.bk_free_search.proofs.Boards.ValleyPlaces.{ends_within, left_read}
 use Rattle.bk_free_search.proofs.joining.joined_left.Goals as goal
 
 pub bounds-sizes-valley : goal.bounds-sizes-valley

@@ -1,7 +1,7 @@
 use Rattle.std.proofs.Common.{[], subst, ◌++◌, ◌∷◌}
 use Rattle.bk_word.specs.Word.{Word}
 use Rattle.bk_layout.specs.NetWord.{IsNetBarren}
-use Rattle.bk_free_search.proofs.Cutting.{shared_is_barren}
+use Rattle.bk_free_search.proofs.NextWords.Cutting.{shared_is_barren}
 use Rattle.bk_free_search.proofs.joining.joins_barrenly.Goals as goal
 
 pub returns-then-leaves_one_early : goal.returns-then-leaves_one_early

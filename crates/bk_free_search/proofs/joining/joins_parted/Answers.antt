@@ -2,12 +2,12 @@ use Rattle.std.proofs.Common.{ap, arith, inl, inr, refl, subst, sym, ℕ, ◌∙
 use Rattle.bk_word.specs.Outline.{sizes_of, valley_of}
 use Rattle.bk_word.specs.Play.{IsLegal, outline_of}
 use Rattle.bk_word.specs.Word.{Word}
-use Rattle.bk_layout.specs.LineNumbers.{left_end, right_end, sides_of}
-use Rattle.bk_free_search.proofs.SharedAfter.{parted_before, parted_behind}
-use Rattle.bk_free_search.proofs.ValleyPlaces.{ends_within, valley_read}
+use Rattle.bk_layout.specs.LineNumbers.{left_end, right_end, square_lines}
+use Rattle.bk_free_search.proofs.Asks.SharedAfter.{parted_before, parted_behind}
+use Rattle.bk_free_search.proofs.Boards.ValleyPlaces.{ends_within, valley_read}
 use Rattle.bk_free_search.specs.Joining.{JoinsLeft, JoinsRight}
 use Rattle.bk_free_search.specs.NodeLines.{Has}
-use Rattle.bk_play.specs.SmallSkeleton.{IsValley}
+use Rattle.bk_play.specs.SmallSkeleton.{IsValleyPlace}
 use Rattle.bk_free_search.proofs.joining.joins_parted.Goals as goal
 
 pub slice_bounds-squares-end : goal.slice_bounds-squares-end
@@ -15,7 +15,7 @@ slice_bounds-squares-end c = omega (
   arith,
   ends_within c.skel-skel.result.now c.skel-skel.ensures.legal (sizes_of (outline_of c.skel-skel.result.now))
       c.ends-ends.result.now refl c.ends-ends.ensures c.args.valley.now
-      (subst (λ (w : Word). IsValley w c.args.valley.now) (sym c.skel-skel.ensures.value) c.requires.valley),
+      (subst (λ (w : Word). IsValleyPlace w c.args.valley.now) (sym c.skel-skel.ensures.value) c.requires.valley),
 )
 
 pub with_line-requires : goal.with_line-requires
@@ -30,9 +30,9 @@ returns-then-touch_one c told = parted_before c.args.board.now c.args.m.now (sub
     (subst (λ (w : Word). JoinsLeft (outline_of w) c.args.m.now c.joined_left-earlier.result.now) c.skel-skel.ensures.value c.joined_left-earlier.ensures)
     (subst (λ (w : Word). JoinsRight (outline_of w) c.args.m.now c.joined_right-later.result.now) c.skel-skel.ensures.value c.joined_right-later.ensures)
     c.lines_left_of-lefts.result c.lines_right_of-rights.result c.with_line.result c.right_end.result
-    (c.right_end.ensures.value ∙ ap (right_end (sides_of c.args.board.now)) (valley_read c.skel-skel.result.now c.skel-skel.ensures.legal
+    (c.right_end.ensures.value ∙ ap (right_end (square_lines c.args.board.now)) (valley_read c.skel-skel.result.now c.skel-skel.ensures.legal
     (sizes_of (outline_of c.skel-skel.result.now)) c.ends-ends.result.now refl c.ends-ends.ensures c.args.valley.now
-    (subst (λ (w : Word). IsValley w c.args.valley.now) (sym c.skel-skel.ensures.value) c.requires.valley)
+    (subst (λ (w : Word). IsValleyPlace w c.args.valley.now) (sym c.skel-skel.ensures.value) c.requires.valley)
     ∙ ap (λ (w : Word). valley_of (outline_of w)) c.skel-skel.ensures.value))
     c.lines_left_of-lefts.ensures c.lines_right_of-rights.ensures c.with_line.ensures.only (c.touch_one.ensures told)
 
@@ -42,9 +42,9 @@ returns-else-touch_one c told = parted_behind c.args.board.now c.args.m.now (sub
     (subst (λ (w : Word). JoinsLeft (outline_of w) c.args.m.now c.joined_left-earlier.result.now) c.skel-skel.ensures.value c.joined_left-earlier.ensures)
     (subst (λ (w : Word). JoinsRight (outline_of w) c.args.m.now c.joined_right-later.result.now) c.skel-skel.ensures.value c.joined_right-later.ensures)
     c.with_line-else-touch_one.result c.lines_right_of-rights.result c.left_end.result
-    (c.left_end.ensures.value ∙ ap (left_end (sides_of c.args.board.now)) (valley_read c.skel-skel.result.now c.skel-skel.ensures.legal
+    (c.left_end.ensures.value ∙ ap (left_end (square_lines c.args.board.now)) (valley_read c.skel-skel.result.now c.skel-skel.ensures.legal
     (sizes_of (outline_of c.skel-skel.result.now)) c.ends-ends.result.now refl c.ends-ends.ensures c.args.valley.now
-    (subst (λ (w : Word). IsValley w c.args.valley.now) (sym c.skel-skel.ensures.value) c.requires.valley)
+    (subst (λ (w : Word). IsValleyPlace w c.args.valley.now) (sym c.skel-skel.ensures.value) c.requires.valley)
     ∙ ap (λ (w : Word). valley_of (outline_of w)) c.skel-skel.ensures.value))
     c.lines_right_of-rights.ensures (λ k has. alone k (c.with_line-else-touch_one.ensures.only k has)) (c.touch_one-else-touch_one.ensures told)
   where

@@ -6,8 +6,8 @@ use Rattle.std.specs.List.{list_any}
 use Rattle.bk_word.specs.Play.{parts}
 use Rattle.bk_word.specs.Word.{Move}
 use Rattle.bk_word.proofs.StoredBytes.{order_append}
-use Rattle.bk_free_search.proofs.Cutting.{one_segment}
-use Rattle.bk_free_search.proofs.JoinedSegments.{one_left}
+use Rattle.bk_free_search.proofs.NextWords.Cutting.{one_segment}
+use Rattle.bk_free_search.proofs.Asks.JoinedSegments.{one_left}
 use Rattle.bk_free_search.proofs.joining.leaves_one_early.Goals as goal
 
 not_any : (b : Bool) → IsTrue (not b) → b ≡ false

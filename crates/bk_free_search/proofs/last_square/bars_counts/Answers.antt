@@ -1,11 +1,11 @@
 use Rattle.std.specs.List.{concat}
 use Rattle.std.proofs.Common.{ap, arith, cond, length, ℕ, ◌+◌}
+use Rattle.bk_laws.proofs.NumberTests.{lt-from_nat_lt}
 use Rattle.bk_word.specs.Outline.{has_left_wall, has_right_wall, valley_of}
 use Rattle.bk_word.specs.Play.{outline_of}
 use Rattle.bk_word.specs.Word.{Word}
 use Rattle.bk_layout.specs.Normal.{Counts}
-use Rattle.bk_free_search.proofs.AheadMoves.{below_told}
-use Rattle.bk_free_search.proofs.LastSquare.{left_is_barred, right_is_barred, wide_is_barred}
+use Rattle.bk_free_search.proofs.NextWords.LastSquare.{left_is_barred, right_is_barred, wide_is_barred}
 use Rattle.bk_free_search.proofs.last_square.bars_counts.Goals as goal
 
 pub returns-then-from-valley_squares : goal.returns-then-from-valley_squares
@@ -42,7 +42,7 @@ returns-then-from c told = right_is_barred c.args.order c.args.board.now c.requi
     (omega (arith, c.if-from.true, c.from-4.ensures, c.from-5.ensures, ap (λ (k : Counts). k.moves) c.counts-counts.ensures))
     (omega (
       arith,
-      below_told c.from-then-from.result (c.from-2.result + c.one_if-2.result) told,
+      lt-from_nat_lt c.from-then-from.result (c.from-2.result + c.one_if-2.result) told,
       c.from-then-from.ensures,
       ap (λ (k : Counts). k.top) c.counts-counts.ensures,
       c.from-2.ensures,

@@ -2,7 +2,7 @@ use Rattle.std.proofs.Common.{List, [], ap, arith, length, lit<, ◌++◌, ◌�
 use Rattle.std.proofs.lemmas.List.{length-replicate}
 use Rattle.bk_word.specs.declared.Sign.{Sign}
 use Rattle.bk_word.specs.declared.Sign.TheVariants.{Even}
-use Rattle.bk_free_search.proofs.LastSquare.{more_evens}
+use Rattle.bk_free_search.proofs.NextWords.LastSquare.{more_evens}
 use Rattle.bk_free_search.proofs.last_square.even_square.Goals as goal
 
 pub push-requires : goal.push-requires

@@ -2,7 +2,7 @@ use Rattle.std.proofs.Common.{[], ap, subst, ◌++◌, ◌∙◌, ◌∷◌}
 use Rattle.bk_word.specs.Play.{outline_of}
 use Rattle.bk_word.specs.Word.{Move, Word}
 use Rattle.bk_layout.specs.NodeCut.{ShareANode}
-use Rattle.bk_free_search.proofs.LastSquare.{last_legal, made_last, shared_is_barred}
+use Rattle.bk_free_search.proofs.NextWords.LastSquare.{last_legal, made_last, shared_is_barred}
 use Rattle.bk_free_search.specs.LastSquare.{neighbours}
 use Rattle.bk_free_search.proofs.last_square.last_move.Goals as goal
 

@@ -1,8 +1,10 @@
 use Rattle.std.proofs.Common.{ap, arith, length, nat_eq, ◌∙◌}
+use Rattle.bk_laws.proofs.NumberTests.{ne-from_nat_eq}
+use Rattle.bk_laws.proofs.Truth.{false-of_not}
 use Rattle.bk_word.specs.Outline.{valley_of}
 use Rattle.bk_word.specs.Play.{outline_of}
 use Rattle.bk_word.specs.Word.{Word}
-use Rattle.bk_free_search.proofs.LastSquare.{lone_is_barred, not_told, other_told, others_are_barred}
+use Rattle.bk_free_search.proofs.NextWords.LastSquare.{lone_is_barred, others_are_barred}
 use Rattle.bk_free_search.specs.LastSquare.{neighbours}
 use Rattle.bk_free_search.proofs.last_square.stays_open.Goals as goal
 
@@ -13,7 +15,7 @@ returns-then-valley_squares-eq1 c _ = lone_is_barred c.args.order c.args.board.n
 
 pub returns : goal.returns
 returns c told = others_are_barred c.args.order c.args.board.now c.requires.least c.requires.one (λ same.
-    other_told (length c.signs.result.now) c.neighbours.result (not_told (nat_eq (length c.signs.result.now) c.neighbours.result) told) (omega (
+    ne-from_nat_eq (length c.signs.result.now) c.neighbours.result (false-of_not (nat_eq (length c.signs.result.now) c.neighbours.result) told) (omega (
       arith,
       same,
       ap length c.signs.ensures,

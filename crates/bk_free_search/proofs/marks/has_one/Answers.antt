@@ -1,5 +1,5 @@
 use Rattle.std.proofs.Common.{IsTrue, arith, nat_eq, not, rules, ℕ, ◌<◌, ◌^◌}
-use Rattle.bk_free_search.proofs.LineSets.{one_from}
+use Rattle.bk_laws.proofs.Bits.{some_bit-in_window}
 use Rattle.bk_free_search.proofs.marks.has_one.Goals as goal
 
 some : (x : ℕ) → IsTrue (not (nat_eq x 0)) → 0 < x
@@ -11,5 +11,5 @@ some x told = cases x told
 pub returns : goal.returns
 returns c told =
     let below : c.args.places.bits < 2 ^ 32 = search rules in
-    let one = one_from c.args.places.bits c.args.start c.args.many below c.requires.many (some _ told) in
+    let one = some_bit-in_window c.args.places.bits c.args.start c.args.many below c.requires.many (some _ told) in
     record { more = one.0; few = one.1; has = one.2 }

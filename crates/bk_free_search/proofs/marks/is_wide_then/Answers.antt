@@ -1,7 +1,7 @@
 use Rattle.std.proofs.Common.{ap, arith, length}
 use Rattle.bk_word.specs.Play.{outline_of}
 use Rattle.bk_word.specs.Word.{Word}
-use Rattle.bk_catalogue.proofs.BoundsOfWords.{sizes_long}
+use Rattle.bk_catalogue.proofs.HangingBounds.BoundsOfWords.{sizes_long}
 use Rattle.bk_free_search.proofs.marks.is_wide_then.Goals as goal
 
 pub bounds-sizes-place : goal.bounds-sizes-place

@@ -1,6 +1,6 @@
 use Rattle.std.proofs.Common.{Bool, List, ap, arith, false, inl, inr, rules, slice_index_or, subst, sym, true, ℕ, ◌+◌, ◌∙◌, ◌≡◌, ◌≤◌, ◌⊎◌}
 use Rattle.std.specs.Bool.{IsTrue}
-use Rattle.bk_free_search.proofs.OpenMarks.{IsAt, at_next, marked_there, segments_few}
+use Rattle.bk_free_search.proofs.Asks.OpenMarks.{IsAt, at_next, marked_there, segments_few}
 use Rattle.bk_free_search.specs.Strong.{marks_by_lists}
 use Rattle.bk_free_search.specs.TopLines.{HasOneFrom, on_top_lines}
 use Rattle.bk_free_search.proofs.marks.marks_in.Goals as goal

@@ -1,5 +1,5 @@
 use Rattle.std.proofs.Common.{false, slice_index_or, true, ℕ, ◌≡◌}
-use Rattle.bk_free_search.proofs.OpenMarks.{IsAt}
+use Rattle.bk_free_search.proofs.Asks.OpenMarks.{IsAt}
 use Rattle.bk_free_search.specs.NodeLines.{Has}
 use Rattle.bk_free_search.specs.Strong.{marks_by_lists}
 use Rattle.bk_free_search.specs.TopLines.{on_top_lines}

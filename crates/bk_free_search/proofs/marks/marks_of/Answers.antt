@@ -1,22 +1,22 @@
 use Rattle.std.specs.List.{concat, sum}
 use Rattle.std.proofs.Common.{List, ap, arith, false, length, slice_index_or, subst, sym, ℕ, ◌∙◌, ◌≡◌}
+use Rattle.bk_laws.proofs.Sums.{sum-map_length}
 use Rattle.bk_word.specs.Outline.{sizes_of, start}
 use Rattle.bk_word.specs.Play.{IsLegal, outline_of}
 use Rattle.bk_word.specs.Word.{Word, order_of}
-use Rattle.bk_play.proofs.TurnParts.{sum_lengths}
-use Rattle.bk_word_net.proofs.Shape.{hung_many}
-use Rattle.bk_catalogue.proofs.BoundsOfWords.{shape_of_word}
+use Rattle.bk_word_net.proofs.Outlines.Shape.{hung_many}
+use Rattle.bk_catalogue.proofs.HangingBounds.BoundsOfWords.{shape_of_word}
 use Rattle.bk_catalogue.specs.VerticalCut.{edges_on_lines}
 use Rattle.bk_layout.specs.WordNumbers.{first_count}
-use Rattle.bk_free_search.proofs.OpenMarks.{filled_sizes, marks_again}
-use Rattle.bk_free_search.proofs.TopLineMarks.{marks_of_lefts}
+use Rattle.bk_free_search.proofs.Asks.OpenMarks.{filled_sizes, marks_again}
+use Rattle.bk_free_search.proofs.Boards.TopLineMarks.{marks_of_lefts}
 use Rattle.bk_free_search.specs.Strong.{AreFilled, marks_by_lists}
 use Rattle.bk_free_search.specs.TopLines.{on_top_lines}
 use Rattle.bk_free_search.proofs.marks.marks_of.Goals as goal
 
 pub marks_in-requires-clause-whole : goal.marks_in-requires-clause-whole
 marks_in-requires-clause-whole c =
-    omega (arith, sum_lengths (outline_of c.skel-skel.result.now).segments, ap sum c.sizes.ensures, ap length c.ends.ensures)
+    omega (arith, sum-map_length (outline_of c.skel-skel.result.now).segments, ap sum c.sizes.ensures, ap length c.ends.ensures)
 
 pub marks_in-requires-clause-many : goal.marks_in-requires-clause-many
 marks_in-requires-clause-many c = omega (

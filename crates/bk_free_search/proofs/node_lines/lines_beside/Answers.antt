@@ -1,5 +1,5 @@
 use Rattle.std.proofs.Common.{arith}
-use Rattle.bk_free_search.proofs.LinesBeside.{all_gathered, gathered_more}
+use Rattle.bk_free_search.proofs.Boards.LinesBeside.{all_gathered, gathered_more}
 use Rattle.bk_free_search.proofs.node_lines.lines_beside.Goals as goal
 
 pub squares-init : goal.squares-init

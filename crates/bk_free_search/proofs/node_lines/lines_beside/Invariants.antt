@@ -1,4 +1,4 @@
-use Rattle.bk_free_search.proofs.LinesBeside.{Gathered}
+use Rattle.bk_free_search.proofs.Boards.LinesBeside.{Gathered}
 use Rattle.bk_free_search.proofs.node_lines.lines_beside.Given as goal
 
 abbrev pub invariant-squares : goal.invariant-squares

@@ -1,5 +1,5 @@
 use Rattle.std.proofs.Common.{arith, inl, inr, subst, sym, ◌+◌, ◌-◌}
-use Rattle.bk_free_search.proofs.LinesBeside.{beside_new, first_beside, last_beside, own_beside}
+use Rattle.bk_free_search.proofs.Boards.LinesBeside.{beside_new, first_beside, last_beside, own_beside}
 use Rattle.bk_free_search.specs.NodeLines.{Has}
 use Rattle.bk_free_search.proofs.node_lines.node_lines.Goals as goal
 

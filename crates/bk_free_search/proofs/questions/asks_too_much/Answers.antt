@@ -1,4 +1,4 @@
-use Rattle.bk_free_search.proofs.AskedSigns.{begun_is_barred}
+use Rattle.bk_free_search.proofs.Asks.AskedSigns.{begun_is_barred}
 use Rattle.bk_free_search.proofs.questions.asks_too_much.Goals as goal
 
 pub returns : goal.returns

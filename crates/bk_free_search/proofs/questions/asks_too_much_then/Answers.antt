@@ -1,6 +1,6 @@
 use Rattle.std.proofs.Common.{subst}
-use Rattle.bk_free_search.proofs.AskedSigns.{whole_is_barred}
-use Rattle.bk_free_search.specs.Asking.{IsOver}
+use Rattle.bk_free_search.proofs.Asks.AskedSigns.{whole_is_barred}
+use Rattle.bk_free_search.specs.AskedSigns.{IsOver}
 use Rattle.bk_free_search.specs.declared.behind.Asks.{Asks}
 use Rattle.bk_free_search.proofs.questions.asks_too_much_then.Goals as goal
 

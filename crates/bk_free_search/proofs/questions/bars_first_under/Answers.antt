@@ -1,6 +1,6 @@
+use Rattle.bk_laws.proofs.NumberTests.{lt-from_nat_lt}
 use Rattle.bk_word.specs.declared.Sign.TheVariants.{Under}
-use Rattle.bk_free_search.proofs.AheadMoves.{below_told}
-use Rattle.bk_free_search.proofs.SignPhases.{bars_first, first_is_barred}
+use Rattle.bk_free_search.proofs.NextWords.SignPhases.{bars_first, first_is_barred}
 use Rattle.bk_free_search.proofs.questions.bars_first_under.Goals as goal
 
 pub returns-then-needs_left_even : goal.returns-then-needs_left_even
@@ -10,4 +10,4 @@ returns-then-needs_left_even c told n front begun none apart = bars_first n fron
 pub returns-else-needs_left_even : goal.returns-else-needs_left_even
 returns-else-needs_left_even c told n front begun none apart = first_is_barred n front c.args.begun.now.m c.args.begun.now.next c.args.around.now Under
     c.args.around.now.before.under c.args.around.now.needs.under begun none apart (begun.around_is.before_is.under apart) begun.around_is.needs_are.under
-    (below_told c.args.begun.now.next.left c.args.around.now.needs.under told)
+    (lt-from_nat_lt c.args.begun.now.next.left c.args.around.now.needs.under told)

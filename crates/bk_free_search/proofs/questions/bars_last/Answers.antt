@@ -1,6 +1,6 @@
 use Rattle.std.proofs.Common.{[], arith, ◌++◌, ◌∷◌}
 use Rattle.std.proofs.lemmas.List.{length-append}
-use Rattle.bk_free_search.proofs.AskedNext.{few_up}
+use Rattle.bk_free_search.proofs.Asks.AskedNext.{few_up}
 use Rattle.bk_free_search.proofs.questions.bars_last.Goals as goal
 
 pub returns-then-lacks_even : goal.returns-then-lacks_even

@@ -1,7 +1,7 @@
 use Rattle.std.proofs.Common.{[], arith, ◌++◌, ◌∷◌}
 use Rattle.std.proofs.lemmas.List.{length-append}
 use Rattle.bk_word.specs.declared.Sign.TheVariants.{Above}
-use Rattle.bk_free_search.proofs.SignPhases.{own_turned_is_barred}
+use Rattle.bk_free_search.proofs.NextWords.SignPhases.{own_turned_is_barred}
 use Rattle.bk_free_search.proofs.questions.bars_own_above.Goals as goal
 
 pub returns-then-bars_above : goal.returns-then-bars_above

@@ -1,8 +1,8 @@
 use Rattle.std.proofs.Common.{arith}
-use Rattle.bk_free_search.proofs.AheadMoves.{below_told}
-use Rattle.bk_free_search.proofs.SignPhases.{left_lacks_even}
+use Rattle.bk_laws.proofs.NumberTests.{lt-from_nat_lt}
+use Rattle.bk_free_search.proofs.NextWords.SignPhases.{left_lacks_even}
 use Rattle.bk_free_search.proofs.questions.needs_left_even.Goals as goal
 
 pub returns : goal.returns
 returns c told n front beside count sign not = left_lacks_even n front c.args.around.now beside
-    (omega (arith, below_told c.open_side.result c.args.around.now.ahead.evens told, c.open_side.ensures)) count sign not
+    (omega (arith, lt-from_nat_lt c.open_side.result c.args.around.now.ahead.evens told, c.open_side.ensures)) count sign not

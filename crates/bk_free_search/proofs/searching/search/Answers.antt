@@ -1,4 +1,4 @@
-use Rattle.bk_free_search.proofs.NextMoves.{begins_empty}
+use Rattle.bk_free_search.proofs.NextWords.NextMoves.{begins_empty}
 use Rattle.bk_free_search.proofs.searching.search.Goals as goal
 
 pub returns-clause-all : goal.returns-clause-all

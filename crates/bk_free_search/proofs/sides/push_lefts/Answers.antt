@@ -1,6 +1,6 @@
 use Rattle.std.proofs.Common.{List, [], ap, append_assoc, arith, length, length-append, lit<, ℕ, ◌++◌, ◌+◌, ◌-◌, ◌∙◌, ◌∷◌, ◌≡◌}
 use Rattle.bk_word.specs.Play.{numbers_from}
-use Rattle.bk_free_search.proofs.LeftLines.{last_left, next_left}
+use Rattle.bk_free_search.proofs.Boards.LeftLines.{last_left, next_left}
 use Rattle.bk_free_search.proofs.sides.push_lefts.Goals as goal
 
 pub others-init : goal.others-init

@@ -1,6 +1,6 @@
 use Rattle.std.proofs.Common.{arith, ◌∙◌}
 use Rattle.std.proofs.lemmas.Bool.Decides.{nat_tests}
-use Rattle.bk_free_search.proofs.RightLines.{last_at}
+use Rattle.bk_free_search.proofs.Boards.RightLines.{last_at}
 use Rattle.bk_free_search.proofs.sides.right_of_last.Goals as goal
 
 pub returns : goal.returns

@@ -4,8 +4,8 @@ use Rattle.std.proofs.lemmas.List.{length-append}
 use Rattle.bk_word.proofs.StoredBytes.{order_one}
 use Rattle.bk_word.specs.Play.{IsComplete, outline_of}
 use Rattle.bk_word.specs.Word.{Move, Word, order_of}
-use Rattle.bk_free_search.proofs.LastSquare.{last_is_whole, last_legal}
-use Rattle.bk_free_search.proofs.TurnsTaken.{without_last}
+use Rattle.bk_free_search.proofs.NextWords.LastSquare.{last_is_whole, last_legal}
+use Rattle.bk_free_search.proofs.NextWords.TurnsTaken.{without_last}
 use Rattle.bk_free_search.specs.BoardOutlines.{IsBoardOutline}
 use Rattle.bk_free_search.specs.LastSquare.{neighbours}
 use Rattle.bk_free_search.proofs.state.meet_with_last.Goals as goal

@@ -1,6 +1,6 @@
 use Rattle.std.proofs.Common.{ap, ◌-◌, ◌∙◌}
 use Rattle.bk_free_search.specs.TopLines.{is_top_line}
-use Rattle.bk_free_search.proofs.TopLineMarks.{index_top}
+use Rattle.bk_free_search.proofs.Boards.TopLineMarks.{index_top}
 use Rattle.bk_free_search.proofs.top_lines.on_line.Goals as goal
 
 pub returns : goal.returns

@@ -29,9 +29,9 @@ loop-k-preserved c = elim c.match-laid_again.branch [
   | in-Some w ↦ subst (λ (t : Tally). IsTally c.args.seed (c.loop-k.k + 1) t.accepted t.perfect t.simple t.squares) (sym w.tally-is)
       (tally_more c.args.seed c.loop-k.k c.loop-k.tally.accepted c.loop-k.tally.perfect c.loop-k.tally.simple c.loop-k.tally.squares
       w.add.new.self.accepted w.add.new.self.perfect w.add.new.self.simple w.add.new.self.squares w.in-Some.tiling
-      (same_tiling w.in-Some.tiling (tiling_at c.args.seed c.loop-k.k) w.in-Some.ensures) c.loop-k.invariant
+      (same_tiling w.in-Some.tiling (tiling_at c.args.seed c.loop-k.k) w.in-Some.ensures.laid) c.loop-k.invariant
       w.add.ensures.accepted w.add.ensures.perfect w.add.ensures.simple w.add.ensures.squares)
-  | in_default w ↦ absurd (never (tiling_at c.args.seed c.loop-k.k) w.in_default.ensures)
+  | in_default w ↦ absurd (never (tiling_at c.args.seed c.loop-k.k) w.in_default.ensures.laid)
 ]
 
 pub loop-k-init : goal.loop-k-init

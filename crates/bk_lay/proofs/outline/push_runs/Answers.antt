@@ -18,50 +18,44 @@ one_more right squares i d some within =
     ∙ ap (λ n. right ++ (runs_under (drop n squares) ++ run_under (get_or squares (i - 1) d) ∷ [])) back
     ∙ ap (λ (l : List Run). right ++ l) (sym (at_drop_more runs_under squares (i - 1) d (omega (arith, some, within))))
 
-pub squares-preserved : goal.squares-preserved
-squares-preserved c = record {
-  within = omega (arith, c.squares.invariant.within);
-  count = omega (arith, c.squares.invariant.count, c.push.ensures.len, c.squares-test.true);
+pub loop-i-preserved : goal.loop-i-preserved
+loop-i-preserved c = record {
+  within = omega (arith, c.loop-i.invariant.within);
+  count = omega (arith, c.loop-i.invariant.count, c.push.ensures.len, c.loop-i-test.true);
   items = c.push.ensures.items
-      ∙ ap (λ (l : List Run). l ++ run_under (get_or c.args.squares.now (c.squares.i - 1) none) ∷ []) c.squares.invariant.items
-      ∙ one_more c.args.right.now.items c.args.squares.now c.squares.i none c.squares-test.true c.squares.invariant.within;
+      ∙ ap (λ (l : List Run). l ++ run_under (get_or c.args.squares.now (c.loop-i.i - 1) none) ∷ []) c.loop-i.invariant.items
+      ∙ one_more c.args.right.now.items c.args.squares.now c.loop-i.i none c.loop-i-test.true c.loop-i.invariant.within;
 }
 
-pub squares-init : goal.squares-init
-squares-init c = record {
+pub loop-i-init : goal.loop-i-init
+loop-i-init c = record {
   within = omega arith;
   count = refl;
   items = sym (append-nil c.args.right.now.items)
       ∙ ap (λ (l : List Square). c.args.right.now.items ++ runs_under l) (sym (drop_all (length c.args.squares.now) c.args.squares.now (omega arith)));
 }
 
-pub overflow_sub-i : goal.overflow_sub-i
-overflow_sub-i c = c.squares-test.true
-
 pub bounds-squares-i : goal.bounds-squares-i
-bounds-squares-i c = omega (arith, c.squares-test.true, c.squares.invariant.within)
+bounds-squares-i c = omega (arith, c.loop-i-test.true, c.loop-i.invariant.within)
 
 pub overflow_add-q : goal.overflow_add-q
 overflow_add-q c = omega (
   arith,
-  holds_at (λ q. q.x + q.s < 2 ^ 64) c.args.squares.now (c.squares.i - 1) none c.requires.right
-      (omega (arith, c.squares-test.true, c.squares.invariant.within)),
+  holds_at (λ q. q.x + q.s < 2 ^ 64) c.args.squares.now (c.loop-i.i - 1) none c.requires.right
+      (omega (arith, c.loop-i-test.true, c.loop-i.invariant.within)),
 )
 
-pub overflow_add-q-in-squares : goal.overflow_add-q-in-squares
-overflow_add-q-in-squares c = omega (
+pub overflow_add-q-in-loop-i : goal.overflow_add-q-in-loop-i
+overflow_add-q-in-loop-i c = omega (
   arith,
-  holds_at (λ q. q.y + q.s < 2 ^ 64) c.args.squares.now (c.squares.i - 1) none c.requires.fit
-      (omega (arith, c.squares-test.true, c.squares.invariant.within)),
+  holds_at (λ q. q.y + q.s < 2 ^ 64) c.args.squares.now (c.loop-i.i - 1) none c.requires.fit
+      (omega (arith, c.loop-i-test.true, c.loop-i.invariant.within)),
 )
 
 pub push-requires : goal.push-requires
-push-requires c = (lit< tt, omega (arith, c.squares.invariant.count, c.requires.room, c.squares-test.true))
-
-pub squares-smaller : goal.squares-smaller
-squares-smaller c = omega (arith, c.squares-test.true)
+push-requires c = (lit< tt, omega (arith, c.loop-i.invariant.count, c.requires.room, c.loop-i-test.true))
 
 pub returns : goal.returns
 returns c =
-    let done : c.squares.i ≡ 0 = omega (arith, c.squares-test.false) in
-    c.squares.invariant.items ∙ ap (λ n. c.args.right.now.items ++ runs_under (drop n c.args.squares.now)) done
+    let done : c.loop-i.i ≡ 0 = omega (arith, c.loop-i-test.false) in
+    c.loop-i.invariant.items ∙ ap (λ n. c.args.right.now.items ++ runs_under (drop n c.args.squares.now)) done

@@ -1,9 +1,10 @@
 use Rattle.std.proofs.Common.{List, None, Option, Some, [], ap, arith, get_or, length, lit<, refl, sym, take, ℕ, ◌++◌, ◌+◌, ◌<◌, ◌^◌, ◌∙◌, ◌∷◌, ◌≡◌, ◌≤◌}
 use Rattle.std.specs.Prelude.{option_to_list}
 use Rattle.std.proofs.lemmas.List.{append-nil, append_assoc, length-append, length-map, length-take-le, map-append, take_all, take_more}
+use Rattle.bk_laws.proofs.Outcomes.{option_to_list-at_most_one}
 use Rattle.bk_tiling.specs.declared.Square.{Square}
 use Rattle.bk_word.specs.declared.Sign.{Sign}
-use Rattle.bk_lay.proofs.SignLists.{few_of_option, few_signs, last_after, last_of_levels, signs_after}
+use Rattle.bk_lay.proofs.SignLists.{few_signs, last_after, last_of_levels, signs_after}
 use Rattle.bk_lay.proofs.SquaresAt.{holds_at}
 use Rattle.bk_lay.specs.LevelRuns.{bottoms_of}
 use Rattle.bk_lay.specs.TilingWord.{signs_between}
@@ -19,7 +20,7 @@ few before squares i h =
       length-append (option_to_list before) (bottoms_of (take i squares)),
       length-map (take i squares) (λ (q : Square). q.y + q.s),
       length-take-le i squares h,
-      few_of_option before,
+      option_to_list-at_most_one before,
     )
 
 -- before the first square there is no sign, and the level is the one at the left

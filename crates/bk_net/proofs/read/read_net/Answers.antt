@@ -1,7 +1,7 @@
 use Rattle.std.specs.Prelude.{List, Option, Some, ℕ}
 use Rattle.std.proofs.Common.{ap, arith, subst, sym, ◌∙◌}
-use Rattle.bk_net.specs.Gathered.{Keeps, and_wire}
-use Rattle.bk_net.specs.Reader.{ended_wire, next_place}
+use Rattle.bk_net.specs.GatheredWires.{KeepsWires, and_wire}
+use Rattle.bk_net.specs.NetReading.{ended_wire, next_net_place}
 use Rattle.bk_net.specs.declared.reader.Ending.{Ending}
 use Rattle.bk_net.proofs.NetProgress.{HasWires, at_first, fault_is, further, item_is, no_ending, no_next, skip_found, whole, wires_found}
 use Rattle.bk_net.proofs.read.read_net.Goals as goal
@@ -20,8 +20,8 @@ loop-at-preserved c =
     let kind = c.kind_of-kind.ensures in
     further c.args.line.now c.loop-at.at c.loop-at.place c.in-Some.next c.loop-at.wires.items c.with_wire-many.new.wires.items c.loop-at.many
     c.with_wire-many.result c.loop-at-test.true c.loop-at.invariant
-    (ap (next_place c.loop-at.place) (sym kind) ∙ sym c.next.ensures ∙ c.in-Some.is)
-    (λ all keeps. subst (λ (o : Option (ℕ × ℕ)). Keeps (and_wire o all) c.with_wire-many.new.wires.items c.with_wire-many.result)
+    (ap (next_net_place c.loop-at.place) (sym kind) ∙ sym c.next.ensures ∙ c.in-Some.is)
+    (λ all keeps. subst (λ (o : Option (ℕ × ℕ)). KeepsWires (and_wire o all) c.with_wire-many.new.wires.items c.with_wire-many.result)
     (c.ended_wire.ensures ∙ ap (ended_wire c.loop-at.place) kind) (c.with_wire-many.ensures all keeps))
 
 pub deref-requires : goal.deref-requires
@@ -36,7 +36,7 @@ returns-in-Nodes-clause-kept c = c.net_item.ensures.kept
 pub returns-in_default-clause-fault : goal.returns-in_default-clause-fault
 returns-in_default-clause-fault c =
     no_next c.args.line.now c.loop-at.at c.loop-at.place c.loop-at.wires.items c.loop-at.many (omega arith) c.loop-at.invariant
-    (ap (next_place c.loop-at.place) (sym c.kind_of-kind.ensures) ∙ sym c.next.ensures ∙ c.in_default.is)
+    (ap (next_net_place c.loop-at.place) (sym c.kind_of-kind.ensures) ∙ sym c.next.ensures ∙ c.in_default.is)
 
 pub returns-in_default-ending-clause-fault : goal.returns-in_default-ending-clause-fault
 returns-in_default-ending-clause-fault c =
@@ -58,7 +58,7 @@ wires c =
     c.in-Nodes.nodes
     (whole c.args.line.now c.loop-at.at c.loop-at.place c.loop-at.wires.items c.loop-at.many (omega arith) c.loop-at.invariant)
     (sym c.ending.ensures ∙ c.in-Some-ending.is ∙ ap (λ (e : Ending). Some e) c.in-Nodes.is)
-    (λ all keeps. subst (λ (o : Option (ℕ × ℕ)). Keeps (and_wire o all) c.with_wire-many-2.new.wires.items c.with_wire-many-2.result)
+    (λ all keeps. subst (λ (o : Option (ℕ × ℕ)). KeepsWires (and_wire o all) c.with_wire-many-2.new.wires.items c.with_wire-many-2.result)
     c.last_wire.ensures (c.with_wire-many-2.ensures all keeps)))
 
 pub returns-in-Nodes-clause-read : goal.returns-in-Nodes-clause-read

@@ -2,13 +2,13 @@ use Rattle.std.proofs.lemmas.Grind.{common_steps}
 use Rattle.std.proofs.Common.{ap, arith, length, ◌+◌, ◌∙◌, ◌≡◌}
 use Rattle.std.proofs.lemmas.List.{length-append, length-map}
 use Rattle.bk_play.proofs.Wirings.{next_count, no_turn, wires_here, wires_more}
-use Rattle.bk_play.specs.Wiring.{counts_of, wires_from}
+use Rattle.bk_play.specs.Wiring.{hung_and_closed, move_wires_from}
 use Rattle.bk_play.proofs.netting.wired.Goals as goal
 
 pub add_wires-requires-clause-wires : goal.add_wires-requires-clause-wires
 add_wires-requires-clause-wires c =
     let i = c.loop-node.invariant in
-    wires_here _ (length c.args.turns.now + 1) (wires_from 0 (counts_of c.args.turns.now) c.args.ends.now) c.loop-node.net.wires
+    wires_here _ (length c.args.turns.now + 1) (move_wires_from 0 (hung_and_closed c.args.turns.now) c.args.ends.now) c.loop-node.net.wires
     c.args.turns.now c.loop-node.rest.now c.split_at.result.0.now c.loop-node.node c.from.result _
     (omega arith) c.requires.wires i.nodes i.wires c.from.ensures c.split_at.ensures.front
 
@@ -31,7 +31,7 @@ loop-node-preserved c =
         next_count c.args.turns.now c.loop-node.node no_turn (omega arith),
       );
       left = omega (arith, i.left, c.split_at.ensures.back_len, c.from.ensures, next_count c.args.turns.now c.loop-node.node no_turn (omega arith));
-      wires = wires_more (wires_from 0 (counts_of c.args.turns.now) c.args.ends.now) c.loop-node.net.wires c.add_wires.new.net.wires
+      wires = wires_more (move_wires_from 0 (hung_and_closed c.args.turns.now) c.args.ends.now) c.loop-node.net.wires c.add_wires.new.net.wires
           c.args.turns.now c.loop-node.rest.now c.split_at.result.0.now c.split_at.result.1.now c.loop-node.node c.from.result _
           (omega arith) i.wires c.from.ensures c.split_at.ensures.front c.split_at.ensures.back wires;
     }

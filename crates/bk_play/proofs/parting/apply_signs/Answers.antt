@@ -1,7 +1,7 @@
 use Rattle.std.proofs.Common.{ap, arith, length, lit<, max, ℕ, ◌+◌, ◌-◌, ◌<◌, ◌∙◌, ◌≡◌, ◌≤◌}
 use Rattle.std.specs.List.{splice}
-use Rattle.bk_play.specs.Skeleton.{first_touched, joined_sizes, open_sides}
-use Rattle.bk_play.proofs.Rooms.{put_in, room_long}
+use Rattle.bk_laws.proofs.Rooms.{room-filled, room-long}
+use Rattle.bk_play.specs.Skeleton.{first_touched, joined_sizes, open_sides_of_record}
 use Rattle.bk_play.proofs.parting.apply_signs.Goals as goal
 
 -- the touched sizes give way to others
@@ -9,7 +9,7 @@ sizes_room : (start sides parted p q r n : ℕ) → p ≡ start → q ≡ sides 
     → (p ≤ p + q + 1) × ((p + q + 1 ≤ n) × (n - (p + q + 1 - p) + (r + 1) ≤ 200))
 sizes_room start sides parted p q r n e f g within fits = (omega arith, (omega arith, omega arith))
 
--- and the signs between them
+-- the signs between the touched segments give way to others
 signs_room : (start sides parted p q r n : ℕ) → p ≡ start → q ≡ sides → r ≡ parted → start + sides ≤ n → n - sides + parted ≤ 200
     → (p ≤ p + q) × ((p + q ≤ n) × (n - (p + q - p) + r ≤ 200))
 signs_room start sides parted p q r n e f g within fits = (omega arith, (omega arith, omega arith))
@@ -30,10 +30,10 @@ still_small left right a b n e f h = omega arith
 
 pub returns-clause-sizes : goal.returns-clause-sizes
 returns-clause-sizes c =
-    let to : c.first_touched-start.result + c.open_sides-open.result + 1 ≡ first_touched c.args.turn.now + (open_sides c.args.turn.now + 1) =
+    let to : c.first_touched-start.result + c.open_sides-open.result + 1 ≡ first_touched c.args.turn.now + (open_sides_of_record c.args.turn.now + 1) =
     omega (arith, c.first_touched-start.ensures, c.open_sides-open.ensures) in
     let sizes = c.put_sizes.ensures ∙ (λ i. joined_sizes (c.max.ensures i) (c.max-2.ensures i) c.args.moved.now) in
-    put_in c.args.sizes.now.items c.make_room.new.list.items c.deref_mut.result.now c.put_sizes.new.room c.first_touched-start.result
+    room-filled c.args.sizes.now.items c.make_room.new.list.items c.deref_mut.result.now c.put_sizes.new.room c.first_touched-start.result
     (c.first_touched-start.result + c.open_sides-open.result + 1) (c.from-parted.result + 1) _ (omega arith)
     (omega (arith, c.first_touched-start.ensures, c.open_sides-open.ensures, c.requires.sizes_within)) c.make_room.ensures.long c.make_room.ensures.front
     c.make_room.ensures.back c.deref_mut.ensures.value (omega arith) c.put_sizes.auto.room
@@ -41,7 +41,7 @@ returns-clause-sizes c =
 
 pub returns-clause-signs : goal.returns-clause-signs
 returns-clause-signs c =
-    put_in c.args.signs.now.items c.make_room-2.new.list.items c.deref_mut-2.result.now c.put_signs.new.room c.first_touched-start.result
+    room-filled c.args.signs.now.items c.make_room-2.new.list.items c.deref_mut-2.result.now c.put_signs.new.room c.first_touched-start.result
     (c.first_touched-start.result + c.open_sides-open.result) c.from-parted.result _ (omega arith)
     (omega (arith, c.first_touched-start.ensures, c.open_sides-open.ensures, c.requires.signs_within)) c.make_room-2.ensures.long c.make_room-2.ensures.front
     c.make_room-2.ensures.back c.deref_mut-2.ensures.value (omega arith) c.put_signs.auto.room
@@ -56,7 +56,7 @@ make_room-requires c = (
 )
 
 pub put_sizes-requires-clause-long : goal.put_sizes-requires-clause-long
-put_sizes-requires-clause-long c = room_long _ _ _ _ _ c.deref_mut.ensures.value
+put_sizes-requires-clause-long c = room-long _ _ _ _ _ c.deref_mut.ensures.value
     (sizes_end _ _ _ _ _ _ _ c.first_touched-start.ensures c.open_sides-open.ensures c.requires.sizes_within c.make_room.ensures.long)
     (one_more _ _ _ (c.from-parted.ensures ∙ c.requires.parted))
 
@@ -71,7 +71,7 @@ make_room-requires-2 c = (
 )
 
 pub put_signs-requires : goal.put_signs-requires
-put_signs-requires c = room_long _ _ _ _ _ c.deref_mut-2.ensures.value
+put_signs-requires c = room-long _ _ _ _ _ c.deref_mut-2.ensures.value
     (signs_end _ _ _ _ _ _ _ c.first_touched-start.ensures c.open_sides-open.ensures c.requires.signs_within c.make_room-2.ensures.long)
     (ap (λ n. c.first_touched-start.result + n) (c.from-parted.ensures ∙ c.requires.parted))
 

@@ -1,9 +1,9 @@
 -- The old sizes and signs stand again in the place of those that the move made.
 use Rattle.std.specs.List.{slice_range, splice}
 use Rattle.std.proofs.Common.{[], arith, lit<, refl, ◌+◌, ◌-◌, ◌∙◌, ◌∷◌, ◌≡◌}
+use Rattle.bk_laws.proofs.Rooms.{room-long}
 use Rattle.bk_play.specs.Skeleton.{first_touched}
 use Rattle.bk_word.specs.declared.Sign.TheVariants.{Above, Under}
-use Rattle.bk_play.proofs.Rooms.{room_long}
 use Rattle.bk_play.proofs.parting.undo_signs.Goals as goal
 
 pub overflow_add-start : goal.overflow_add-start
@@ -48,7 +48,7 @@ slice_bounds-splice-end-2 c = omega (arith, c.from-right.ensures, c.min-2.ensure
 pub splice-requires : goal.splice-requires
 splice-requires c =
     let xs = c.args.turn.now.left ∷ c.args.turn.now.closed ∷ c.args.turn.now.right ∷ [] in
-    let many = room_long xs xs (1 - c.from-left.result) (2 + c.from-right.result) (c.from-left.result + c.from-right.result + 1) refl
+    let many = room-long xs xs (1 - c.from-left.result) (2 + c.from-right.result) (c.from-left.result + c.from-right.result + 1) refl
     (omega (arith, c.from-right.ensures, c.min-2.ensures)) (omega (arith, c.from-left.ensures, c.min.ensures)) in (
       lit< tt,
       (
@@ -80,7 +80,7 @@ returns-clause-sizes c =
 pub splice-requires-2 : goal.splice-requires-2
 splice-requires-2 c =
     let xs = Under ∷ Above ∷ [] in
-    let many = room_long xs xs (1 - c.from-left.result) (1 + c.from-right.result) (c.from-left.result + c.from-right.result) refl
+    let many = room-long xs xs (1 - c.from-left.result) (1 + c.from-right.result) (c.from-left.result + c.from-right.result) refl
     (omega (arith, c.from-right.ensures, c.min-2.ensures)) (omega (arith, c.from-left.ensures, c.min.ensures)) in (
       lit< tt,
       (

@@ -1,7 +1,7 @@
 use Rattle.std.proofs.Common.{List, ap, arith, length, ℕ, ◌++◌, ◌+◌, ◌∙◌, ◌≤◌}
 use Rattle.std.proofs.lemmas.List.{length-append, length-take-le}
+use Rattle.bk_laws.proofs.ListParts.{splice-from_cut}
 use Rattle.bk_word.proofs.PlayLists.{numbers-length}
-use Rattle.bk_play.proofs.CutSpliced.{cut_spliced}
 use Rattle.bk_play.proofs.small.hang.Goals as goal
 
 pub append-requires-2 : goal.append-requires-2
@@ -21,6 +21,6 @@ append-requires-2 c =
     (omega arith, (omega arith, long))
 
 pub returns : goal.returns
-returns c = cut_spliced c.args.ends.now.items c.truncate.new.self.items _ c.append.new.self.items c.part-behind.result.items c.append-2.new.self.items
+returns c = splice-from_cut c.args.ends.now.items c.truncate.new.self.items _ c.append.new.self.items c.part-behind.result.items c.append-2.new.self.items
     c.args.start c.args.end c.len.result c.len.ensures.value c.part-behind.ensures c.truncate.ensures
     (c.append.ensures ∙ ap (λ (l : List ℕ). c.truncate.new.self.items ++ l) c.numbers.ensures) c.append-2.ensures

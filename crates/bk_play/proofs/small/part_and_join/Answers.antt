@@ -1,11 +1,11 @@
 use Rattle.std.proofs.Common.{List, ap, arith, filter, length, lit<, max, slice_range, take, ℕ, ◌++◌, ◌+◌, ◌-◌, ◌<◌, ◌∙◌, ◌≡◌, ◌≤◌}
 use Rattle.std.proofs.lemmas.List.Sums.{length-filter}
 use Rattle.std.proofs.lemmas.List.{length-append, length-take-le}
+use Rattle.bk_laws.proofs.ListParts.{splice-from_cut}
 use Rattle.bk_word.specs.Play.{parts}
 use Rattle.bk_word.specs.declared.Sign.{Sign}
-use Rattle.bk_play.proofs.CutSpliced.{cut_spliced}
 use Rattle.bk_play.proofs.PlayedFlat.{sizes_after_many}
-use Rattle.bk_play.specs.Skeleton.{first_touched, joined_sizes, open_sides, sizes_after}
+use Rattle.bk_play.specs.Skeleton.{first_touched, joined_sizes, open_sides_of_record, sizes_after}
 use Rattle.bk_play.proofs.small.part_and_join.Goals as goal
 
 -- where the touched segments end, there is room behind them
@@ -13,7 +13,7 @@ sizes_parted : (start sides p q len n : ℕ) → p ≡ start → q ≡ sides →
     → (p + q + 1 ≤ len) × ((len ≤ n) × ((len - (p + q + 1) ≤ 16) × (p + q + 1 + 16 ≤ 32)))
 sizes_parted start sides p q len n e f g within few = (omega arith, (omega arith, (omega arith, omega arith)))
 
--- and so it is with the signs between them
+-- where the touched segments end, there is room behind the signs between them
 signs_parted : (start sides p q len n : ℕ) → p ≡ start → q ≡ sides → len ≡ n → start + sides ≤ n → n ≤ 16
     → (p + q ≤ len) × ((len ≤ n) × ((len - (p + q) ≤ 16) × (p + q + 16 ≤ 32)))
 signs_parted start sides p q len n e f g within few = (omega arith, (omega arith, (omega arith, omega arith)))
@@ -72,9 +72,9 @@ append-requires-2 c =
 
 pub returns-clause-sizes : goal.returns-clause-sizes
 returns-clause-sizes c =
-    cut_spliced c.args.sizes.now.items c.truncate.new.self.items (sizes_after c.args.turn.now c.args.moved.now) c.push_parted.new.sizes.items
+    splice-from_cut c.args.sizes.now.items c.truncate.new.self.items (sizes_after c.args.turn.now c.args.moved.now) c.push_parted.new.sizes.items
     c.part-sizes_behind.result.items c.append.new.self.items (first_touched c.args.turn.now)
-    (first_touched c.args.turn.now + (open_sides c.args.turn.now + 1)) c.len.result c.len.ensures.value
+    (first_touched c.args.turn.now + (open_sides_of_record c.args.turn.now + 1)) c.len.result c.len.ensures.value
     (c.part-sizes_behind.ensures ∙ ap (λ n. slice_range c.args.sizes.now.items n c.len.result)
     (omega (arith, c.first_touched-start.ensures, c.open_sides.ensures)))
     (c.truncate.ensures ∙ ap (λ n. take n c.args.sizes.now.items) c.first_touched-start.ensures)
@@ -83,9 +83,9 @@ returns-clause-sizes c =
 
 pub returns-clause-signs : goal.returns-clause-signs
 returns-clause-signs c =
-    cut_spliced c.args.signs.now.items c.truncate-2.new.self.items (filter parts c.args.moved.now) c.push_parted.new.signs.items
+    splice-from_cut c.args.signs.now.items c.truncate-2.new.self.items (filter parts c.args.moved.now) c.push_parted.new.signs.items
     c.part-signs_behind.result.items c.append-2.new.self.items (first_touched c.args.turn.now)
-    (first_touched c.args.turn.now + open_sides c.args.turn.now) c.len-2.result c.len-2.ensures.value
+    (first_touched c.args.turn.now + open_sides_of_record c.args.turn.now) c.len-2.result c.len-2.ensures.value
     (c.part-signs_behind.ensures ∙ ap (λ n. slice_range c.args.signs.now.items n c.len-2.result)
     (omega (arith, c.first_touched-start.ensures, c.open_sides.ensures)))
     (c.truncate-2.ensures ∙ ap (λ n. take n c.args.signs.now.items) c.first_touched-start.ensures)

@@ -1,5 +1,5 @@
 use Rattle.std.proofs.Common.{ap, arith, drop, length, refl, ◌+◌, ◌-◌, ◌≤◌}
-use Rattle.bk_play.proofs.Rooms.{room_before, room_behind, room_is, room_length}
+use Rattle.bk_laws.proofs.Rooms.{room-before, room-behind, room-length, room-made}
 use Rattle.bk_play.proofs.splicing.make_room.Goals as goal
 
 pub len-len-requires : goal.len-len-requires
@@ -30,8 +30,8 @@ returns-clause-long g c =
     let long : length c.args.list.now.items ≤ length c.lengthen.new.list.items = omega (arith, c.lengthen.ensures.long) in
     let fits : c.args.start + c.args.room + (c.len-len.result - c.args.end) ≤ length c.lengthen.new.list.items =
     omega (arith, c.lengthen.ensures.long, c.saturating_sub.ensures, c.len-len.ensures.value, c.requires.order, c.requires.within) in
-    room_length c.args.list.now.items c.lengthen.new.list.items c.truncate.new.self.items c.args.start c.args.end c.args.room c.len-len.result
-    c.requires.order c.requires.within c.len-len.ensures.value long fits (room_is c.args.list.now.items c.lengthen.new.list.items c.deref_mut.result.now
+    room-length c.args.list.now.items c.lengthen.new.list.items c.truncate.new.self.items c.args.start c.args.end c.args.room c.len-len.result
+    c.requires.order c.requires.within c.len-len.ensures.value long fits (room-made c.args.list.now.items c.lengthen.new.list.items c.deref_mut.result.now
     c.copy_within.new.self c.truncate.new.self.items c.args.start c.args.end c.args.room c.len-len.result c.requires.order c.requires.within
     c.len-len.ensures.value long fits c.deref_mut.ensures.value c.copy_within.ensures.len c.copy_within.ensures.after c.truncate.ensures.items)
 
@@ -40,8 +40,8 @@ returns-clause-front g c =
     let long : length c.args.list.now.items ≤ length c.lengthen.new.list.items = omega (arith, c.lengthen.ensures.long) in
     let fits : c.args.start + c.args.room + (c.len-len.result - c.args.end) ≤ length c.lengthen.new.list.items =
     omega (arith, c.lengthen.ensures.long, c.saturating_sub.ensures, c.len-len.ensures.value, c.requires.order, c.requires.within) in
-    room_before c.args.list.now.items c.lengthen.new.list.items c.truncate.new.self.items c.args.start c.args.end c.args.room c.len-len.result
-    c.requires.order c.requires.within fits c.lengthen.ensures.front (room_is c.args.list.now.items c.lengthen.new.list.items c.deref_mut.result.now
+    room-before c.args.list.now.items c.lengthen.new.list.items c.truncate.new.self.items c.args.start c.args.end c.args.room c.len-len.result
+    c.requires.order c.requires.within fits c.lengthen.ensures.front (room-made c.args.list.now.items c.lengthen.new.list.items c.deref_mut.result.now
     c.copy_within.new.self c.truncate.new.self.items c.args.start c.args.end c.args.room c.len-len.result c.requires.order c.requires.within
     c.len-len.ensures.value long fits c.deref_mut.ensures.value c.copy_within.ensures.len c.copy_within.ensures.after c.truncate.ensures.items)
 
@@ -50,8 +50,8 @@ returns-clause-back g c =
     let long : length c.args.list.now.items ≤ length c.lengthen.new.list.items = omega (arith, c.lengthen.ensures.long) in
     let fits : c.args.start + c.args.room + (c.len-len.result - c.args.end) ≤ length c.lengthen.new.list.items =
     omega (arith, c.lengthen.ensures.long, c.saturating_sub.ensures, c.len-len.ensures.value, c.requires.order, c.requires.within) in
-    room_behind c.args.list.now.items c.lengthen.new.list.items c.truncate.new.self.items c.args.start c.args.end c.args.room c.len-len.result
-    c.requires.order c.requires.within c.len-len.ensures.value fits c.lengthen.ensures.front (room_is c.args.list.now.items c.lengthen.new.list.items
+    room-behind c.args.list.now.items c.lengthen.new.list.items c.truncate.new.self.items c.args.start c.args.end c.args.room c.len-len.result
+    c.requires.order c.requires.within c.len-len.ensures.value fits c.lengthen.ensures.front (room-made c.args.list.now.items c.lengthen.new.list.items
     c.deref_mut.result.now c.copy_within.new.self c.truncate.new.self.items c.args.start c.args.end c.args.room c.len-len.result c.requires.order
     c.requires.within c.len-len.ensures.value long fits c.deref_mut.ensures.value c.copy_within.ensures.len c.copy_within.ensures.after
     c.truncate.ensures.items)

@@ -2,7 +2,7 @@ use Rattle.std.proofs.Common.{ap, arith, drop, length, ℕ, ◌*◌, ◌+◌, �
 use Rattle.std.proofs.lemmas.List.{length-drop, length-take-le}
 use Rattle.std.specs.List.{splice}
 use Rattle.std.proofs.lemmas.Nat.{mul-le}
-use Rattle.bk_play.proofs.Rooms.{put_in}
+use Rattle.bk_laws.proofs.Rooms.{room-filled}
 use Rattle.bk_play.proofs.splicing.splice.Goals as goal
 
 -- a part of a list begins within the address space
@@ -17,7 +17,7 @@ offset_bounds-deref_mut-start g c =
 
 pub returns : goal.returns
 returns g c =
-    put_in c.args.list.now.items c.make_room.new.list.items c.deref_mut.result.now c.copy_from_slice.new.self c.args.start c.args.end
+    room-filled c.args.list.now.items c.make_room.new.list.items c.deref_mut.result.now c.copy_from_slice.new.self c.args.start c.args.end
     (length c.args.items.now) _ c.requires.order c.requires.within c.make_room.ensures.long c.make_room.ensures.front c.make_room.ensures.back
     c.deref_mut.ensures.value (omega arith) c.copy_from_slice.ensures.len
     ∙ ap (splice c.args.list.now.items c.args.start c.args.end) c.copy_from_slice.ensures.after

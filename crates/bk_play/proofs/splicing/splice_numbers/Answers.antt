@@ -1,14 +1,14 @@
 use Rattle.std.proofs.Common.{ap, arith, length, refl, ◌+◌, ◌∙◌}
 use Rattle.std.specs.List.{splice}
-use Rattle.bk_play.proofs.Rooms.{put_in, room_long}
+use Rattle.bk_laws.proofs.Rooms.{room-filled, room-long}
 use Rattle.bk_word.specs.Play.{numbers_from}
 use Rattle.bk_play.proofs.splicing.splice_numbers.Goals as goal
 
 pub returns : goal.returns
 returns g c =
-    let many = room_long c.deref_mut.result.now c.make_room.new.list.items c.args.start (c.args.start + c.from-room.result) c.from-room.result
+    let many = room-long c.deref_mut.result.now c.make_room.new.list.items c.args.start (c.args.start + c.from-room.result) c.from-room.result
     c.deref_mut.ensures.value (omega (arith, c.make_room.ensures.long, c.requires.order, c.requires.within)) refl in
-    put_in c.args.list.now.items c.make_room.new.list.items c.deref_mut.result.now c.put_numbers.new.room c.args.start c.args.end
+    room-filled c.args.list.now.items c.make_room.new.list.items c.deref_mut.result.now c.put_numbers.new.room c.args.start c.args.end
     c.from-room.result _ c.requires.order c.requires.within c.make_room.ensures.long c.make_room.ensures.front c.make_room.ensures.back
     c.deref_mut.ensures.value (omega arith) c.put_numbers.auto.room
     ∙ ap (splice c.args.list.now.items c.args.start c.args.end) (c.put_numbers.ensures ∙ ap (numbers_from c.args.first) (many ∙ c.from-room.ensures))
@@ -33,6 +33,6 @@ slice_bounds-put_numbers-end g c = omega (arith, ap length c.deref_mut.ensures.v
 
 pub put_numbers-requires : goal.put_numbers-requires
 put_numbers-requires g c =
-    let many = room_long c.deref_mut.result.now c.make_room.new.list.items c.args.start (c.args.start + c.from-room.result) c.from-room.result
+    let many = room-long c.deref_mut.result.now c.make_room.new.list.items c.args.start (c.args.start + c.from-room.result) c.from-room.result
     c.deref_mut.ensures.value (omega (arith, c.make_room.ensures.long, c.requires.order, c.requires.within)) refl in
     omega (arith, many, c.from-room.ensures, c.requires.small)

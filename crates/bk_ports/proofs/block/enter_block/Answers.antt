@@ -1,9 +1,9 @@
 use Rattle.std.proofs.Common.{◌+◌, ◌∙◌, List, ℕ, length, sym, ap, arith, le_refl, Bool, Err, [], add-zero, refl, subst}
 use Rattle.std.proofs.lemmas.List.{take_rest, length-drop, length-take-le}
 use Rattle.std.proofs.lemmas.Result.{err_from_is_err_and}
+use Rattle.bk_laws.proofs.Bytes.{appends-nothing}
 use Rattle.bk_ports.specs.Answered.{CountFits}
 use Rattle.bk_ports.specs.Lines.{kept_front}
-use Rattle.bk_ports.proofs.OneLine.{none_appends}
 use Rattle.bk_ports.proofs.Blocks.{count_all, first_feed, no_feed, read_more, read_all, open_all, read_stopped}
 use Rattle.bk_ports.proofs.block.enter_block.Goals as goal
 
@@ -133,7 +133,7 @@ lines-init g c = record {
     lines = refl;
     open_is = refl;
     count = sym (add-zero c.args.kept.now.number);
-    entered = record { replies = []; each = refl; written = none_appends (g.O.Sink.written c.args.out.now); any = refl };
+    entered = record { replies = []; each = refl; written = appends-nothing (g.O.Sink.written c.args.out.now); any = refl };
   };
   shorter = le_refl (c.args.kept.now.number + length c.args.block.now);
   is_ready = c.requires.ready;

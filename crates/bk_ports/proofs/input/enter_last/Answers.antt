@@ -1,11 +1,12 @@
 use Rattle.std.proofs.Common.{lit<, refl, sym, ◌∙◌}
+use Rattle.bk_laws.proofs.ListParts.{length-positive_of_test}
 use Rattle.bk_ports.proofs.Fronts.{front-whole}
-use Rattle.bk_ports.proofs.OneLine.{last_entered, last_stopped, not_none}
+use Rattle.bk_ports.proofs.OneLine.{last_entered, last_stopped}
 use Rattle.bk_ports.proofs.input.enter_last.Goals as goal
 
 pub returns-clause-entered : goal.returns-clause-entered
 returns-clause-entered g c =
-    let some = not_none c.args.kept.now.front.items (sym c.is_empty.ensures ∙ c.if-is_empty.false) in
+    let some = length-positive_of_test c.args.kept.now.front.items (sym c.is_empty.ensures ∙ c.if-is_empty.false) in
     last_entered (record { enters = g.R.Register.enters; may_want = g.R.Register.may_want }) c.args.register.now c.args.kept.now.number
     c.args.kept.now.front.items c.deref.result.now _ _ some
     (front-whole c.args.kept.now.front.items c.deref.result.now c.deref.ensures.0 c.deref.ensures.1) c.enter_line.new.register c.enter_line.result
@@ -13,7 +14,7 @@ returns-clause-entered g c =
 
 pub returns-clause-stopped : goal.returns-clause-stopped
 returns-clause-stopped g c =
-    let some = not_none c.args.kept.now.front.items (sym c.is_empty.ensures ∙ c.if-is_empty.false) in
+    let some = length-positive_of_test c.args.kept.now.front.items (sym c.is_empty.ensures ∙ c.if-is_empty.false) in
     last_stopped (record { enters = g.R.Register.enters; may_want = g.R.Register.may_want }) c.args.register.now c.args.kept.now.number
     c.args.kept.now.front.items c.deref.result.now _ _ some
     (front-whole c.args.kept.now.front.items c.deref.result.now c.deref.ensures.0 c.deref.ensures.1) c.enter_line.result c.enter_line.ensures.stopped

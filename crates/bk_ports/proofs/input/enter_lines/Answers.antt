@@ -2,6 +2,7 @@ use Rattle.std.proofs.Common.{Bool, Err, List, None, Option, Some, [], arith, fa
 use Rattle.std.proofs.Common.{◌≡◌}
 use Rattle.std.proofs.lemmas.List.{length-take-le}
 use Rattle.std.specs.Io.KnownBytes.{Consumes}
+use Rattle.bk_laws.proofs.Bytes.{appends-nothing, consumes-nothing}
 use Rattle.bk_ports.specs.Causes.{Rose}
 use Rattle.bk_ports.specs.Answered.{CountFits}
 use Rattle.bk_ports.specs.Ending.{ended_of, verdict_of}
@@ -11,8 +12,7 @@ use Rattle.bk_ports.specs.declared.Ended.TheVariants.{TooMany}
 use Rattle.bk_ports.specs.declared.line.Stop.{Stop}
 use Rattle.bk_ports.specs.declared.line.Stop.TheVariants.{NoMemory, WriteFailed}
 use Rattle.bk_ports.proofs.CountedFaults.{calm_is_done}
-use Rattle.bk_ports.proofs.OneLine.{none_appends}
-use Rattle.bk_ports.proofs.Taking.{ends_all, ends_block, ends_last, ends_more, ends_verdict, read_nothing, taken_more}
+use Rattle.bk_ports.proofs.Taking.{ends_all, ends_block, ends_last, ends_more, ends_verdict, taken_more}
 use Rattle.bk_ports.proofs.input.enter_lines.Goals as goal
 
 -- what the counts tell of a run that stops at a line, and of one that enters all lines
@@ -51,7 +51,7 @@ returns-in-Ok-enter_last-clause-ending g c =
     (g.S.Source.left c.args.source.now) (g.S.Source.left c.reads.source) (g.S.Source.left c.read_block.new.source) (g.O.Sink.written c.args.out.now)
     (g.O.Sink.written c.reads.out) (g.O.Sink.written c.enter_last.new.out)
     c.reads.taken c.reads.kept.front.items c.reads.kept.number c.reads.refused c.reads.invariant.state c.in-Ok-enter_last.is_refused c.enter_last.new.register
-    (read_nothing _ _ c.read_block.new.block c.in-Ok.count c.if-count-eq0.true c.in-Ok.ensures.bytes.0)
+    (consumes-nothing _ _ c.read_block.new.block c.in-Ok.count c.if-count-eq0.true c.in-Ok.ensures.bytes.0)
     (c.in-Ok.ensures.bytes.1 c.if-count-eq0.true (omega (arith, c.read_block.array_long))) c.reads.invariant.within c.in-Ok-enter_last.ensures.entered)
 
 pub returns-in-Err-clause-ending : goal.returns-in-Err-clause-ending
@@ -60,7 +60,7 @@ returns-in-Err-clause-ending g c =
     (g.S.Source.left c.args.source.now) (g.S.Source.left c.reads.source) (g.S.Source.left c.read_block.new.source) (g.O.Sink.written c.args.out.now)
     (g.O.Sink.written c.reads.out) (g.O.Sink.written c.enter_last.new.out)
     c.reads.taken c.reads.kept.front.items c.reads.kept.number c.reads.refused c.reads.invariant.state c.in-Err.stop c.ended.result c.ended.ensures
-    (read_nothing _ _ c.read_block.new.block c.in-Ok.count c.if-count-eq0.true c.in-Ok.ensures.bytes.0)
+    (consumes-nothing _ _ c.read_block.new.block c.in-Ok.count c.if-count-eq0.true c.in-Ok.ensures.bytes.0)
     (c.in-Ok.ensures.bytes.1 c.if-count-eq0.true (omega (arith, c.read_block.array_long))) c.reads.invariant.within c.in-Err.ensures.stopped
 
 pub returns-then-taken-eq-MOST_BYTES-clause-ending : goal.returns-then-taken-eq-MOST_BYTES-clause-ending
@@ -205,7 +205,7 @@ reads-init g c = record {
     size = refl;
     front = c.new.ensures;
     numbered = refl;
-    entered = record { replies = []; each = refl; written = none_appends (g.O.Sink.written c.args.out.now); any = refl };
+    entered = record { replies = []; each = refl; written = appends-nothing (g.O.Sink.written c.args.out.now); any = refl };
   };
   within = zero-le;
   early = le_refl 1;

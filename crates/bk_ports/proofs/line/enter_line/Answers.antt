@@ -1,7 +1,7 @@
 use Rattle.std.proofs.Common.{[], List, ℕ, false, length, refl, subst, sym}
 use Rattle.std.proofs.lemmas.Bool.{eqb-true}
 use Rattle.std.proofs.lemmas.List.{nil_from_length}
-use Rattle.bk_ports.proofs.OneLine.{none_appends}
+use Rattle.bk_laws.proofs.Bytes.{appends-nothing}
 use Rattle.bk_ports.proofs.line.enter_line.Goals as goal
 
 pub returns-in-Err-clause-entered : goal.returns-in-Err-clause-entered
@@ -60,7 +60,7 @@ returns-then-is_empty-clause-entered g c =
       answer =
           subst (λ (l : List ℕ). g.R.Register.enters c.args.register.now c.args.number l [] false c.args.register.now)
           (sym none) (g.met.R.Register.empty_line c.args.register.now c.args.number);
-      written = none_appends (g.O.Sink.written c.args.out.now);
+      written = appends-nothing (g.O.Sink.written c.args.out.now);
     }
 
 pub returns-then-is_empty-clause-stopped : goal.returns-then-is_empty-clause-stopped

@@ -1,9 +1,8 @@
 use Rattle.std.proofs.lemmas.Grind.{common_steps}
 use Rattle.std.proofs.Common.{List, None, Option, Some, arith, rules, sym, ℕ, [], ◌+◌, ◌∙◌}
-use Rattle.std.proofs.lemmas.Bool.{false≢true}
 use Rattle.std.proofs.lemmas.List.{append-nil, take_rest}
 use Rattle.std.specs.Io.KnownBytes.{Appends, Keeps}
-use Rattle.bk_ports.proofs.KnownSteps.{appends_part}
+use Rattle.bk_laws.proofs.Bytes.{appends-next_part}
 use Rattle.bk_ports.proofs.standard.write_each.Goals as goal
 
 -- bytes that were taken stay where the writer keeps them
@@ -21,7 +20,7 @@ none_more (Some bytes) = sym (append-nil bytes)
 pub loop-done-preserved : goal.loop-done-preserved
 loop-done-preserved g c = record {
   within = search rules;
-  taken = appends_part _ _ _ c.args.bytes.now c.loop-done.done c.in-Ok.count c.loop-done.invariant.taken
+  taken = appends-next_part _ _ _ c.args.bytes.now c.loop-done.done c.in-Ok.count c.loop-done.invariant.taken
       (rw (take_rest c.args.bytes.now c.loop-done.done) at c.in-Ok.ensures.bytes);
 }
 
@@ -40,12 +39,9 @@ slice_bounds-write-count g c = c.loop-done.invariant.within
 pub returns-in-Ok-eq0-clause-prefix : goal.returns-in-Ok-eq0-clause-prefix
 returns-in-Ok-eq0-clause-prefix g c = (
   c.loop-done.done + c.in-Ok-eq0.field-0,
-  appends_part _ _ _ c.args.bytes.now c.loop-done.done c.in-Ok-eq0.field-0 c.loop-done.invariant.taken
+  appends-next_part _ _ _ c.args.bytes.now c.loop-done.done c.in-Ok-eq0.field-0 c.loop-done.invariant.taken
       (rw (take_rest c.args.bytes.now c.loop-done.done) at c.in-Ok-eq0.ensures.bytes),
 )
-
-pub returns-in-Err-clause-ok : goal.returns-in-Err-clause-ok
-returns-in-Err-clause-ok g c e = absurd (false≢true e)
 
 pub returns-in-Err-clause-prefix : goal.returns-in-Err-clause-prefix
 returns-in-Err-clause-prefix g c = (
@@ -57,6 +53,6 @@ returns-in-Err-clause-prefix g c = (
 pub returns-clause-prefix : goal.returns-clause-prefix
 returns-clause-prefix g c = (
   c.loop-done.done,
-  kept_after (g.W.Write.contents c.args.writer.now) (g.W.Write.contents c.loop-done.writer) (g.W.Write.contents c.flush.new.self) _
-      c.loop-done.invariant.taken c.flush.ensures.bytes,
+  kept_after (g.W.Write.contents c.args.writer.now) (g.W.Write.contents c.loop-done.writer) (g.W.Write.contents c.flush.new.writer) _
+      c.loop-done.invariant.taken c.flush.ensures,
 )

@@ -3,7 +3,7 @@ use Rattle.std.proofs.Common.{List, ap, arith, le_refl, length, refl, sum, sym, 
 use Rattle.std.proofs.lemmas.List.{take_all}
 use Rattle.std.proofs.lemmas.List.Sums.{sum_by_more}
 use Rattle.std.proofs.lemmas.List.Elements.{All-from_recursion}
-use Rattle.bk_tiling.specs.Kept.{IsSide}
+use Rattle.bk_tiling.specs.KeptTiling.{IsSide}
 use Rattle.bk_profile.proofs.Division.{falls_short, reaches}
 use Rattle.bk_profile.proofs.dividing.group_len.Goals as goal
 

@@ -1,7 +1,8 @@
 use Rattle.std.proofs.Common.{Err, List, Ok, [], ap, arith, false, length, length-append, refl, subst, sym, ℕ, ◌+◌, ◌<◌, ◌==◌, ◌∷◌, ◌≡◌}
+use Rattle.bk_laws.proofs.ListParts.{empty-of_length_test}
 use Rattle.bk_code.specs.Code.{flat}
 use Rattle.bk_profile.proofs.Division.{flat_refused_has_none}
-use Rattle.bk_profile.proofs.FlatTurns.{Dividing, ends_ok, ends_only, ends_refused, group_good, group_room, misfit_turn, next_turn, none_left, numbers}
+use Rattle.bk_profile.proofs.FlatTurns.{Dividing, ends_ok, ends_only, ends_refused, group_good, group_room, misfit_turn, next_turn, numbers}
 use Rattle.bk_profile.proofs.FlatTurns.{last_turn, next_group_is, rest_good, too_wide}
 use Rattle.bk_profile.specs.Laid.{Laid}
 use Rattle.bk_profile.specs.declared.laying.Refusal.TheVariants.{Gap}
@@ -74,26 +75,27 @@ loop-rest-preserved c =
 
 pub returns-in-Ok-clause-ok : goal.returns-in-Ok-clause-ok
 returns-in-Ok-clause-ok c = ends_ok c.args.width c.args.sides.now c.loop-rest.group c.loop-rest.profile c.loop-rest.rest.now c.loop-rest.invariant
-    c.requires.few c.requires.some (none_left c.loop-rest.rest.now c.is_empty.result c.is_empty.ensures c.loop-rest-test.false)
+    c.requires.few c.requires.some (empty-of_length_test c.loop-rest.rest.now c.is_empty.result c.is_empty.ensures c.loop-rest-test.false)
     (Ok c.leave_tiling.new.tiling) c.leave_tiling.ensures
 
 pub returns-in-Ok-clause-only : goal.returns-in-Ok-clause-only
 returns-in-Ok-clause-only c t has = (
   refl,
   ends_only c.args.width c.args.sides.now c.loop-rest.group c.loop-rest.profile c.loop-rest.rest.now c.loop-rest.invariant c.requires.few
-      c.requires.some (none_left c.loop-rest.rest.now c.is_empty.result c.is_empty.ensures c.loop-rest-test.false) (Ok c.leave_tiling.new.tiling)
+      c.requires.some (empty-of_length_test c.loop-rest.rest.now c.is_empty.result c.is_empty.ensures c.loop-rest-test.false) (Ok c.leave_tiling.new.tiling)
       c.leave_tiling.ensures tt t has,
 )
 
 pub returns-in-Err-even_height-clause-refused : goal.returns-in-Err-even_height-clause-refused
 returns-in-Err-even_height-clause-refused c = ends_refused c.args.width c.args.sides.now c.loop-rest.group c.loop-rest.profile c.loop-rest.rest.now
-    c.loop-rest.invariant c.requires.few c.requires.some (none_left c.loop-rest.rest.now c.is_empty.result c.is_empty.ensures c.loop-rest-test.false)
+    c.loop-rest.invariant c.requires.few c.requires.some (empty-of_length_test c.loop-rest.rest.now c.is_empty.result c.is_empty.ensures c.loop-rest-test.false)
     (Err c.in-Err-even_height.refusal) c.in-Err-even_height.ensures.uneven
 
 pub returns-in-Err-even_height-clause-only : goal.returns-in-Err-even_height-clause-only
 returns-in-Err-even_height-clause-only c t has =
     absurd (ends_only c.args.width c.args.sides.now c.loop-rest.group c.loop-rest.profile c.loop-rest.rest.now c.loop-rest.invariant c.requires.few
-    c.requires.some (none_left c.loop-rest.rest.now c.is_empty.result c.is_empty.ensures c.loop-rest-test.false) (Err c.in-Err-even_height.refusal) tt
+    c.requires.some (empty-of_length_test c.loop-rest.rest.now c.is_empty.result c.is_empty.ensures c.loop-rest-test.false) (Err c.in-Err-even_height.refusal)
+    tt
     c.in-Err-even_height.ensures.uneven t has)
 
 pub sum_of-requires-clause-few : goal.sum_of-requires-clause-few
@@ -141,7 +143,16 @@ loop-rest-smaller c =
 pub even_height-requires : goal.even_height-requires
 even_height-requires c =
     last_turn c.args.width c.args.sides.now c.loop-rest.group c.loop-rest.profile c.loop-rest.rest.now c.loop-rest.invariant c.requires.few
-    c.requires.some (none_left c.loop-rest.rest.now c.is_empty.result c.is_empty.ensures c.loop-rest-test.false)
+    c.requires.some (empty-of_length_test c.loop-rest.rest.now c.is_empty.result c.is_empty.ensures c.loop-rest-test.false)
 
 pub leave_tiling-requires : goal.leave_tiling-requires
 leave_tiling-requires c = c.in-Ok.ensures.even
+
+pub returns-then-width-gt-WIDEST-clause-same : goal.returns-then-width-gt-WIDEST-clause-same
+returns-then-width-gt-WIDEST-clause-same c = refl
+
+pub returns-in-Err-clause-same : goal.returns-in-Err-clause-same
+returns-in-Err-clause-same c = refl
+
+pub returns-in-Err-even_height-clause-same : goal.returns-in-Err-even_height-clause-same
+returns-in-Err-even_height-clause-same c = refl

@@ -1,8 +1,8 @@
 use Rattle.std.proofs.Common.{Err, List, Ok, [], arith, length, refl, subst, sym, ℕ, ◌+◌, ◌<◌, ◌≡◌}
 use Rattle.std.proofs.lemmas.List.Elements.{All-from_recursion}
 use Rattle.std.specs.List.{AllByRecursion}
-use Rattle.bk_code.specs.Kept.{IsSideGroup}
-use Rattle.bk_tiling.specs.Kept.{IsSide}
+use Rattle.bk_code.specs.KeptCode.{IsSideGroup}
+use Rattle.bk_tiling.specs.KeptTiling.{IsSide}
 use Rattle.bk_profile.proofs.CodeLaid.{width_bounds}
 use Rattle.bk_profile.proofs.Turns.{Turn, ends_ok, ends_only, first_read, last_turn, misfit_turn, next_turn, open_refused, read_room, refused_has_none}
 use Rattle.bk_profile.specs.Refused.{Misfits, first_sum}
@@ -108,3 +108,9 @@ pub returns-in-Err-even_height-clause-refused : goal.returns-in-Err-even_height-
 returns-in-Err-even_height-clause-refused c =
     open_refused c.args.code.now c.loop-g.g c.loop-g.profile c.groups-count.ensures.kept c.requires c.loop-g.invariant
     (omega (arith, c.loop-g-test.false, c.groups-count.ensures.value)) c.in-Err-even_height.refusal c.in-Err-even_height.ensures.uneven
+
+pub returns-in-Err-clause-same : goal.returns-in-Err-clause-same
+returns-in-Err-clause-same c = refl
+
+pub returns-in-Err-even_height-clause-same : goal.returns-in-Err-even_height-clause-same
+returns-in-Err-even_height-clause-same c = refl

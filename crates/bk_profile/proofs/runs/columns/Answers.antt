@@ -1,5 +1,5 @@
 use Rattle.std.proofs.Common.{ap, arith, get_or, refl, sym, take_all, ◌+◌, ◌∙◌}
-use Rattle.bk_profile.specs.Outline.{width_of}
+use Rattle.bk_profile.specs.OutlineRuns.{width_of}
 use Rattle.bk_profile.proofs.RunStarts.{no_run, start_below, start_more}
 use Rattle.bk_profile.proofs.runs.columns.Goals as goal
 

@@ -1,5 +1,5 @@
 use Rattle.std.proofs.Common.{take, ◌≡◌}
-use Rattle.bk_profile.specs.Outline.{width_of}
+use Rattle.bk_profile.specs.OutlineRuns.{width_of}
 use Rattle.bk_profile.proofs.runs.columns.Given as goal
 
 abbrev pub invariant-loop-run : goal.invariant-loop-run

@@ -1,6 +1,6 @@
 use Rattle.std.proofs.lemmas.Grind.{common_steps}
 use Rattle.std.proofs.Common.{arith, le_antisymm, subst}
-use Rattle.bk_profile.specs.Outline.{IsLowest}
+use Rattle.bk_profile.specs.OutlineRuns.{IsLowest}
 use Rattle.bk_profile.proofs.runs.lowest.Goals as goal
 
 pub loop-i-preserved : goal.loop-i-preserved

@@ -1,4 +1,4 @@
-use Rattle.bk_profile.specs.Outline.{IsLowest}
+use Rattle.bk_profile.specs.OutlineRuns.{IsLowest}
 use Rattle.bk_profile.proofs.runs.lowest.Given as goal
 
 abbrev pub invariant-loop-i : goal.invariant-loop-i

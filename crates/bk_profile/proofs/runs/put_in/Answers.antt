@@ -2,39 +2,39 @@ use Rattle.std.proofs.Common.{List, [], add-zero, ap, append-nil, append_assoc, 
 use Rattle.std.proofs.Common.{◌+◌, ◌<◌, ◌∙◌, ◌∷◌, ◌≡◌, ◌≤◌}
 use Rattle.std.proofs.lemmas.List.{drop_at, length-take-le, map-append, take-append-drop, take_all, take_at, take_more}
 use Rattle.bk_profile.proofs.Hanging.{length_under}
-use Rattle.bk_profile.specs.Outline.{run_under, runs_under}
+use Rattle.bk_profile.specs.OutlineRuns.{run_under_side, runs_under_group}
 use Rattle.bk_profile.specs.declared.runs.Run.{Run}
 use Rattle.std.proofs.lemmas.List.Elements.{All-from_recursion}
-use Rattle.bk_tiling.specs.Kept.{IsSide}
+use Rattle.bk_tiling.specs.KeptTiling.{IsSide}
 use Rattle.bk_profile.proofs.runs.put_in.Goals as goal
 
 -- one run more
 put_in_more : (old now new : List Run) (sides : List ℕ) (first i level : ℕ) → first ≤ length old → i < length sides
-    → now ≡ (take first old ++ runs_under level (take i sides)) ++ drop first old
-    → new ≡ insert now (first + i) (run_under level (get_or sides i 0))
-    → new ≡ (take first old ++ runs_under level (take (i + 1) sides)) ++ drop first old
+    → now ≡ (take first old ++ runs_under_group level (take i sides)) ++ drop first old
+    → new ≡ insert now (first + i) (run_under_side level (get_or sides i 0))
+    → new ≡ (take first old ++ runs_under_group level (take (i + 1) sides)) ++ drop first old
 put_in_more old now new sides first i level place more is inserted =
-    let r : Run = run_under level (get_or sides i 0) in
-    let before : List Run = take first old ++ runs_under level (take i sides) in
+    let r : Run = run_under_side level (get_or sides i 0) in
+    let before : List Run = take first old ++ runs_under_group level (take i sides) in
     let size : length before ≡ first + i =
     omega (
       arith,
-      length-append (take first old) (runs_under level (take i sides)),
+      length-append (take first old) (runs_under_group level (take i sides)),
       length-take-le first old place,
       length_under level (take i sides),
       length-take-le i sides (omega (arith, more)),
     ) in
     let left : take (first + i) now ≡ before = ap (take (first + i)) is ∙ take_at before (drop first old) (first + i) size in
     let right : drop (first + i) now ≡ drop first old = ap (drop (first + i)) is ∙ drop_at before (drop first old) (first + i) size in
-    let under : runs_under level (take (i + 1) sides) ≡ runs_under level (take i sides) ++ r ∷ [] = ap (λ l. runs_under level l) (take_more sides i 0 more)
-    ∙ map-append (run_under level) (take i sides) (get_or sides i 0 ∷ []) in
+    let under : runs_under_group level (take (i + 1) sides) ≡ runs_under_group level (take i sides) ++ r ∷ [] = ap (λ l. runs_under_group level l) (take_more sides i 0 more)
+    ∙ map-append (run_under_side level) (take i sides) (get_or sides i 0 ∷ []) in
     inserted ∙ (λ k. left k ++ r ∷ right k) ∙ sym (append_assoc before (r ∷ []) (drop first old))
-    ∙ ap (λ l. l ++ drop first old) (append_assoc (take first old) (runs_under level (take i sides)) (r ∷ []) ∙ ap (λ l. take first old ++ l) (sym under))
+    ∙ ap (λ l. l ++ drop first old) (append_assoc (take first old) (runs_under_group level (take i sides)) (r ∷ []) ∙ ap (λ l. take first old ++ l) (sym under))
 
 pub returns : goal.returns
 returns c =
     c.loop-i.invariant.items
-    ∙ ap (λ (xs : List ℕ). (take c.args.first c.args.outline.now.items ++ runs_under c.args.level xs) ++ drop c.args.first c.args.outline.now.items)
+    ∙ ap (λ (xs : List ℕ). (take c.args.first c.args.outline.now.items ++ runs_under_group c.args.level xs) ++ drop c.args.first c.args.outline.now.items)
     (take_all c.loop-i.i c.args.sides.now c.loop-i-test.false)
 
 pub bounds-sides-i : goal.bounds-sides-i

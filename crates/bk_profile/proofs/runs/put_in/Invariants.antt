@@ -1,9 +1,9 @@
 use Rattle.std.proofs.Common.{drop, length, take, ◌++◌, ◌+◌, ◌≡◌}
-use Rattle.bk_profile.specs.Outline.{runs_under}
+use Rattle.bk_profile.specs.OutlineRuns.{runs_under_group}
 use Rattle.bk_profile.proofs.runs.put_in.Given as goal
 
 abbrev pub invariant-loop-i : goal.invariant-loop-i
 invariant-loop-i l = record {
   count : length l.outline.items ≡ length l.fn.outline.items + l.i;
-  items : l.outline.items ≡ (take l.first l.fn.outline.items ++ runs_under l.level (take l.i l.sides)) ++ drop l.first l.fn.outline.items;
+  items : l.outline.items ≡ (take l.first l.fn.outline.items ++ runs_under_group l.level (take l.i l.sides)) ++ drop l.first l.fn.outline.items;
 }

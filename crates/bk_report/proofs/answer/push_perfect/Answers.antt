@@ -1,7 +1,7 @@
 use Rattle.std.proofs.lemmas.List.{length-append}
 use Rattle.bk_report.specs.Answers.{perfect_text}
 use Rattle.std.specs.Prelude.{codes, decimal}
-use Rattle.std.proofs.Common.{ap, append_assoc, arith, length, sym, ℕ, ◌++◌, ◌+◌, ◌∙◌}
+use Rattle.std.proofs.Common.{ap, append_assoc, arith, length, sym, ℕ, ◌++◌, ◌∙◌}
 use Rattle.bk_report.proofs.answer.push_perfect.Goals as goal
 
 pub push_bytes-requires : goal.push_bytes-requires

@@ -1,7 +1,7 @@
 use Rattle.std.proofs.lemmas.List.{length-append}
 use Rattle.bk_simple.specs.Border.{rectangle_of}
 use Rattle.bk_report.specs.Answers.{simple_text}
-use Rattle.std.proofs.Common.{ap, arith, length, sym, ℕ, ◌++◌, ◌+◌, ◌∙◌}
+use Rattle.std.proofs.Common.{ap, arith, length, sym, ℕ, ◌++◌, ◌∙◌}
 use Rattle.std.specs.Prelude.{decimal, option_map}
 use Rattle.bk_text.specs.CodeText.{size_text}
 use Rattle.bk_report.proofs.Spaces.{compound_pieces}

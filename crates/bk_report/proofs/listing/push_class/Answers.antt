@@ -1,7 +1,7 @@
 use Rattle.bk_report.specs.Listings.{class_words}
 use Rattle.std.proofs.lemmas.List.{append-nil, length-append}
 use Rattle.std.specs.Prelude.{flat_map, ◌∷◌}
-use Rattle.std.proofs.Common.{ap, arith, length, sym, ℕ, ◌++◌, ◌+◌, ◌∙◌}
+use Rattle.std.proofs.Common.{ap, arith, length, sym, ℕ, ◌++◌, ◌∙◌}
 use Rattle.bk_report.proofs.listing.push_class.Goals as goal
 
 pub push_bytes-requires : goal.push_bytes-requires

@@ -1,6 +1,6 @@
 use Rattle.std.proofs.lemmas.List.{length-append}
 use Rattle.bk_report.specs.Listings.{last_name}
-use Rattle.std.proofs.Common.{ap, arith, length, sym, ℕ, ◌++◌, ◌+◌, ◌∙◌}
+use Rattle.std.proofs.Common.{ap, arith, length, sym, ℕ, ◌++◌, ◌∙◌}
 use Rattle.bk_report.proofs.listing.push_name.Goals as goal
 
 pub push_bytes-requires : goal.push_bytes-requires

@@ -2,7 +2,7 @@ use Rattle.std.proofs.lemmas.List.{append-nil, length-append}
 use Rattle.bk_word.specs.WordText.{word_text}
 use Rattle.bk_report.specs.Listings.{wide_words}
 use Rattle.std.specs.Prelude.{codes, flat_map}
-use Rattle.std.proofs.Common.{List, [], ap, append_assoc, arith, length, sym, ℕ, ◌++◌, ◌+◌, ◌∙◌, ◌∷◌, ◌≡◌}
+use Rattle.std.proofs.Common.{List, [], ap, append_assoc, arith, length, sym, ℕ, ◌++◌, ◌∙◌, ◌∷◌, ◌≡◌}
 use Rattle.bk_report.proofs.listing.push_wide.Goals as goal
 
 -- a blank, `at` and a word

@@ -1,6 +1,6 @@
 use Rattle.std.proofs.lemmas.List.{length-append}
 use Rattle.std.specs.Prelude.{codes, decimal}
-use Rattle.std.proofs.Common.{List, [], ap, append_assoc, arith, length, ℕ, ◌++◌, ◌+◌, ◌∷◌, ◌≡◌}
+use Rattle.std.proofs.Common.{List, [], ap, append_assoc, arith, length, ℕ, ◌++◌, ◌∷◌, ◌≡◌}
 use Rattle.bk_report.proofs.net.push_wire.Goals as goal
 
 -- a blank, a node, a dash and a node

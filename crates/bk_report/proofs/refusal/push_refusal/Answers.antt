@@ -1,6 +1,6 @@
 use Rattle.std.proofs.lemmas.List.{length-append}
 use Rattle.bk_report.specs.Refusals.{refusal_text}
-use Rattle.std.proofs.Common.{ap, append_assoc, arith, length, sym, ◌++◌, ◌+◌, ◌∙◌}
+use Rattle.std.proofs.Common.{ap, append_assoc, arith, length, sym, ◌++◌, ◌∙◌}
 use Rattle.std.specs.Prelude.{codes, decimal}
 use Rattle.bk_text.specs.CodeText.{size_text}
 use Rattle.bk_report.proofs.ListPieces.{gap_pieces, open_pieces}

@@ -1,6 +1,6 @@
 use Rattle.std.proofs.lemmas.List.{length-append}
 use Rattle.std.specs.Prelude.{decimal}
-use Rattle.std.proofs.Common.{ap, arith, length, ℕ, ◌++◌, ◌+◌, ◌∙◌}
+use Rattle.std.proofs.Common.{ap, arith, length, ℕ, ◌++◌, ◌∙◌}
 use Rattle.bk_report.proofs.trial.push_named.Goals as goal
 
 pub push_bytes-requires : goal.push_bytes-requires

@@ -1,6 +1,6 @@
 use Rattle.std.proofs.lemmas.Grind.{common_steps}
 use Rattle.std.proofs.Common.{arith, drop, refl, take, ◌+◌, ◌-◌}
-use Rattle.bk_word_net.proofs.LaidOnce.{laid_once}
+use Rattle.bk_word_net.proofs.PlacedSquares.LaidOnce.{laid_once}
 use Rattle.bk_skel.proofs.PlacingLoop.{placed_start}
 use Rattle.bk_skel.proofs.PlacingStep.{end_can, end_is, first_is_there, sides_there, start_as, step_can, step_more, step_none, width_as}
 use Rattle.bk_skel.proofs.placing.place.Goals as goal

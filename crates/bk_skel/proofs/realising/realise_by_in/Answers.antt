@@ -1,4 +1,4 @@
-use Rattle.bk_word_net.proofs.WordTilings.{none_by, realised_by, sides_many}
+use Rattle.bk_word_net.proofs.PlacedSquares.WordTilings.{none_by, realised_by, sides_many}
 use Rattle.bk_skel.proofs.RealisedWord.{small_enough}
 use Rattle.bk_skel.specs.RealisedIn.{tiling_found}
 use Rattle.bk_skel.proofs.realising.realise_by_in.Goals as goal

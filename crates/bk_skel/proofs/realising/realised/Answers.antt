@@ -1,6 +1,6 @@
 use Rattle.std.proofs.Common.{refl}
 use Rattle.std.proofs.lemmas.Bool.{both_ways}
-use Rattle.bk_word_net.proofs.WordTilings.{none_by, realised_by, sides_many}
+use Rattle.bk_word_net.proofs.PlacedSquares.WordTilings.{none_by, realised_by, sides_many}
 use Rattle.bk_skel.proofs.WideWords.{large_by, large_from}
 use Rattle.bk_skel.specs.RealisedIn.{tiling_found}
 use Rattle.bk_skel.proofs.realising.realised.Goals as goal

@@ -1,7 +1,7 @@
 use Rattle.std.proofs.lemmas.Grind.{common_steps}
 use Rattle.std.proofs.Common.{List, ap, arith, length, lit<, map, pos, subst, sym, ℕ}
 use Rattle.std.specs.List.{AllByRecursion}
-use Rattle.bk_tiling.specs.Kept.{IsSide}
+use Rattle.bk_tiling.specs.KeptTiling.{IsSide}
 use Rattle.bk_skel.proofs.realising.sides_of_few.Goals as goal
 
 pub returns-then-current-lt1-clause-none : goal.returns-then-current-lt1-clause-none

@@ -1,6 +1,6 @@
 use Rattle.std.specs.List.{AllByRecursion}
 use Rattle.std.proofs.Common.{length, map, pos, take, ◌≡◌}
-use Rattle.bk_tiling.specs.Kept.{IsSide}
+use Rattle.bk_tiling.specs.KeptTiling.{IsSide}
 use Rattle.bk_skel.proofs.realising.sides_of_few.Given as goal
 
 abbrev pub invariant-loop-current : goal.invariant-loop-current

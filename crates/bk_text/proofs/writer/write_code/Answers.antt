@@ -1,8 +1,8 @@
 use Rattle.std.specs.List.{AllByRecursion}
 use Rattle.std.specs.Prelude.{length, ◌*◌, ◌+◌, ◌≤◌}
 use Rattle.std.proofs.Common.{List, [], ap, append-nil, arith, get_or, subst, suc, sym, take_all, zero, ℕ, ◌++◌, ◌<◌, ◌∙◌, ◌∷◌}
-use Rattle.bk_code.specs.Kept.{IsSideGroup}
-use Rattle.bk_tiling.specs.Kept.{IsSide}
+use Rattle.bk_code.specs.KeptCode.{IsSideGroup}
+use Rattle.bk_tiling.specs.KeptTiling.{IsSide}
 use Rattle.bk_text.specs.CodeText.{code_text}
 use Rattle.bk_text.proofs.Spelling.{room_for_group, short_kept}
 use Rattle.bk_text.proofs.writer.write_code.Goals as goal

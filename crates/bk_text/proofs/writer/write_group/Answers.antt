@@ -4,7 +4,7 @@ use Rattle.std.proofs.Common.{List, [], ap, append-nil, append_assoc, arith, dro
 use Rattle.std.proofs.Common.{flat_map, le_refl, length-drop, zero, ℕ, ◌++◌, ◌+◌, ◌-◌, ◌<◌, ◌∙◌, ◌∷◌, ◌≡◌}
 use Rattle.std.proofs.lemmas.Grind.{flat_map-append}
 use Rattle.std.proofs.lemmas.List.{take_more}
-use Rattle.bk_tiling.specs.Kept.{IsSide}
+use Rattle.bk_tiling.specs.KeptTiling.{IsSide}
 use Rattle.bk_text.proofs.Spelling.{side_text, whole_group}
 use Rattle.bk_text.proofs.writer.write_group.Goals as goal
 

@@ -2,7 +2,7 @@ use Rattle.std.proofs.Common.{ap, arith, refl, sum, ℕ, ◌∙◌}
 use Rattle.std.proofs.lemmas.List.{take_all}
 use Rattle.std.proofs.lemmas.List.Elements.{All-from_recursion}
 use Rattle.std.proofs.lemmas.List.Sums.{sum_by_more}
-use Rattle.bk_tiling.specs.Kept.{IsSide}
+use Rattle.bk_tiling.specs.KeptTiling.{IsSide}
 use Rattle.bk_tiling.proofs.hanging.sum_of.Goals as goal
 
 pub loop-side-init : goal.loop-side-init

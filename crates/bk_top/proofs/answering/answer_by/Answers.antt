@@ -1,17 +1,19 @@
-use Rattle.bk_answer.specs.Plain.{code_command}
-use Rattle.bk_answer.specs.declared.command.Command.TheVariants.{OfCodes}
+use Rattle.std.proofs.Common.{sym}
+use Rattle.bk_answer.specs.declared.command.Command.TheVariants.{Memory, Plain}
 use Rattle.bk_top.proofs.CommandAnswers.{ends_as_named}
 use Rattle.bk_top.proofs.answering.answer_by.Goals as goal
 
-pub returns-in-Some-clause-ending : goal.returns-in-Some-clause-ending
-returns-in-Some-clause-ending g c =
-    ends_as_named c.args.command (OfCodes (code_command c.in-Some.command)) _ c.answer_lines.result c.in-Some.ensures.some c.answer_lines.ensures.ending
+pub returns-in-Plain-clause-ending : goal.returns-in-Plain-clause-ending
+returns-in-Plain-clause-ending g c =
+    ends_as_named c.args.command (Plain c.in-Plain.command) _ c.answer_lines.result (sym c.in-Plain.is) c.answer_lines.ensures.ending
 
-pub returns-in-Some-clause-faults : goal.returns-in-Some-clause-faults
-returns-in-Some-clause-faults g c = c.answer_lines.ensures.faults
+pub returns-in-Plain-clause-faults : goal.returns-in-Plain-clause-faults
+returns-in-Plain-clause-faults g c = c.answer_lines.ensures.faults
 
-pub returns-in-None-clause-ending : goal.returns-in-None-clause-ending
-returns-in-None-clause-ending g c = c.answer_lines-in-None.ensures.ending
+pub returns-in-Memory-clause-ending : goal.returns-in-Memory-clause-ending
+returns-in-Memory-clause-ending g c =
+    ends_as_named c.args.command (Memory c.in-Memory.command) _ c.answer_lines-in-Memory.result (sym c.in-Memory.is)
+    c.answer_lines-in-Memory.ensures.ending
 
-pub returns-in-None-clause-faults : goal.returns-in-None-clause-faults
-returns-in-None-clause-faults g c = c.answer_lines-in-None.ensures.faults
+pub returns-in-Memory-clause-faults : goal.returns-in-Memory-clause-faults
+returns-in-Memory-clause-faults g c = c.answer_lines-in-Memory.ensures.faults

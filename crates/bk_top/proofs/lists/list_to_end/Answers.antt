@@ -1,4 +1,4 @@
-use Rattle.bk_alike.specs.Closing.{listing_of}
+use Rattle.bk_alike.specs.GroupsEnd.{listing_of}
 use Rattle.bk_top.proofs.Statuses.{reads_to_end}
 use Rattle.bk_top.proofs.lists.list_to_end.Goals as goal
 

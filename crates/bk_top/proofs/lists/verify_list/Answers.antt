@@ -1,4 +1,4 @@
-use Rattle.bk_verify_report.specs.Running.{report_of}
+use Rattle.bk_verify_report.specs.VerifyRun.{report_of}
 use Rattle.bk_top.proofs.Statuses.{reads_to_end}
 use Rattle.bk_top.proofs.lists.verify_list.Goals as goal
 

@@ -5,7 +5,8 @@ use Rattle.std.specs.Prelude.{pos, ℤ}
 use Rattle.std.proofs.Common.{Bool, List, get_or, refl, ◌≡◌}
 use Rattle.std.proofs.lemmas.Bool.Decides.{Decides-int_eq, not_from_Decides}
 use Rattle.std.proofs.lemmas.List.Elements.{Decides-contains, contains_decides}
-use Rattle.bk_tree_walk.proofs.UnfitFlows.{alike_from, apart_all, apart_more, number_at}
+use Rattle.bk_laws.proofs.ListPlaces.{slice_get-get_or}
+use Rattle.bk_tree_walk.proofs.UnfitFlows.{alike_from, apart_all, apart_more}
 use Rattle.bk_tree_walk.proofs.judging.has_two_alike.Goals as goal
 
 -- `contains` tells whether the number is one of the list
@@ -15,13 +16,13 @@ told numbers number r answers = Decides-contains numbers number r (contains_deci
 pub returns-then-contains : goal.returns-then-contains
 returns-then-contains c = (
   λ _. alike_from c.args.numbers.now c.loop-i.i (get_or c.args.numbers.now c.loop-i.i (pos 0)) c.loop-i-test.true
-      (number_at c.args.numbers.now c.loop-i.i (pos 0) c.loop-i-test.true) ((told _ _ _ c.contains.ensures.cases).0 c.if-contains.true),
+      (slice_get-get_or c.args.numbers.now c.loop-i.i (pos 0) c.loop-i-test.true) ((told _ _ _ c.contains.ensures.cases).0 c.if-contains.true),
   λ _. refl,
 )
 
 pub loop-i-preserved : goal.loop-i-preserved
 loop-i-preserved c = apart_more c.args.numbers.now c.loop-i.i (get_or c.args.numbers.now c.loop-i.i (pos 0))
-    (number_at c.args.numbers.now c.loop-i.i (pos 0) c.loop-i-test.true) c.loop-i.invariant
+    (slice_get-get_or c.args.numbers.now c.loop-i.i (pos 0) c.loop-i-test.true) c.loop-i.invariant
     (not_from_Decides c.contains.result (told _ _ _ c.contains.ensures.cases) c.if-contains.false)
 
 pub returns : goal.returns

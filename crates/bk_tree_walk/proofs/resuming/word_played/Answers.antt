@@ -1,7 +1,7 @@
 use Rattle.std.proofs.Common.{[], ap, arith, false, sym, true, ◌++◌, ◌∙◌, ◌∷◌, ◌≡◌}
+use Rattle.bk_laws.proofs.ListPlaces.{take-snoc_next}
 use Rattle.bk_word.specs.Word.{order_of}
 use Rattle.bk_tree_walk.proofs.TakingUp.{legal_stands, order_at}
-use Rattle.bk_tree_walk.proofs.Standing.{take_next}
 use Rattle.std.proofs.lemmas.List.{take_all}
 use Rattle.bk_tree_walk.proofs.resuming.word_played.Goals as goal
 
@@ -24,7 +24,7 @@ unreachable-requires c = no (c.in-Err.ensures.inline
 
 pub moves-preserved : goal.moves-preserved
 moves-preserved c = c.in-Ok.ensures.ok ∙ ap (λ l. l ++ c.read_move.new.m ∷ []) c.moves.invariant
-    ∙ sym (take_next c.args.skel.now c.moves.i c.read_move.new.m c.read_move.ensures)
+    ∙ sym (take-snoc_next c.args.skel.now c.moves.i c.read_move.new.m c.read_move.ensures)
 
 pub moves-init : goal.moves-init
 moves-init c = c.new-word.ensures

@@ -1,8 +1,8 @@
 -- What is written by the rest is written by the entries that it was made from.
 use Rattle.std.specs.Prelude.{IfOk, OnErr}
 use Rattle.std.proofs.Common.{ap, subst, ◌∙◌}
-use Rattle.bk_verify_report.specs.Listing.{ClosesReport, IsClosingBegun}
-use Rattle.bk_verify_report.specs.Closing.{kept_of}
+use Rattle.bk_verify_report.specs.MissingLines.{ClosesReport, IsClosingBegun}
+use Rattle.bk_verify_report.specs.ReportEnd.{kept_of_rest}
 use Rattle.bk_verify_report.specs.Rest.{RestState}
 use Rattle.bk_verify_report.proofs.closing.close_report.Goals as goal
 
@@ -27,13 +27,13 @@ close_rest-requires-clause-start g c = ap (λ (s : RestState). s.walk.cursor) c.
 pub returns-clause-closed : goal.returns-clause-closed
 returns-clause-closed g c =
     subst (λ (s : RestState). IfOk c.close_rest.result (λ differs. ClosesReport c.args.order
-    (kept_of s (record { foreign = c.args.state.foreign; repeated = c.args.state.repeated; refused = c.args.state.refused })) differs
+    (kept_of_rest s (record { foreign = c.args.state.foreign; repeated = c.args.state.repeated; refused = c.args.state.refused })) differs
     (g.O.Sink.written c.args.out.now) (g.O.Sink.written c.close_rest.new.out))) c.of-rest.ensures c.close_rest.ensures.closed
 
 pub returns-clause-begun : goal.returns-clause-begun
 returns-clause-begun g c =
     subst (λ (s : RestState). OnErr c.close_rest.result (IsClosingBegun c.args.order
-    (kept_of s (record { foreign = c.args.state.foreign; repeated = c.args.state.repeated; refused = c.args.state.refused }))
+    (kept_of_rest s (record { foreign = c.args.state.foreign; repeated = c.args.state.repeated; refused = c.args.state.refused }))
     (g.O.Sink.written c.args.out.now) (g.O.Sink.written c.close_rest.new.out))) c.of-rest.ensures c.close_rest.ensures.begun
 
 pub returns-clause-cause : goal.returns-clause-cause

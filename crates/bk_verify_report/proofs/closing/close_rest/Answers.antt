@@ -1,21 +1,21 @@
 use Rattle.std.proofs.Common.{le_of_eq, subst, sym, ℕ, ◌∙◌, ◌≤◌}
 use Rattle.std.proofs.lemmas.Result.{err_from_is_err_and}
-use Rattle.bk_word.proofs.Failing.{on_err}
+use Rattle.bk_laws.proofs.Outcomes.{on_err-intro}
 use Rattle.bk_ports.specs.Causes.{HasCause}
 use Rattle.bk_verify_report.proofs.LeftBehind.{closes_report, closing_begun, closing_broken, end_limit, end_wide, lacking}
-use Rattle.bk_verify_report.specs.Closing.{kept_of}
+use Rattle.bk_verify_report.specs.ReportEnd.{kept_of_rest}
 use Rattle.bk_verify_report.proofs.closing.close_rest.Goals as goal
 
 pub returns-in_err-missing-clause-begun : goal.returns-in_err-missing-clause-begun
 returns-in_err-missing-clause-begun g c =
-    on_err c.from_residual.result
-    (closing_broken c.args.order (kept_of c.args.rest.now c.args.lines) (g.O.Sink.written c.args.out.now)
+    on_err-intro c.from_residual.result
+    (closing_broken c.args.order (kept_of_rest c.args.rest.now c.args.lines) (g.O.Sink.written c.args.out.now)
     (g.O.Sink.written c.write_missing_members.new.out) c.requires.order c.in_err-missing.ensures.begun)
 
 pub returns-in_err-write_all-clause-begun : goal.returns-in_err-write_all-clause-begun
 returns-in_err-write_all-clause-begun g c =
-    on_err c.from_residual-in_err-write_all.result
-    (closing_begun c.args.order (kept_of c.args.rest.now c.args.lines) c.requires.order _ _ (g.O.Sink.written c.args.out.now)
+    on_err-intro c.from_residual-in_err-write_all.result
+    (closing_begun c.args.order (kept_of_rest c.args.rest.now c.args.lines) c.requires.order _ _ (g.O.Sink.written c.args.out.now)
     (g.O.Sink.written c.write_missing_members.new.out)
     (lacking c.args.rest.now c.write_missing_members.new.rest _ c.members.result (g.O.Sink.written c.args.out.now)
     (g.O.Sink.written c.write_missing_members.new.out) c.in_ok-missing.ensures.listed c.in_ok-missing.ensures.all c.in_ok-missing.ensures.ended
@@ -25,7 +25,7 @@ returns-in_err-write_all-clause-begun g c =
 
 pub returns-clause-closed : goal.returns-clause-closed
 returns-clause-closed g c =
-    closes_report c.args.order (kept_of c.args.rest.now c.args.lines) c.requires.order _ _ (g.O.Sink.written c.args.out.now)
+    closes_report c.args.order (kept_of_rest c.args.rest.now c.args.lines) c.requires.order _ _ (g.O.Sink.written c.args.out.now)
     (g.O.Sink.written c.write_missing_members.new.out)
     (lacking c.args.rest.now c.write_missing_members.new.rest _ c.members.result (g.O.Sink.written c.args.out.now)
     (g.O.Sink.written c.write_missing_members.new.out) c.in_ok-missing.ensures.listed c.in_ok-missing.ensures.all c.in_ok-missing.ensures.ended

@@ -1,7 +1,7 @@
 use Rattle.std.proofs.Common.{arith, false, le_of_eq, refl, subst, sym, true, ℕ, ◌∙◌}
 use Rattle.std.proofs.lemmas.Result.{err_from_is_err_and}
+use Rattle.bk_laws.proofs.Outcomes.{on_err-intro}
 use Rattle.bk_ports.specs.Causes.{HasCause}
-use Rattle.bk_word.proofs.Failing.{on_err}
 use Rattle.bk_verify_report.proofs.MissingListed.{word_some}
 use Rattle.bk_verify_report.proofs.Listing.{kept_behind, listing_broken, listing_end, listing_more, listing_none, next_written, none_behind}
 use Rattle.bk_verify_report.proofs.closing.write_missing_members.Goals as goal
@@ -11,7 +11,7 @@ members-init g c = listing_none c.args.rest.now (g.O.Sink.written c.args.out.now
 
 pub returns-in_err-write_missing_entry-clause-begun : goal.returns-in_err-write_missing_entry-clause-begun
 returns-in_err-write_missing_entry-clause-begun g c =
-    on_err c.from_residual.result
+    on_err-intro c.from_residual.result
     (listing_broken c.args.rest.now c.members.rest c.members.missing (g.O.Sink.written c.args.out.now) (g.O.Sink.written c.members.out)
     (g.O.Sink.faults c.args.out.now) (g.O.Sink.faults c.members.out) c.members.invariant (g.O.Sink.written c.write_missing_entry.new.out)
     (record {

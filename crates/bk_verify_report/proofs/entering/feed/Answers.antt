@@ -1,13 +1,13 @@
 use Rattle.std.proofs.Common.{arith, false, le_of_eq, lit<, refl, subst, ◌+◌, ◌∙◌}
 use Rattle.std.proofs.KnownBytes.{Keeps-refl}
 use Rattle.std.proofs.lemmas.Result.{err_from_is_err_and}
+use Rattle.bk_laws.proofs.Outcomes.{on_err-intro}
 use Rattle.bk_report.specs.ListLines.{foreign_line, repeats_line}
-use Rattle.bk_verify_report.specs.Kept.{IsFed}
+use Rattle.bk_verify_report.specs.KeptEntries.{IsFed}
 use Rattle.bk_verify_report.specs.declared.entries.Fed.{Fed}
 use Rattle.bk_verify_report.specs.declared.entries.Fed.TheVariants.{Foreign, New, Repeats}
-use Rattle.bk_word.proofs.Failing.{on_err}
 use Rattle.bk_verify_report.proofs.Entered.{begun_one, written_none, written_one}
-use Rattle.bk_verify_report.specs.Entering.{feeds}
+use Rattle.bk_verify_report.specs.ListLine.{feeds}
 use Rattle.bk_verify_report.proofs.entering.feed.Goals as goal
 
 pub returns-in-Ok-New-clause-outcome : goal.returns-in-Ok-New-clause-outcome
@@ -32,7 +32,7 @@ pub returns-in_err-write_all-in-Ok-Repeats-clause-failed : goal.returns-in_err-w
 returns-in_err-write_all-in-Ok-Repeats-clause-failed g c =
     let fed = subst (λ (f : Fed). IsFed c.args.state.now.entries c.args.number c.args.tiling.now f c.feed.new.self) c.in-Ok-Repeats.field-0-is
     c.in-Ok-Repeats.ensures.fed in
-    on_err c.from_residual.result
+    on_err-intro c.from_residual.result
     (begun_one c.args.state.now c.args.number c.args.line.now false (record c.args.state.now
     { entries = c.feed.new.self; repeated = c.args.state.now.repeated + 1 })
     (g.O.Sink.written c.args.out.now) (g.O.Sink.written c.write_all.new.self) (repeats_line c.args.number c.in-Ok-Repeats.first) c.as_slice.result.now
@@ -53,7 +53,7 @@ pub returns-in_err-write_all-in-Ok-Foreign-clause-failed : goal.returns-in_err-w
 returns-in_err-write_all-in-Ok-Foreign-clause-failed g c =
     let fed = subst (λ (f : Fed). IsFed c.args.state.now.entries c.args.number c.args.tiling.now f c.feed.new.self) c.in-Ok-Foreign.field-0-is
     c.in-Ok-Foreign.ensures.fed in
-    on_err c.from_residual-in_err-write_all-in-Ok-Foreign.result
+    on_err-intro c.from_residual-in_err-write_all-in-Ok-Foreign.result
     (begun_one c.args.state.now c.args.number c.args.line.now false (record c.args.state.now
     { entries = c.feed.new.self; foreign = c.args.state.now.foreign + 1 })
     (g.O.Sink.written c.args.out.now) (g.O.Sink.written c.write_all-in-Ok-Foreign.new.self) (foreign_line c.args.number) c.as_slice-in-Ok-Foreign.result.now

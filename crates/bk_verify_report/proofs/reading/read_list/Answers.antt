@@ -2,8 +2,8 @@ use Rattle.std.proofs.Common.{subst, sym}
 use Rattle.bk_ports.specs.Entering.{entries_of}
 use Rattle.bk_verify_report.proofs.Ending.{calm_at, stop_told, whole_at}
 use Rattle.bk_verify_report.proofs.EndingAtLines.{from_start, stops_at_lines}
-use Rattle.bk_verify_report.specs.Entering.{none_entered}
-use Rattle.bk_verify_report.specs.Reading.{IsListRead, rules}
+use Rattle.bk_verify_report.specs.ListLine.{none_entered}
+use Rattle.bk_verify_report.specs.ListReading.{IsListRead, rules}
 use Rattle.bk_verify_report.specs.declared.entering.Verifying.{Verifying}
 use Rattle.bk_verify_report.proofs.reading.read_list.Goals as goal
 

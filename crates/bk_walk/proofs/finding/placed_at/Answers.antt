@@ -2,7 +2,7 @@ use Rattle.std.proofs.Common.{subst, sym, ◌≤◌}
 use Rattle.bk_word.specs.Word.{Word, order_of}
 use Rattle.bk_word.specs.Play.{IsComplete}
 use Rattle.bk_layout.specs.Normal.{Counts}
-use Rattle.bk_layout.proofs.NormalImages.{a_normal_word_has_settled_counts}
+use Rattle.bk_layout.proofs.NormalImages.ImagesToMeet.{a_normal_word_has_settled_counts}
 use Rattle.bk_layout.specs.NormalImage.{AreSettledCounts, IsMetByNormalWord}
 use Rattle.bk_layout.specs.WordNumbers.{counts_of_word}
 use Rattle.bk_found.specs.Ties.{AreTiesOf}

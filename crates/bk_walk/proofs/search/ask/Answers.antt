@@ -19,8 +19,8 @@ pub number_with-number-requires-clause-few : goal.number_with-number-requires-cl
 number_with-number-requires-clause-few g c = let kept = c.skel.ensures.kept in
     omega (arith, ap order_of c.skel.ensures.value, ap (λ (m : Move). m.count) c.next.ensures, c.requires.few, kept.most)
 
-pub begin_table-requires : goal.begin_table-requires
-begin_table-requires g c = let kept = c.skel.ensures.kept in
+pub fill-requires : goal.fill-requires
+fill-requires g c = let kept = c.skel.ensures.kept in
     (search tests, (omega arith, omega (arith, c.order-in-Nothing.ensures, kept.most)))
 
 pub returns-in-Nothing : goal.returns-in-Nothing

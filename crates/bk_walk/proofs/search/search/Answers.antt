@@ -1,5 +1,4 @@
-use Rattle.std.proofs.Common.{refl, ◌≡◌, tests}
-use Rattle.bk_tree_walk.specs.declared.Found.TheVariants.{Ended, Member}
+use Rattle.std.proofs.Common.{refl, sym, true≢false, tests}
 use Rattle.bk_tree_walk.proofs.SearchTurns.{stays_same, stays_then, turn_ends, turn_entry, turn_finds, turn_kept, turn_nearer, turn_on, turns_none}
 use Rattle.bk_walk.proofs.search.search.Goals as goal
 
@@ -31,10 +30,7 @@ returns-in-Met-clause-finds g c = turn_finds c.args.tree.now c.turns.tree c.step
     c.turns.invariant.kept c.turns.invariant.on c.turns.invariant.stays c.in-Met.ensures.stays c.in-Met.ensures.leads
 
 pub returns-in-End-clause-member : goal.returns-in-End-clause-member
-returns-in-End-clause-member g c = λ found. absurd (not_found found)
-  where
-    not_found : Ended ≡ Member → ⊥
-    not_found e = cc
+returns-in-End-clause-member g c = λ found. absurd (true≢false (sym found))
 
 pub returns-in-Met-clause-member : goal.returns-in-Met-clause-member
 returns-in-Met-clause-member g c = λ _. turn_entry c.args.tree.now c.turns.tree c.step.new.tree c.args.steps.now c.turns.steps c.step.new.steps

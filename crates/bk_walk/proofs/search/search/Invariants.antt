@@ -1,5 +1,5 @@
 use Rattle.std.proofs.Common.{◌-◌}
-use Rattle.bk_catalogue.proofs.Ranks.{left_after}
+use Rattle.bk_catalogue.proofs.TreeOfWords.Ranks.{left_after}
 use Rattle.bk_tree_walk.proofs.SearchLoop.{Continues}
 use Rattle.bk_tree_walk.specs.Search.{IsKeptSearch, StaysOf, place_of}
 use Rattle.bk_walk.proofs.search.search.Given as goal

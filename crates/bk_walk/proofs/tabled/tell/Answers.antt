@@ -1,7 +1,8 @@
 use denote.Enum.Bare.{differs_false}
 use Rattle.std.proofs.Common.{arith, tests, sym, ◌∙◌}
+use Rattle.bk_laws.proofs.Outcomes.{none-from_is_some}
 use Rattle.bk_word.specs.contracts.Class.{the_type}
-use Rattle.bk_walk.proofs.TablesTell.{no_limit, tells_next, tells_none}
+use Rattle.bk_walk.proofs.TablesTell.{tells_next, tells_none}
 use Rattle.bk_walk.proofs.tabled.tell.Goals as goal
 
 pub returns-in-Some : goal.returns-in-Some
@@ -14,7 +15,7 @@ pub returns-else-is_cut : goal.returns-else-is_cut
 returns-else-is_cut g c =
     let of_class = sym c.class.ensures ∙ differs_false the_type tt c.class.result c.args.class (sym c.ne.ensures ∙ c.if-ne.false) in
     tells_none c.args.table.now c.args.order c.args.class c.args.number (sym c.order.ensures ∙ c.if-order.false) of_class
-    (omega (arith, c.from.ensures, c.if-number-from.false)) (no_limit c.args.table.now.numbers.limit (sym c.is_cut.ensures.value ∙ c.if-is_cut.false))
+    (omega (arith, c.from.ensures, c.if-number-from.false)) (none-from_is_some c.args.table.now.numbers.limit (sym c.is_cut.ensures.value ∙ c.if-is_cut.false))
     c.in-None.ensures.none
 
 pub returns-then-order : goal.returns-then-order

@@ -1,6 +1,6 @@
 use Rattle.std.proofs.Common.{ap, sym, ◌∙◌}
 use Rattle.bk_word.specs.declared.Sign.TheVariants.{Even}
-use Rattle.bk_forms.specs.Answer.{compared_as}
+use Rattle.bk_forms.specs.LedgerAnswer.{compared_as}
 use Rattle.bk_forms.specs.Form.{Form as SeenForm, form_value}
 use Rattle.bk_forms.specs.Reduction.{comparison}
 use Rattle.bk_walk_cuts.proofs.Asked.{equal_sides}

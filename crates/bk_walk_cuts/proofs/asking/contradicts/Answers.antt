@@ -1,8 +1,8 @@
 use Rattle.std.proofs.Common.{Bool, List, ap, length, refl, subst, sym, true≢false, ◌∙◌}
+use Rattle.bk_laws.proofs.Truth.{absurd-of_true_and_false}
 use Rattle.bk_forms.specs.Form.{Form as SeenForm}
 use Rattle.bk_walk_cuts.proofs.Asked.{keeps_trans}
-use Rattle.bk_walk_cuts.proofs.RuledOut.{not_both}
-use Rattle.bk_walk_cuts.specs.Asking.{Answers}
+use Rattle.bk_walk_cuts.specs.KnownSides.{Answers}
 use Rattle.bk_walk_cuts.specs.FormCuts.{LevelsContradict, kept_by_signs}
 use Rattle.bk_walk_cuts.proofs.asking.contradicts.Goals as goal
 
@@ -23,7 +23,7 @@ returns c = record {
       c.contradicts_signs.ensures.first;
   kept = λ no. c.contradicts_signs.ensures.kept no
       ∙ ap (λ (k : List SeenForm). kept_by_signs k c.args.levels.now c.args.signs.now (length c.args.signs.now)) c.contradicts_widths.ensures.kept;
-  widths = λ told. absurd (not_both c.contradicts_widths.result (c.contradicts_widths.ensures.all told) c.if-contradicts_widths.false);
+  widths = λ told. absurd (absurd-of_true_and_false c.contradicts_widths.result (c.contradicts_widths.ensures.all told) c.if-contradicts_widths.false);
   levels = λ told. c.contradicts_signs.ensures.all
       (subst (λ (k : List SeenForm). LevelsContradict k c.args.levels.now c.args.signs.now) (sym c.contradicts_widths.ensures.kept) told);
 }

@@ -2,7 +2,7 @@ use Rattle.std.proofs.Common.{Bool, ap, arith, length, subst, ◌∙◌, ◌≡�
 use Rattle.bk_word.specs.declared.Sign.TheVariants.{Above}
 use Rattle.bk_walk_cuts.proofs.Asked.{agreed, keeps_trans}
 use Rattle.bk_walk_cuts.proofs.MoveAnswers.{kept_more, none_left, none_more}
-use Rattle.bk_walk_cuts.specs.Asking.{Answers}
+use Rattle.bk_walk_cuts.specs.KnownSides.{Answers}
 use Rattle.bk_walk_cuts.specs.FormCuts.{kept_by_signs}
 use Rattle.bk_walk_cuts.proofs.asking.contradicts_signs.Goals as goal
 

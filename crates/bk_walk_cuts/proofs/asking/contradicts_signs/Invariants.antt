@@ -1,7 +1,7 @@
 use Rattle.std.proofs.Common.{List, ℕ, ◌≡◌}
 use Rattle.bk_forms.specs.FormLaws.{MeetsEquations}
 use Rattle.bk_walk_cuts.proofs.MoveAnswers.{NoneContradicts}
-use Rattle.bk_walk_cuts.specs.Asking.{KeepsFirst}
+use Rattle.bk_walk_cuts.specs.KnownSides.{KeepsFirst}
 use Rattle.bk_walk_cuts.specs.FormCuts.{kept_by_signs}
 use Rattle.bk_walk_cuts.specs.SidesOfTilings.{AgreeWith}
 use Rattle.bk_walk_cuts.proofs.asking.contradicts_signs.Given as goal

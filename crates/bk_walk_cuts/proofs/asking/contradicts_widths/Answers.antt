@@ -15,7 +15,7 @@ none_there (_ ∷ _) e = absurd (omega (arith, eqb-true _ _ (sym e)))
 none_kept : (kept : List SeenForm) (valley numbers : List ℕ) → valley ≡ [] → kept ≡ kept_by_widths kept valley numbers
 none_kept kept valley numbers e = ap (λ (ns : List ℕ). kept_by_widths kept ns numbers) (sym e)
 
--- and where it has some, the equation is
+-- where the valley has squares, the equation of the widths is kept
 some_kept : (kept : List SeenForm) (valley numbers : List ℕ) → valley ≢ []
     → kept_after kept (addition kept (sum_of_sides valley) (sum_of_sides numbers)) ≡ kept_by_widths kept valley numbers
 some_kept kept [] numbers some = absurd (some refl)

@@ -1,5 +1,5 @@
 use Rattle.std.proofs.Common.{ℕ, ◌<◌}
-use Rattle.bk_walk_cuts.specs.Asking.{AreKnownEqual}
+use Rattle.bk_walk_cuts.specs.KnownSides.{AreKnownEqual}
 use Rattle.bk_walk_cuts.proofs.asking.equals_one_before.Given as goal
 
 abbrev pub invariant-loop-j : goal.invariant-loop-j

@@ -1,7 +1,7 @@
 use Rattle.std.proofs.Common.{arith}
 use Rattle.std.proofs.lemmas.Bool.Decides.{nat_tests}
 use Rattle.bk_word.specs.Play.{IsComplete}
-use Rattle.bk_catalogue.proofs.Cutting.{one_segment_is_barren}
+use Rattle.bk_catalogue.proofs.MoveCuts.Cutting.{one_segment_is_barren}
 use Rattle.bk_walk_cuts.proofs.barren.is_whole_early.Goals as goal
 
 pub returns-then-is_closed : goal.returns-then-is_closed

@@ -2,7 +2,7 @@ use Rattle.std.proofs.Common.{ap, arith, length, ◌-◌, ◌∙◌, ◌≡◌}
 use Rattle.bk_word.specs.Play.{outline_of}
 use Rattle.bk_word.specs.Word.{Word, order_of}
 use Rattle.bk_word.specs.Outline.{sizes_of}
-use Rattle.bk_catalogue.proofs.BoundsOfWords.{sizes_long}
+use Rattle.bk_catalogue.proofs.HangingBounds.BoundsOfWords.{sizes_long}
 use Rattle.bk_walk_cuts.proofs.CutLaws.{owes_lines, owes_singles}
 use Rattle.bk_catalogue.specs.SingleValleys.{single_valleys}
 use Rattle.bk_walk_cuts.proofs.barren.owes_too_many.Goals as goal

@@ -4,7 +4,7 @@ use Rattle.bk_word.proofs.PlayLists.{numbers-length}
 use Rattle.bk_word.specs.Outline.{valley_place}
 use Rattle.bk_word.specs.Play.{numbers_from, outline_of}
 use Rattle.bk_word.specs.Word.{Move}
-use Rattle.bk_forms.specs.Form.{Form as SeenForm, with_side}
+use Rattle.bk_forms.specs.Form.{Form as SeenForm, with_column}
 use Rattle.bk_walk_cuts.proofs.Segments.{beside_short, levels_are, numbers_are}
 use Rattle.bk_walk_cuts.proofs.SmallForms.{small_level, small_more}
 use Rattle.bk_walk_cuts.specs.SideForms.{level_of}
@@ -21,7 +21,7 @@ push_beside-requires-2 c =
     let short = ap length (c.push_beside.ensures ∙ ap (λ (l : List SeenForm). l ++ cond (nat_eq c.first_above-place.result 0) [] (left ∷ []))
     c.new-levels.ensures) in
     let numbers = numbers_from (c.order.result + 1) c.m.inside.count in
-    let below : ℕ → SeenForm = λ n. with_side c.level_of-level.result (n - 1) in omega (
+    let below : ℕ → SeenForm = λ n. with_column c.level_of-level.result (n - 1) in omega (
       arith,
       ap length c.push_bottoms.ensures,
       length-append c.push_beside.new.levels.items (map below numbers),
@@ -60,7 +60,7 @@ returns c =
     c.push_beside-2.ensures
     ∙ ap (λ (l : List SeenForm). l ++ cond (nat_eq c.first_above-place.result (length c.signs-2.result.now)) []
     (level_of bs (slice_index_or o.segments (c.first_above-place.result + 1) []) ∷ []))
-    (c.push_bottoms.ensures ∙ ap (λ (l : List SeenForm). l ++ map (λ n. with_side c.level_of-level.result (n - 1))
+    (c.push_bottoms.ensures ∙ ap (λ (l : List SeenForm). l ++ map (λ n. with_column c.level_of-level.result (n - 1))
     (numbers_from (c.order.result + 1) c.m.inside.count))
     (c.push_beside.ensures ∙ (λ i. c.new-levels.ensures i ++ cond (nat_eq c.first_above-place.result 0) []
     (level_of bs (slice_index_or o.segments (c.saturating_sub.ensures i) []) ∷ []))))

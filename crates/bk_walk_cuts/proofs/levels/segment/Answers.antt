@@ -1,7 +1,9 @@
 use Rattle.std.proofs.Common.{[], ap, arith, get_or, length, sym, ℕ, ◌+◌, ◌∙◌, ◌≡◌, ◌≤◌}
 use Rattle.std.proofs.lemmas.List.{length-map}
+use Rattle.bk_laws.proofs.ListItems.{get_or-past_lists}
+use Rattle.bk_laws.proofs.Sums.{sum-start_of_next}
 use Rattle.bk_word.specs.Play.{outline_of}
-use Rattle.bk_walk_cuts.proofs.Segments.{part_is, part_room, segment_past, sum_then}
+use Rattle.bk_walk_cuts.proofs.Segments.{part_is, part_room}
 use Rattle.bk_walk_cuts.proofs.levels.segment.Goals as goal
 
 pub part-requires : goal.part-requires
@@ -27,7 +29,7 @@ overflow_add-start c = record {
 
 pub loop-i-preserved : goal.loop-i-preserved
 loop-i-preserved c = record {
-  start = sum_then (outline_of c.args.skel.now).segments c.sizes-sizes.result.now c.loop-i.start c.loop-i.i c.from-start.result c.sizes-sizes.ensures
+  start = sum-start_of_next (outline_of c.args.skel.now).segments c.sizes-sizes.result.now c.loop-i.start c.loop-i.i c.from-start.result c.sizes-sizes.ensures
       c.loop-i.invariant.start c.from-start.ensures c.loop-i-test.true;
   before = next c.loop-i.i c.args.place c.loop-i.invariant.before c.if-i-place.false;
 }
@@ -36,7 +38,7 @@ loop-i-preserved c = record {
     next i place h other = grind arith
 
 pub returns : goal.returns
-returns c = sym (segment_past (outline_of c.args.skel.now).segments c.args.place
+returns c = sym (get_or-past_lists (outline_of c.args.skel.now).segments c.args.place
     (omega (
       arith,
       c.loop-i.invariant.before,

@@ -1,5 +1,5 @@
 use Rattle.std.proofs.Common.{ap, arith, refl, sym, ◌+◌, ◌-◌, ◌∙◌, ◌≡◌, lit<}
-use Rattle.bk_catalogue.proofs.LastSigns.{fill_none, fill_one, filled_up}
+use Rattle.bk_catalogue.proofs.TreeOfWords.LastSigns.{fill_none, fill_one, filled_up}
 use Rattle.bk_catalogue.specs.NextMove.{padded}
 use Rattle.bk_word.specs.Word.{Move}
 use Rattle.bk_walk_cuts.proofs.moves.pad.Goals as goal

@@ -1,5 +1,5 @@
 use Rattle.std.proofs.Common.{length, ◌-◌, ◌≡◌}
-use Rattle.bk_catalogue.proofs.LastSigns.{filled_up}
+use Rattle.bk_catalogue.proofs.TreeOfWords.LastSigns.{filled_up}
 use Rattle.bk_walk_cuts.proofs.moves.pad.Given as goal
 
 abbrev pub invariant-signs : goal.invariant-signs

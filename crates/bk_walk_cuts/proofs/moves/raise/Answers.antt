@@ -1,5 +1,5 @@
 use Rattle.std.proofs.Common.{Some, [], ap, arith, sym, ◌++◌, ◌∙◌, ◌∷◌, lit<, refl, true≢false}
-use Rattle.bk_catalogue.proofs.LastSigns.{after_above, after_even, after_under}
+use Rattle.bk_catalogue.proofs.TreeOfWords.LastSigns.{after_above, after_even, after_under}
 use Rattle.bk_catalogue.specs.NextMove.{signs_after}
 use Rattle.bk_walk_cuts.proofs.moves.raise.Goals as goal
 

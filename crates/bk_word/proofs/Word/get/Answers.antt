@@ -2,7 +2,7 @@
 use Rattle.std.proofs.Common.{List, ap, arith, get_or, length, lit<, refl, ℕ}
 use Rattle.std.proofs.lemmas.Bool.{ltb-true}
 use Rattle.bk_word.proofs.CountPlaces.{got_move, kept_at}
-use Rattle.bk_word.specs.Stored.{moves_in}
+use Rattle.bk_word.specs.StoredWord.{moves_in}
 use Rattle.bk_word.specs.Word.{Word}
 use Rattle.bk_word.proofs.Word.get.Goals as goal
 

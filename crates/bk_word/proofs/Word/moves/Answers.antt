@@ -1,6 +1,6 @@
 use Rattle.std.specs.Prelude.{List, count_by, length}
 use Rattle.std.proofs.Common.{ap, ◌∙◌, ℕ}
-use Rattle.bk_word.specs.Stored.{is_count}
+use Rattle.bk_word.specs.StoredWord.{is_count}
 use Rattle.bk_word.specs.Word.{Word}
 use Rattle.bk_word.proofs.CountPlaces.{counts_moves}
 use Rattle.bk_word.proofs.Word.moves.Goals as goal

@@ -2,16 +2,16 @@
 use Rattle.std.specs.Prelude.{length, map, ◌+◌, ◌++◌, ◌∷◌, ◌≡◌}
 use Rattle.std.proofs.Common.{ap, arith, lit<, refl, subst, sym, ◌∙◌}
 use Rattle.std.proofs.lemmas.List.{length-map}
-use Rattle.bk_word.specs.Stored.{IsStoredWord, moves_in, sign_byte, stored_move}
+use Rattle.bk_laws.proofs.Outcomes.{ok-is_not_err, on_ok-use}
+use Rattle.bk_word.specs.StoredWord.{IsStoredWord, moves_in, sign_byte, stored_move}
 use Rattle.bk_word.specs.Word.{Move}
-use Rattle.bk_word.proofs.Failing.{no_err, on_ok}
 use Rattle.bk_word.proofs.StoredBytes.{has_bytes, has_room, pushed}
 use Rattle.bk_word.proofs.Word.push.Goals as goal
 
 pub append_move-requires : goal.append_move-requires
 append_move-requires c = omega (
   arith,
-  on_ok c.reserve.result _ c.reserve.ensures.ok (sym c.is_err.ensures.value ∙ c.if-is_err.false),
+  on_ok-use c.reserve.result _ c.reserve.ensures.ok (sym c.is_err.ensures.value ∙ c.if-is_err.false),
 )
 
 appended : (c : goal.After-append_move) → c.append_move.new.bytes.items ≡ c.self.inside.bytes.items ++ stored_move c.args.m.now
@@ -39,7 +39,7 @@ move_length c = omega (
 )
 
 pub returns-then-is_err-clause-inline : goal.returns-then-is_err-clause-inline
-returns-then-is_err-clause-inline c = λ few. no_err c.reserve.result
+returns-then-is_err-clause-inline c = λ few. ok-is_not_err c.reserve.result
     (c.reserve.ensures.succeeds (omega (
       arith,
       move_length c,
@@ -49,7 +49,7 @@ returns-then-is_err-clause-inline c = λ few. no_err c.reserve.result
     (sym c.is_err.ensures.value ∙ c.if-is_err.true)
 
 pub returns-then-is_err-clause-bytes : goal.returns-then-is_err-clause-bytes
-returns-then-is_err-clause-bytes c = λ few. no_err c.reserve.result
+returns-then-is_err-clause-bytes c = λ few. ok-is_not_err c.reserve.result
     (c.reserve.ensures.succeeds (omega (
       arith,
       move_length c,

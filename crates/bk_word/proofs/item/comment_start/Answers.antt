@@ -3,7 +3,7 @@ use Rattle.std.specs.Prelude.{drop, length, ◌+◌, ◌≢◌}
 use Rattle.std.proofs.Common.{ap, arith, inl, inr, subst, sym, ℕ, ◌∙◌, ◌∷◌}
 use Rattle.std.specs.List.{AllByRecursion}
 use Rattle.std.proofs.lemmas.List.{drop_all, drop_more, take_all}
-use Rattle.bk_word.proofs.ItemParts.{all_more, all_passed}
+use Rattle.bk_laws.proofs.AllOfLists.{all-take_one_more, all-take_past_end}
 use Rattle.bk_word.proofs.item.comment_start.Goals as goal
 
 pub bounds-line-i : goal.bounds-line-i
@@ -21,7 +21,7 @@ returns-then-byte-eq59-clause-comment c =
     inr (rest, drop_more c.args.line.now c.loop-i.i 0 c.loop-i-test.true ∙ ap (λ (b : ℕ). b ∷ rest) c.if-byte-eq59.true)
 
 pub loop-i-preserved : goal.loop-i-preserved
-loop-i-preserved c = all_more (λ b. b ≢ 59) c.args.line.now c.loop-i.i c.loop-i-test.true c.loop-i.invariant c.if-byte-eq59.false
+loop-i-preserved c = all-take_one_more (λ b. b ≢ 59) c.args.line.now c.loop-i.i c.loop-i-test.true c.loop-i.invariant c.if-byte-eq59.false
 
 pub returns-clause-within : goal.returns-clause-within
 returns-clause-within c = omega arith
@@ -30,7 +30,7 @@ pub returns-clause-bare : goal.returns-clause-bare
 returns-clause-bare c =
     let line = c.args.line.now in
     subst (AllByRecursion (λ b. b ≢ 59)) (sym (take_all (length line) line (omega arith)))
-    (all_passed (λ b. b ≢ 59) line c.loop-i.i c.loop-i-test.false c.loop-i.invariant)
+    (all-take_past_end (λ b. b ≢ 59) line c.loop-i.i c.loop-i-test.false c.loop-i.invariant)
 
 pub returns-clause-comment : goal.returns-clause-comment
 returns-clause-comment c = inl (drop_all (length c.args.line.now) c.args.line.now (omega arith))

@@ -1,7 +1,7 @@
 -- The bytes passed are blanks, and the byte that is found is none.
 use Rattle.std.proofs.Common.{refl}
+use Rattle.bk_laws.proofs.AllOfLists.{all-take_one_more, all-take_past_end}
 use Rattle.bk_grammar.specs.Grammar.{IsBlank}
-use Rattle.bk_word.proofs.ItemParts.{all_more, all_passed}
 use Rattle.bk_word.proofs.item.item_start.Goals as goal
 
 pub bounds-text-i : goal.bounds-text-i
@@ -17,7 +17,7 @@ pub returns-then-not-is_blank-clause-bare : goal.returns-then-not-is_blank-claus
 returns-then-not-is_blank-clause-bare c = c.if-not-is_blank.ensures.no refl
 
 pub loop-i-preserved : goal.loop-i-preserved
-loop-i-preserved c = all_more IsBlank c.args.text.now c.loop-i.i c.loop-i-test.true c.loop-i.invariant (c.if-not-is_blank.ensures.yes refl)
+loop-i-preserved c = all-take_one_more IsBlank c.args.text.now c.loop-i.i c.loop-i-test.true c.loop-i.invariant (c.if-not-is_blank.ensures.yes refl)
 
 pub returns-clause-none : goal.returns-clause-none
-returns-clause-none c = all_passed IsBlank c.args.text.now c.loop-i.i c.loop-i-test.false c.loop-i.invariant
+returns-clause-none c = all-take_past_end IsBlank c.args.text.now c.loop-i.i c.loop-i-test.false c.loop-i.invariant

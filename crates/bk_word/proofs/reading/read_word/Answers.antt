@@ -1,5 +1,5 @@
 use Rattle.std.proofs.Common.{arith, false, subst, sym, true, ◌≡◌}
-use Rattle.bk_word.specs.Stored.{moves_in}
+use Rattle.bk_word.specs.StoredWord.{moves_in}
 use Rattle.bk_word.specs.WordText.{IsTextOf}
 use Rattle.bk_word.proofs.KeptTexts.{HasBytes, bytes_kept, many_bytes, many_squares}
 use Rattle.bk_word.proofs.reading.read_word.Goals as goal

@@ -1,6 +1,6 @@
 use Rattle.std.specs.Prelude.{take}
 use Rattle.std.proofs.Common.{ap, arith, sym, ◌∙◌}
-use Rattle.bk_word.specs.Reader.{next_place}
+use Rattle.bk_word.specs.WordReading.{next_word_place}
 use Rattle.bk_word.specs.Taken.{step}
 use Rattle.bk_word.proofs.WordProgress.{at_start, has_room, one_further, stops, stops_at_end, text_kept, whole}
 use Rattle.bk_word.proofs.reading.take_text.Goals as goal
@@ -11,7 +11,7 @@ loop-at-init c = at_start c.new-taken.result c.new-taken.ensures
 pub returns-in_default-clause-err : goal.returns-in_default-clause-err
 returns-in_default-clause-err c =
     stops c.args.text.now c.loop-at.at c.loop-at.place c.loop-at.taken (omega arith) c.loop-at.invariant
-    (ap (next_place c.loop-at.place) (sym c.kind_of-kind.ensures) ∙ sym c.next.ensures ∙ c.in_default.is)
+    (ap (next_word_place c.loop-at.place) (sym c.kind_of-kind.ensures) ∙ sym c.next.ensures ∙ c.in_default.is)
 
 pub take-requires : goal.take-requires
 take-requires c = record { room = λ few. has_room (take c.loop-at.at c.args.text.now) c.loop-at.place c.loop-at.taken c.loop-at.invariant few }
@@ -19,7 +19,7 @@ take-requires c = record { room = λ few. has_room (take c.loop-at.at c.args.tex
 pub loop-at-preserved : goal.loop-at-preserved
 loop-at-preserved c =
     one_further c.args.text.now c.loop-at.at c.loop-at.place c.in-Some.next c.loop-at.taken c.take.new.self (omega arith) c.loop-at.invariant
-    (ap (next_place c.loop-at.place) (sym c.kind_of-kind.ensures) ∙ sym c.next.ensures ∙ c.in-Some.is)
+    (ap (next_word_place c.loop-at.place) (sym c.kind_of-kind.ensures) ∙ sym c.next.ensures ∙ c.in-Some.is)
     (λ r to place e keeps. c.take.ensures r to place (ap (step r) c.kind_of-kind.ensures ∙ e) keeps)
 
 pub returns-then-not-may_end-clause-err : goal.returns-then-not-may_end-clause-err

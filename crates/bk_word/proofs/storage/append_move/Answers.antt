@@ -1,7 +1,7 @@
 use Rattle.std.specs.Prelude.{length, map, take, ◌∷◌}
 use Rattle.std.proofs.Common.{List, [], ap, append_assoc, arith, get_or, length-append, sym, ℕ, ◌++◌, ◌+◌, ◌<◌, ◌∙◌, ◌≡◌}
 use Rattle.std.proofs.lemmas.List.{length-map, length-take-le, map_push, take_all, take_more}
-use Rattle.bk_word.specs.Stored.{sign_byte}
+use Rattle.bk_word.specs.StoredWord.{sign_byte}
 use Rattle.bk_word.specs.declared.Sign.{Sign}
 use Rattle.bk_word.proofs.storage.append_move.Goals as goal
 

@@ -1,5 +1,5 @@
 use Rattle.std.specs.Prelude.{map, take, ◌++◌, ◌∷◌, ◌≡◌}
-use Rattle.bk_word.specs.Stored.{sign_byte}
+use Rattle.bk_word.specs.StoredWord.{sign_byte}
 use Rattle.bk_word.proofs.storage.append_move.Given as goal
 
 abbrev pub invariant-signs : goal.invariant-signs

@@ -1,6 +1,6 @@
 use Rattle.std.specs.Prelude.{drop, ◌-◌, ℕ}
 use Rattle.std.proofs.Common.{ap, arith, sym, ◌∙◌}
-use Rattle.bk_word.specs.Stored.{moves_in}
+use Rattle.bk_word.specs.StoredWord.{moves_in}
 use Rattle.bk_word.proofs.CountPlaces.{count_passed, none_left, sign_here}
 use Rattle.bk_word.proofs.storage.count_place.Goals as goal
 use Rattle.bk_word.proofs.storage.count_place.Goals.{else-is_count, then-is_count+else-left-eq0}

@@ -1,5 +1,5 @@
 use Rattle.std.specs.Prelude.{drop, ◌-◌, ◌≡◌, ◌≤◌}
-use Rattle.bk_word.specs.Stored.{moves_in}
+use Rattle.bk_word.specs.StoredWord.{moves_in}
 use Rattle.bk_word.proofs.storage.count_place.Given as goal
 
 abbrev pub invariant-loop-place : goal.invariant-loop-place

@@ -1,5 +1,5 @@
 use Rattle.std.specs.Prelude.{drop, ◌++◌, ◌≡◌}
-use Rattle.bk_word.specs.Stored.{front_signs}
+use Rattle.bk_word.specs.StoredWord.{front_signs}
 use Rattle.bk_word.proofs.storage.signs_at.Given as goal
 
 abbrev pub invariant-loop-byte : goal.invariant-loop-byte

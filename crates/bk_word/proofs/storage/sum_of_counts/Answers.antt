@@ -2,7 +2,7 @@
 use Rattle.std.proofs.lemmas.Grind.{common_steps}
 use Rattle.std.proofs.Common.{List, ap, arith, ℕ}
 use Rattle.std.proofs.lemmas.List.{drop_all}
-use Rattle.bk_word.specs.Stored.{moves_in}
+use Rattle.bk_word.specs.StoredWord.{moves_in}
 use Rattle.bk_word.specs.Word.{order_of}
 use Rattle.bk_word.proofs.storage.sum_of_counts.Goals as goal
 

@@ -1,5 +1,5 @@
 use Rattle.std.specs.Prelude.{drop, ◌+◌, ◌≡◌}
-use Rattle.bk_word.specs.Stored.{moves_in}
+use Rattle.bk_word.specs.StoredWord.{moves_in}
 use Rattle.bk_word.specs.Word.{order_of}
 use Rattle.bk_word.proofs.storage.sum_of_counts.Given as goal
 

@@ -3,7 +3,7 @@ use Rattle.std.specs.Prelude.{List, [], decimal, flat_map, length, take, true, f
 use Rattle.std.proofs.Common.{ap, append_assoc, arith, get_or, length-append, lit<, sym, ℕ, ◌∙◌}
 use Rattle.std.proofs.lemmas.Bool.{cond-false, cond-true}
 use Rattle.std.proofs.lemmas.List.{append-nil, take_all}
-use Rattle.bk_word.specs.Stored.{is_count, piece, sign_of}
+use Rattle.bk_word.specs.StoredWord.{is_count, piece, sign_of}
 use Rattle.bk_word.specs.WordText.{letter}
 use Rattle.bk_word.proofs.WordPieces.{further_piece, room_for_piece}
 use Rattle.bk_word.proofs.writer.write_pieces.Goals as goal

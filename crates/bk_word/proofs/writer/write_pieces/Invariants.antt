@@ -1,5 +1,5 @@
 use Rattle.std.specs.Prelude.{flat_map, take, ◌++◌, ◌≡◌}
-use Rattle.bk_word.specs.Stored.{piece}
+use Rattle.bk_word.specs.StoredWord.{piece}
 use Rattle.bk_word.proofs.writer.write_pieces.Given as goal
 
 abbrev pub invariant-loop-byte : goal.invariant-loop-byte

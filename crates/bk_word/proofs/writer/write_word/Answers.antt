@@ -1,7 +1,7 @@
 use Rattle.std.specs.Prelude.{List, decimal, drop, flat_map, length, ◌++◌}
 use Rattle.std.proofs.Common.{ap, append_assoc, arith, get_or, length-append, sym, ℕ, ◌∙◌}
 use Rattle.std.proofs.lemmas.List.{take_rest}
-use Rattle.bk_word.specs.Stored.{piece}
+use Rattle.bk_word.specs.StoredWord.{piece}
 use Rattle.bk_word.proofs.WordPieces.{short_text, some_byte, whole_text}
 use Rattle.bk_word.proofs.writer.write_word.Goals as goal
 

@@ -1,27 +1,25 @@
 -- Only a drawing has limits, and both sides are held against them.
-use Rattle.std.proofs.Common.{IsTrue, arith, inl, inr, leb, refl, subst, sym, true, ◌≡◌, ◌↔◌, ◌⊎◌}
+use Rattle.std.proofs.Common.{IsTrue, arith, leb, refl, subst, sym, true, ◌≡◌, ◌↔◌}
 use Rattle.std.proofs.lemmas.Bool.{le-leb, leb-true}
 use Rattle.bk_tiling.specs.Tiling.{Tiling}
-use Rattle.bk_answer.specs.Plain.{code_command}
+use Rattle.bk_answer.specs.CodeCommand.{by_plain}
 use Rattle.bk_answer.specs.Telling.{Allows}
 use Rattle.bk_answer.specs.declared.plain.PlainCommand.{PlainCommand}
-use Rattle.bk_answer.specs.declared.plain.PlainCommand.TheVariants.{Canon, Check, Dual, Images, Net}
+use Rattle.bk_answer.specs.declared.plain.PlainCommand.TheVariants.{Canon, Check, Draw, Dual, Images, Net}
 use Rattle.bk_answer.proofs.plain.PlainCommand.allows.Goals as goal
 
--- a command that allows all
-there : (p q : PlainCommand) (t : Tiling) → p ≡ q → Allows (code_command q) t → IsTrue true ↔ Allows (code_command p) t
-there p q t e all = (λ _. subst (λ (r : PlainCommand). Allows (code_command r) t) (sym e) all, λ _. refl)
-
-all_allowed : (p : PlainCommand) (t : Tiling) → (p ≡ Check) ⊎ (p ≡ Canon) ⊎ (p ≡ Images) ⊎ (p ≡ Net) ⊎ (p ≡ Dual) → IsTrue true ↔ Allows (code_command p) t
-all_allowed p t (inl e) = there p Check t e tt
-all_allowed p t (inr (inl e)) = there p Canon t e tt
-all_allowed p t (inr (inr (inl e))) = there p Images t e tt
-all_allowed p t (inr (inr (inr (inl e)))) = there p Net t e tt
-all_allowed p t (inr (inr (inr (inr e)))) = there p Dual t e tt
+-- every command but `draw` allows all
+all_allowed : (p : PlainCommand) (t : Tiling) → (p ≡ Draw → ⊥) → IsTrue true ↔ Allows (by_plain p) t
+all_allowed Check t not = (λ _. tt, λ _. refl)
+all_allowed Canon t not = (λ _. tt, λ _. refl)
+all_allowed Images t not = (λ _. tt, λ _. refl)
+all_allowed Net t not = (λ _. tt, λ _. refl)
+all_allowed Dual t not = (λ _. tt, λ _. refl)
+all_allowed Draw t not = absurd (not refl)
 
 pub returns-then-width-le-LARGEST_DRAWN : goal.returns-then-width-le-LARGEST_DRAWN
 returns-then-width-le-LARGEST_DRAWN c =
-    subst (λ (p : PlainCommand). IsTrue (leb c.height.result 400) ↔ Allows (code_command p) c.args.tiling.now) (sym c.in-Draw.is) (
+    subst (λ (p : PlainCommand). IsTrue (leb c.height.result 400) ↔ Allows (by_plain p) c.args.tiling.now) (sym c.in-Draw.is) (
       λ low. (
         omega (arith, c.if-width-le-LARGEST_DRAWN.true, c.width.ensures.value),
         omega (arith, leb-true c.height.result 400 low, c.height.ensures.value),
@@ -31,10 +29,10 @@ returns-then-width-le-LARGEST_DRAWN c =
 
 pub returns-else-width-le-LARGEST_DRAWN : goal.returns-else-width-le-LARGEST_DRAWN
 returns-else-width-le-LARGEST_DRAWN c =
-    subst (λ (p : PlainCommand). IsTrue (leb c.width.result 400) ↔ Allows (code_command p) c.args.tiling.now) (sym c.in-Draw.is) (
+    subst (λ (p : PlainCommand). IsTrue (leb c.width.result 400) ↔ Allows (by_plain p) c.args.tiling.now) (sym c.in-Draw.is) (
       λ low. absurd (omega (arith, leb-true c.width.result 400 low, c.if-width-le-LARGEST_DRAWN.false)),
       λ allowed. le-leb c.width.result 400 (omega (arith, allowed.0, c.width.ensures.value)),
     )
 
-pub returns-in-Check : goal.returns-in-Check
-returns-in-Check c = all_allowed c.args.self c.args.tiling.now c.in-Check.is
+pub returns-in_default : goal.returns-in_default
+returns-in_default c = all_allowed c.args.self c.args.tiling.now c.in_default.not-Draw

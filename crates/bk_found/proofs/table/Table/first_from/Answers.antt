@@ -1,5 +1,5 @@
 use Rattle.std.proofs.Common.{List, refl, slice_index_or, subst, sym, ℕ, ◌∙◌, ap}
-use Rattle.bk_found.specs.Kept.{AreAscendingNumbers, IsFirstFrom, Numbers}
+use Rattle.bk_found.specs.KeptNumbers.{AreAscendingNumbers, IsFirstFrom, Numbers}
 use Rattle.bk_found.proofs.FirstNumbers.{first_is}
 use Rattle.bk_found.proofs.table.Table.first_from.Goals as goal
 

@@ -1,6 +1,6 @@
 use Rattle.std.proofs.Common.{Bool, Contains, IsSomeAnd, IsTrue, List, Option, Some, ap, arith, false, refl, subst, sym, ℕ, [], ◌++◌, ◌∷◌, ◌∙◌}
 use Rattle.std.proofs.Common.{◌≡◌, ◌≤◌}
-use Rattle.bk_found.specs.Kept.{AreAscendingNumbers, Numbers}
+use Rattle.bk_found.specs.KeptNumbers.{AreAscendingNumbers, Numbers}
 use Rattle.bk_found.proofs.AscendingNumbers.{same_itself}
 use Rattle.bk_found.proofs.Keeping.{HoldsOneMore, put_again, put_behind, put_beyond, put_high, put_low}
 use Rattle.bk_found.proofs.table.Table.put.Given as given

@@ -1,5 +1,5 @@
 use Rattle.std.proofs.Common.{Contains, subst, ◌↔◌}
-use Rattle.bk_found.specs.Kept.{Numbers}
+use Rattle.bk_found.specs.KeptNumbers.{Numbers}
 use Rattle.bk_found.proofs.Keeping.{settled}
 use Rattle.bk_found.proofs.table.Table.settle.Goals as goal
 

@@ -1,11 +1,11 @@
 use Rattle.std.proofs.Common.{List, [], ap, arith, length, slice_index_or, ℕ, ◌∙◌}
+use Rattle.bk_laws.proofs.ListItems.{slice_index_or-first_length}
 use Rattle.bk_word.specs.Outline.{start}
 use Rattle.bk_word.specs.Play.{outline_of}
 use Rattle.bk_word.specs.Word.{Word, order_of}
 use Rattle.bk_word.proofs.PlayLaws.{moves_many}
-use Rattle.bk_catalogue.proofs.BoundsOfWords.{sizes_long}
+use Rattle.bk_catalogue.proofs.HangingBounds.BoundsOfWords.{sizes_long}
 use Rattle.bk_layout.specs.WordNumbers.{first_count, left_squares, right_squares}
-use Rattle.bk_free_search.proofs.WordCounts.{first_size}
 use Rattle.bk_free_search.proofs.board.Board.counts.Goals as goal
 
 pub bounds-sizes-0 : goal.bounds-sizes-0
@@ -14,7 +14,7 @@ bounds-sizes-0 c = omega (arith, sizes_long c.self.inside.skel c.self.invariant.
 pub returns : goal.returns
 returns c =
     let w = c.self.inside.skel in
-    let bottom = ap (λ (l : List ℕ). slice_index_or l 0 0) c.sizes.ensures ∙ first_size (outline_of w).segments in
+    let bottom = ap (λ (l : List ℕ). slice_index_or l 0 0) c.sizes.ensures ∙ slice_index_or-first_length (outline_of w).segments in
     let same = c.self.view_is in λ i. record {
       squares = (c.order.ensures.value ∙ ap order_of same) i;
       moves = (c.moves.ensures.value ∙ ap (λ (v : Word). length v) same) i;

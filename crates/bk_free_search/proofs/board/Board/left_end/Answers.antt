@@ -1,17 +1,17 @@
 use Rattle.std.proofs.Common.{List, ap, arith, length, subst, sym, ℕ, ◌∙◌}
 use Rattle.bk_word.specs.Word.{Word}
-use Rattle.bk_layout.specs.LineNumbers.{left_end, sides_of}
+use Rattle.bk_layout.specs.LineNumbers.{left_end, square_lines}
 use Rattle.bk_free_search.specs.Lefts.{first_left}
-use Rattle.bk_free_search.proofs.BoardMoves.{left_end_on_board}
-use Rattle.bk_free_search.proofs.LeftLines.{left_count}
-use Rattle.bk_free_search.proofs.LowLines.{low_left_end, low_lefts}
+use Rattle.bk_free_search.proofs.Boards.BoardMoves.{left_end_on_board}
+use Rattle.bk_free_search.proofs.Boards.LeftLines.{left_count}
+use Rattle.bk_free_search.proofs.Boards.LowLines.{low_left_end, low_lefts}
 use Rattle.bk_free_search.specs.NodeLines.{AreLow}
 use Rattle.bk_free_search.proofs.board.Board.left_end.Goals as goal
 
 pub returns-clause-value : goal.returns-clause-value
 returns-clause-value c = c.left_of_first.ensures ∙ ap (λ l. first_left l c.args.squares.now) c.as_slice.ensures.items
     ∙ left_end_on_board c.self.inside.skel c.self.inside.lefts.items c.args.squares.now c.self.invariant.left_word.lefts_are
-    ∙ ap (λ (w : Word). left_end (sides_of w) c.args.squares.now) c.self.view_is
+    ∙ ap (λ (w : Word). left_end (square_lines w) c.args.squares.now) c.self.view_is
 
 pub returns-clause-low : goal.returns-clause-low
 returns-clause-low c = omega (

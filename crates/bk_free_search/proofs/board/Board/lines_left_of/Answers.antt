@@ -1,8 +1,8 @@
 use Rattle.std.proofs.Common.{List, ap, arith, length, subst, sym, ℕ, ◌∙◌}
 use Rattle.bk_word.specs.Word.{Word}
 use Rattle.bk_layout.specs.LineNumbers.{lefts_of}
-use Rattle.bk_free_search.proofs.LeftLines.{left_count}
-use Rattle.bk_free_search.proofs.LowLines.{low_lefts}
+use Rattle.bk_free_search.proofs.Boards.LeftLines.{left_count}
+use Rattle.bk_free_search.proofs.Boards.LowLines.{low_lefts}
 use Rattle.bk_free_search.specs.Lefts.{IsLeftOfOne}
 use Rattle.bk_free_search.specs.NodeLines.{AreLow}
 use Rattle.bk_free_search.proofs.board.Board.lines_left_of.Goals as goal

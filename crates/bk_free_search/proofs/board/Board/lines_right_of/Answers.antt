@@ -1,7 +1,7 @@
 use Rattle.std.proofs.Common.{List, ap, arith, length, subst, sym, ℕ, ◌∙◌}
 use Rattle.bk_word.specs.Word.{Word}
-use Rattle.bk_free_search.proofs.RightLines.{as_many_rights}
-use Rattle.bk_free_search.proofs.LowLines.{low_rights}
+use Rattle.bk_free_search.proofs.Boards.RightLines.{as_many_rights}
+use Rattle.bk_free_search.proofs.Boards.LowLines.{low_rights}
 use Rattle.bk_free_search.specs.NodeLines.{AreLow}
 use Rattle.bk_free_search.specs.Rights.{IsRightOfOne, rights_of}
 use Rattle.bk_free_search.proofs.board.Board.lines_right_of.Goals as goal

@@ -5,12 +5,12 @@ use Rattle.bk_word.specs.Word.{Move, Word, order_of}
 use Rattle.bk_word.proofs.PlayLaws.{moves_many}
 use Rattle.bk_free_search.specs.Lefts.{first_left}
 use Rattle.bk_free_search.specs.Rights.{last_right}
-use Rattle.bk_free_search.proofs.BoardMoves.{beside_same, board_more}
-use Rattle.bk_free_search.proofs.LeftLines.{left_count}
-use Rattle.bk_free_search.proofs.LowLines.{low_lefts_then, low_rights_then}
-use Rattle.bk_free_search.proofs.RightLines.{as_many_rights}
-use Rattle.bk_free_search.proofs.LinesBeside.{stand_between}
-use Rattle.bk_free_search.proofs.WordCounts.{few_left, few_right}
+use Rattle.bk_free_search.proofs.Boards.BoardMoves.{beside_same, board_more}
+use Rattle.bk_free_search.proofs.Boards.LeftLines.{left_count}
+use Rattle.bk_free_search.proofs.Boards.LowLines.{low_lefts_then, low_rights_then}
+use Rattle.bk_free_search.proofs.Boards.RightLines.{as_many_rights}
+use Rattle.bk_free_search.proofs.Boards.LinesBeside.{stand_between}
+use Rattle.bk_free_search.proofs.Boards.WordCounts.{few_left, few_right}
 use Rattle.bk_free_search.proofs.board.Board.push.Goals as goal
 
 pub invariant_of-self : goal.invariant_of-self

@@ -1,17 +1,17 @@
 use Rattle.std.proofs.Common.{List, ap, arith, length, subst, sym, ℕ, ◌∙◌}
 use Rattle.bk_word.specs.Word.{Word}
-use Rattle.bk_layout.specs.LineNumbers.{right_end, sides_of}
+use Rattle.bk_layout.specs.LineNumbers.{right_end, square_lines}
 use Rattle.bk_free_search.specs.Rights.{last_right}
-use Rattle.bk_free_search.proofs.BoardMoves.{right_end_on_board}
-use Rattle.bk_free_search.proofs.LowLines.{low_right_end, low_rights}
-use Rattle.bk_free_search.proofs.RightLines.{as_many_rights}
+use Rattle.bk_free_search.proofs.Boards.BoardMoves.{right_end_on_board}
+use Rattle.bk_free_search.proofs.Boards.LowLines.{low_right_end, low_rights}
+use Rattle.bk_free_search.proofs.Boards.RightLines.{as_many_rights}
 use Rattle.bk_free_search.specs.NodeLines.{AreLow}
 use Rattle.bk_free_search.proofs.board.Board.right_end.Goals as goal
 
 pub returns-clause-value : goal.returns-clause-value
 returns-clause-value c = c.right_of_last.ensures ∙ ap (λ l. last_right l c.args.squares.now) c.as_slice.ensures.items
     ∙ right_end_on_board c.self.inside.skel c.self.inside.rights.items c.args.squares.now c.self.invariant.rights_are
-    ∙ ap (λ (w : Word). right_end (sides_of w) c.args.squares.now) c.self.view_is
+    ∙ ap (λ (w : Word). right_end (square_lines w) c.args.squares.now) c.self.view_is
 
 pub returns-clause-low : goal.returns-clause-low
 returns-clause-low c = omega (

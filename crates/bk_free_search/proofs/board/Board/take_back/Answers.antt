@@ -1,6 +1,6 @@
 use Rattle.std.proofs.Common.{ap, arith, length, subst, sym, take, ◌-◌, ◌∙◌}
 use Rattle.bk_word.specs.Word.{Word}
-use Rattle.bk_free_search.proofs.BoardMoves.{board_less}
+use Rattle.bk_free_search.proofs.Boards.BoardMoves.{board_less}
 use Rattle.bk_free_search.specs.BoardOutlines.{IsBoardOutline}
 use Rattle.bk_free_search.proofs.board.Board.take_back.Goals as goal
 

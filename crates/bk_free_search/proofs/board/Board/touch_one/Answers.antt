@@ -3,7 +3,7 @@ use Rattle.bk_word.specs.Word.{Word}
 use Rattle.bk_free_search.specs.Joining.{TouchOneOf}
 use Rattle.bk_free_search.specs.NodeLines.{HasPair}
 use Rattle.bk_free_search.specs.declared.line_set.LineSet.{LineSet}
-use Rattle.bk_free_search.proofs.BoardMoves.{touch_lines}
+use Rattle.bk_free_search.proofs.Boards.BoardMoves.{touch_lines}
 use Rattle.bk_free_search.proofs.board.Board.touch_one.Goals as goal
 
 pub returns : goal.returns

@@ -2,24 +2,26 @@
 use Rattle.std.proofs.Common.{IsTrue, List, [], ap, arith, false, inl, inr, length, refl, subst, sym, true, ℕ}
 use Rattle.std.proofs.Common.{◌*◌, ◌++◌, ◌+◌, ◌-◌, ◌<◌, ◌≤◌, ◌⊎◌, ◌∙◌, ◌∷◌, ◌≡◌}
 use Rattle.std.proofs.lemmas.List.{length-append}
+use Rattle.std.proofs.lemmas.Bool.{cases_lt}
+use Rattle.bk_laws.proofs.NumberOrder.{lt_add_one-less_or_same}
 use Rattle.bk_word.proofs.StoredBytes.{order_one}
 use Rattle.bk_word.specs.Outline.{has_left_wall, open_side}
 use Rattle.bk_word.specs.Play.{IsComplete, outline_of}
 use Rattle.bk_word.specs.Word.{Word, order_of}
 use Rattle.bk_word.specs.declared.Sign.{Sign}
 use Rattle.bk_word.specs.declared.Sign.TheVariants.{Above, Even, Under}
-use Rattle.bk_play.specs.SmallSkeleton.{IsValley}
+use Rattle.bk_play.specs.SmallSkeleton.{IsValleyPlace}
 use Rattle.bk_layout.specs.NetWord.{IsNetBarren}
 use Rattle.bk_layout.specs.NormalImage.{IsNormalSought}
-use Rattle.bk_free_search.proofs.Cutting.{normal}
-use Rattle.bk_free_search.proofs.EvenSigns.{side_few}
-use Rattle.bk_free_search.proofs.LastSquare.{all_at_once_is_barren}
-use Rattle.bk_free_search.proofs.NextMoves.{HasNextMove, HasNextSign, below_or_not, below_or_same, by_count, by_same, by_sign, by_whole, is_whole}
-use Rattle.bk_free_search.proofs.NextMoves.{next_fertile, next_fits, next_move, next_sign, sought_in}
-use Rattle.bk_free_search.proofs.SignPhases.{above_at_left_is_barred, evens_now, few_behind, few_now, first_missing}
-use Rattle.bk_free_search.proofs.SignPhases.{last_missing, none_goes_on_so, none_missing, not_whole, own_even_is_barred, whole_is_legal}
-use Rattle.bk_free_search.proofs.TurnsTaken.{begun_with, few_steps, first_fits, handed_on, own_few, own_wanted, room_for_sign, without_last}
-use Rattle.bk_free_search.specs.Asking.{BarsSigns, IsAsked, IsBegun, IsNext, IsWithOwn}
+use Rattle.bk_free_search.proofs.NextWords.Cutting.{normal}
+use Rattle.bk_free_search.proofs.Asks.EvenSigns.{side_few}
+use Rattle.bk_free_search.proofs.NextWords.LastSquare.{all_at_once_is_barren}
+use Rattle.bk_free_search.proofs.NextWords.NextMoves.{HasNextMove, HasNextSign, by_count, by_same, by_sign, by_whole, is_whole}
+use Rattle.bk_free_search.proofs.NextWords.NextMoves.{next_fertile, next_fits, next_move, next_sign, sought_in}
+use Rattle.bk_free_search.proofs.NextWords.SignPhases.{above_at_left_is_barred, evens_now, few_behind, few_now, first_missing}
+use Rattle.bk_free_search.proofs.NextWords.SignPhases.{last_missing, none_goes_on_so, none_missing, not_whole, own_even_is_barred, whole_is_legal}
+use Rattle.bk_free_search.proofs.NextWords.TurnsTaken.{begun_with, few_steps, first_fits, handed_on, own_few, own_wanted, room_for_sign, without_last}
+use Rattle.bk_free_search.specs.AskedSigns.{BarsSigns, IsAsked, IsMoveBegun, IsNextCount, IsWithOwn}
 use Rattle.bk_free_search.specs.BoardOutlines.{IsBoardOutline}
 use Rattle.bk_free_search.specs.Sought.{GoesOn, GoesOnBy}
 use Rattle.bk_free_search.specs.declared.state.Begun.{Begun}
@@ -56,7 +58,7 @@ pub with_counts-counts-preserved : goal.with_counts-counts-preserved
 with_counts-counts-preserved g t c = record {
   same = c.with_left.ensures.same ∙ c.counts.invariant.same;
   signs = ap (λ (b : Begun). b.m.signs) c.with_left.ensures.same_move ∙ c.begin.ensures.signs ∙ c.counts.invariant.signs;
-  all = λ w sought h few. elim (below_or_same h.move.count c.counts.count few) [
+  all = λ w sought h few. elim (lt_add_one-less_or_same h.move.count c.counts.count few) [
     | inl less ↦ c.with_left.ensures.kept w (c.counts.invariant.all w sought h less)
     | inr same ↦ c.with_left.ensures.all w (sought_in c.counts.self c.args.self.now w c.counts.invariant.same sought)
         (by_count c.args.self.now.board c.counts.self.board w h c.begin.new.begun.m.count c.begin.new.begun.m.signs
@@ -67,7 +69,7 @@ with_counts-counts-preserved g t c = record {
 }
 
 pub with_counts-returns-clause-all : goal.with_counts-returns-clause-all
-with_counts-returns-clause-all g t c w sought on = cases (below_or_not (h).move.count c.counts.count)
+with_counts-returns-clause-all g t c w sought on = cases (cases_lt (h).move.count c.counts.count)
   where
     h : HasNextMove c.args.self.now.board w
     h = next_move c.args.self.now.order c.args.self.now.board w sought (omega (arith, c.requires.few)) on
@@ -593,7 +595,7 @@ with_counts-least_count-count-requires-clause-word g t c = c.skel-2.ensures.lega
 
 pub with_counts-least_count-count-requires-clause-valley : goal.with_counts-least_count-count-requires-clause-valley
 with_counts-least_count-count-requires-clause-valley g t c =
-    subst (λ (v : Word). IsValley v c.stand_beside-around.result.valley) (sym c.skel-2.ensures.value) c.stand_beside-around.ensures.valley_is
+    subst (λ (v : Word). IsValleyPlace v c.stand_beside-around.result.valley) (sym c.skel-2.ensures.value) c.stand_beside-around.ensures.valley_is
 
 pub with_counts-overflow_sub-left-in-counts : goal.with_counts-overflow_sub-left-in-counts
 with_counts-overflow_sub-left-in-counts g t c = omega (arith, c.counts-test.true)
@@ -607,7 +609,7 @@ with_counts-begin-requires-clause-few g t c = omega (arith, c.counts-test.true, 
 pub with_counts-with_left-requires : goal.with_counts-with_left-requires
 with_counts-with_left-requires g t c κs within = handed_on
     (λ s b. 1000 * (s.order - order_of s.board) + 850 < t)
-    (λ s b. IsBegun s.order s.board b.m b.next c.stand_beside-around.result × (b.m.signs ≡ []))
+    (λ s b. IsMoveBegun s.order s.board b.m b.next c.stand_beside-around.result × (b.m.signs ≡ []))
     c.counts.self c.args.self.now c.begin.new.begun c.begin.new.begun c.counts.invariant.same refl
     (omega (arith, c.decreases)) within (begun, none)
   where
@@ -617,14 +619,14 @@ with_counts-with_left-requires g t c κs within = handed_on
     hung : c.order.result ≡ order_of c.args.self.now.board
     hung = c.order.ensures.value ∙ ap order_of c.skel.ensures.value
 
-    begun : IsBegun c.args.self.now.order c.args.self.now.board c.begin.new.begun.m c.begin.new.begun.next c.stand_beside-around.result
+    begun : IsMoveBegun c.args.self.now.order c.args.self.now.board c.begin.new.begun.m c.begin.new.begun.next c.stand_beside-around.result
     begun = record {
       least = c.requires.least;
       most = c.requires.most;
       some = omega (arith, c.counts.auto.count, c.least_count-count.ensures.some, c.begin.ensures.count);
       fits = omega (arith, c.counts-test.true, hung, c.begin.ensures.count);
       signs = omega (arith, ap (λ (l : List Sign). length l) none);
-      next_is = subst (λ k. IsNext c.args.self.now.order c.args.self.now.board k c.begin.new.begun.next) (sym c.begin.ensures.count)
+      next_is = subst (λ k. IsNextCount c.args.self.now.order c.args.self.now.board k c.begin.new.begun.next) (sym c.begin.ensures.count)
           (c.begin.ensures.next c.args.self.now.order c.args.self.now.board c.stand_beside-around.ensures (omega (arith, hung)));
       around_is = c.stand_beside-around.ensures;
     }
@@ -708,7 +710,7 @@ with_left-with_sign-requires g t c κs within = (
 pub with_left-with_sign-requires-2 : goal.with_left-with_sign-requires-2
 with_left-with_sign-requires-2 g t c κs within = handed_on
     (λ s b. 1000 * (s.order - order_of s.board) + 4 * (b.m.count + 2 - length b.m.signs) < t)
-    (λ s b. IsBegun s.order s.board b.m b.next c.args.around.now × (IsAsked s.board (b.m.signs ++ Under ∷ []) c.args.around.now.before.under
+    (λ s b. IsMoveBegun s.order s.board b.m b.next c.args.around.now × (IsAsked s.board (b.m.signs ++ Under ∷ []) c.args.around.now.before.under
     × ((length b.m.signs + 1 ≤ b.next.own)
     × (IsTrue c.bars_first_under-barred.result → BarsSigns s.order s.board b.m.count (b.m.signs ++ Under ∷ [])))))
     c.with_sign.new.self c.args.self.now c.with_sign.new.begun c.args.begun.now c.with_sign.ensures.same c.with_sign.ensures.same_move
@@ -738,7 +740,7 @@ with_left-with_sign-requires-2 g t c κs within = handed_on
 
     bars : IsTrue c.bars_first_under-barred.result
         → BarsSigns c.args.self.now.order c.args.self.now.board c.args.begun.now.m.count (c.args.begun.now.m.signs ++ Under ∷ [])
-    bars barred = subst (λ (b : Begun). IsBegun c.args.self.now.order c.args.self.now.board b.m b.next c.args.around.now → b.m.signs ≡ []
+    bars barred = subst (λ (b : Begun). IsMoveBegun c.args.self.now.order c.args.self.now.board b.m b.next c.args.around.now → b.m.signs ≡ []
         → BarsSigns c.args.self.now.order c.args.self.now.board b.m.count (b.m.signs ++ Under ∷ [])) c.with_sign.ensures.same_move
         (λ begun none. c.bars_first_under-barred.ensures barred c.args.self.now.order c.args.self.now.board begun none apart)
         c.requires.begun c.requires.none
@@ -834,7 +836,7 @@ with_own-with_sign-requires g t c κs within = (
 pub with_own-with_sign-requires-2 : goal.with_own-with_sign-requires-2
 with_own-with_sign-requires-2 g t c κs within = handed_on
     (λ s b. 1000 * (s.order - order_of s.board) + 4 * (b.m.count + 2 - length b.m.signs) < t)
-    (λ s b. IsBegun s.order s.board b.m b.next c.args.around.now × (IsAsked s.board (b.m.signs ++ Under ∷ []) c.asked_with-under.result
+    (λ s b. IsMoveBegun s.order s.board b.m b.next c.args.around.now × (IsAsked s.board (b.m.signs ++ Under ∷ []) c.asked_with-under.result
     × ((length b.m.signs + 1 ≤ b.next.own)
     × (IsTrue c.asks_too_much-barred.result → BarsSigns s.order s.board b.m.count (b.m.signs ++ Under ∷ [])))))
     c.with_sign.new.self c.args.self.now c.with_sign.new.begun c.args.begun.now c.with_sign.ensures.same c.with_sign.ensures.same_move
@@ -859,7 +861,7 @@ with_own-with_sign-requires-2 g t c κs within = handed_on
 
     bars : IsTrue c.asks_too_much-barred.result
         → BarsSigns c.args.self.now.order c.args.self.now.board c.args.begun.now.m.count (c.args.begun.now.m.signs ++ Under ∷ [])
-    bars barred = subst (λ (b : Begun). IsBegun c.args.self.now.order c.args.self.now.board b.m b.next c.args.around.now
+    bars barred = subst (λ (b : Begun). IsMoveBegun c.args.self.now.order c.args.self.now.board b.m b.next c.args.around.now
         → length (c.args.begun.now.m.signs ++ Under ∷ []) ≤ b.next.own
         → BarsSigns c.args.self.now.order c.args.self.now.board b.m.count (c.args.begun.now.m.signs ++ Under ∷ [])) c.with_sign.ensures.same_move
         (λ begun few. c.asks_too_much-barred.ensures barred c.args.self.now.order c.args.self.now.board
@@ -908,7 +910,7 @@ with_right-with_last-requires g t c κs within = (
 pub with_right-with_last-requires-2 : goal.with_right-with_last-requires-2
 with_right-with_last-requires-2 g t c κs within = handed_on
     (λ s b. 1000 * (s.order - order_of s.board) + 2 < t)
-    (λ s b. IsBegun s.order s.board b.m b.next c.args.around.now × ((length b.m.signs + 1 ≡ b.next.wanted)
+    (λ s b. IsMoveBegun s.order s.board b.m b.next c.args.around.now × ((length b.m.signs + 1 ≡ b.next.wanted)
     × (IsTrue c.bars_last-barred.result → BarsSigns s.order s.board b.m.count (b.m.signs ++ Above ∷ []))))
     c.with_last.new.self c.args.self.now c.with_last.new.begun c.args.begun.now c.with_last.ensures.same
     c.with_last.ensures.same_move
@@ -929,7 +931,7 @@ with_right-with_last-requires-2 g t c κs within = handed_on
 pub with_right-with_last-requires-3 : goal.with_right-with_last-requires-3
 with_right-with_last-requires-3 g t c κs within = handed_on
     (λ s b. 1000 * (s.order - order_of s.board) + 2 < t)
-    (λ s b. IsBegun s.order s.board b.m b.next c.args.around.now × ((length b.m.signs + 1 ≡ b.next.wanted)
+    (λ s b. IsMoveBegun s.order s.board b.m b.next c.args.around.now × ((length b.m.signs + 1 ≡ b.next.wanted)
     × (IsTrue c.bars_last-barred-2.result → BarsSigns s.order s.board b.m.count (b.m.signs ++ Under ∷ []))))
     c.with_last-2.new.self c.args.self.now c.with_last-2.new.begun c.args.begun.now (c.with_last-2.ensures.same ∙ c.with_last.ensures.same)
     (c.with_last-2.ensures.same_move ∙ c.with_last.ensures.same_move)

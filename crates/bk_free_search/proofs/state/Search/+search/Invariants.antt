@@ -1,7 +1,7 @@
 use Rattle.std.proofs.Common.{[], length, ◌*◌, ◌+◌, ◌-◌, ◌<◌, ◌≡◌}
 use Rattle.bk_word.specs.Word.{Word, order_of}
 use Rattle.bk_layout.specs.NormalImage.{IsNormalSought}
-use Rattle.bk_free_search.proofs.NextMoves.{HasNextMove}
+use Rattle.bk_free_search.proofs.NextWords.NextMoves.{HasNextMove}
 use Rattle.bk_free_search.proofs.state.Search.+search.Given as goal
 
 abbrev pub decreases-go_on : goal.decreases-go_on

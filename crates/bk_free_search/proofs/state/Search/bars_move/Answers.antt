@@ -1,5 +1,5 @@
 use Rattle.std.proofs.Common.{[], ◌++◌, ◌∷◌}
-use Rattle.bk_free_search.proofs.Cutting.{normal}
+use Rattle.bk_free_search.proofs.NextWords.Cutting.{normal}
 use Rattle.bk_free_search.proofs.state.Search.bars_move.Goals as goal
 
 pub returns-then-joins_barrenly : goal.returns-then-joins_barrenly

@@ -1,7 +1,7 @@
 use Rattle.std.specs.Prelude.{true, ◌↔◌}
 use Rattle.std.proofs.Common.{List, ap, inl, inr, subst, sym, ◌∙◌, ◌≡◌}
 use Rattle.bk_tiling.specs.declared.Square.{Square}
-use Rattle.bk_pair.specs.Kept.{AreAscending}
+use Rattle.bk_pair.specs.SquaresBySide.{AreSidesAscending}
 use Rattle.bk_pair.specs.OwnSides.{HaveCommonSide, stands_apart}
 use Rattle.bk_pair.proofs.KeptPairs.{common_refused, join_decided, not_joined, stored}
 use Rattle.bk_pair.proofs.SmallSides.{bits_common}
@@ -42,7 +42,7 @@ returns c =
     c.have_common_side.ensures))
 
 pub have_common_side-requires-clause-first : goal.have_common_side-requires-clause-first
-have_common_side-requires-clause-first c = subst AreAscending (sym c.as_slice.ensures.value) c.self.invariant.ascending
+have_common_side-requires-clause-first c = subst AreSidesAscending (sym c.as_slice.ensures.value) c.self.invariant.ascending
 
 pub have_common_side-requires-clause-second : goal.have_common_side-requires-clause-second
-have_common_side-requires-clause-second c = subst AreAscending (sym c.as_slice-2.ensures.value) c.other.invariant.ascending
+have_common_side-requires-clause-second c = subst AreSidesAscending (sym c.as_slice-2.ensures.value) c.other.invariant.ascending

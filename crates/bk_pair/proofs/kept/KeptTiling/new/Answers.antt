@@ -3,13 +3,13 @@ use Rattle.std.proofs.Common.{List, ap, arith, rules, subst, sym, ◌∙◌}
 use Rattle.std.proofs.lemmas.List.Sorted.{IsNonDecreasingBy-from_sort, answers_always}
 use Rattle.bk_tiling.specs.declared.Square.{Square}
 use Rattle.bk_pair.proofs.KeptSquares.{kept_by_sides, seen_as}
-use Rattle.bk_pair.specs.Kept.{AreAscending, AreSidesOf, tiling_of}
+use Rattle.bk_pair.specs.SquaresBySide.{AreSideBitsOf, AreSidesAscending, tiling_of}
 use Rattle.bk_pair.specs.OwnSides.{stands_apart}
 use Rattle.bk_pair.proofs.kept.KeptTiling.new.Goals as goal
 
 pub stands_apart-apart-requires : goal.stands_apart-apart-requires
 stands_apart-apart-requires c =
-    subst AreAscending (sym c.as_slice.ensures.value)
+    subst AreSidesAscending (sym c.as_slice.ensures.value)
     (IsNonDecreasingBy-from_sort (λ (q : Square). q.s) c.sort_unstable_by_key.new.self.items
     (c.sort_unstable_by_key.ensures.sorted (λ (q : Square). q.s) (answers_always _ _ _ (λ f a r g h. search rules))))
 
@@ -24,7 +24,7 @@ invariant_of-result c =
     c.width-width.result c.height-height.result c.width-width.ensures.value c.height-height.ensures.value c.stands_apart-apart.result
     (c.stands_apart-apart.ensures ∙ ap (λ (l : List Square). stands_apart (tiling_of c.width-width.result c.height-height.result l)) c.as_slice.ensures.value)
     c.small_sides-small.result (omega arith)
-    (subst (AreSidesOf c.small_sides-small.result) c.as_slice-2.ensures.value c.small_sides-small.ensures)
+    (subst (AreSideBitsOf c.small_sides-small.result) c.as_slice-2.ensures.value c.small_sides-small.ensures)
 
 pub returns : goal.returns
 returns c =

@@ -1,8 +1,9 @@
 use Rattle.std.specs.List.{splice}
 use Rattle.std.proofs.Common.{ap, arith, drop, length, lit<, take, ◌+◌, ◌-◌, ◌∙◌, ◌≡◌, ◌≤◌}
 use Rattle.std.proofs.lemmas.List.{length-drop, length-map}
+use Rattle.bk_laws.proofs.ListParts.{drop-as_read}
 use Rattle.bk_play.proofs.Playing.{moves_shown, stored_shown}
-use Rattle.bk_play.proofs.TakenBack.{Back, TakesBack, behind_read, front_left, stored_back, taken_back}
+use Rattle.bk_play.proofs.TakenBack.{Back, TakesBack, front_left, stored_back, taken_back}
 use Rattle.bk_play.proofs.SkelReads.{counted_in}
 use Rattle.bk_play.specs.Skeleton.{move_of, moves_stored}
 use Rattle.bk_play.proofs.skeleton.Skel.pop.Goals as goal
@@ -38,7 +39,7 @@ splice-requires c =
     omega (arith, b.ends_within, c.from-first.ensures, c.from-2.ensures) in
     let few : length (take (length c.deref.result.now - (c.len.result - c.from.result))
     (drop (c.len.result - c.from.result) c.deref.result.now)) ≡ c.take_last-turn.result.closed =
-    ap length (behind_read c.self.inside.closed.items c.deref.result.now (c.len.result - c.from.result)
+    ap length (drop-as_read c.self.inside.closed.items c.deref.result.now (c.len.result - c.from.result)
     (length c.self.inside.closed.items - c.take_last-turn.result.closed) c.deref.ensures.0 kept)
     ∙ length-drop (length c.self.inside.closed.items - c.take_last-turn.result.closed) c.self.inside.closed.items ∙ omega (arith, b.closed_within) in
     let fits : length c.self.inside.ends.items - (c.from-first.result + c.from-2.result - c.from-first.result)
@@ -55,7 +56,7 @@ invariant_of-self c =
     c.self.inside.played.items c.take_last-turn.result c.splice.new.list.items c.undo_signs.new.sizes.items c.undo_signs.new.signs.items
     c.truncate.new.self.items c.truncate-2.new.self.items = record {
       ends_new = c.splice.ensures ∙ (λ i. splice c.self.inside.ends.items (c.from-first.ensures i) (c.from-first.ensures i + c.from-2.ensures i)
-          (behind_read c.self.inside.closed.items c.deref.result.now (c.len.result - c.from.result)
+          (drop-as_read c.self.inside.closed.items c.deref.result.now (c.len.result - c.from.result)
           (length c.self.inside.closed.items - c.take_last-turn.result.closed) c.deref.ensures.0 kept i));
       sizes_new = c.undo_signs.ensures.sizes;
       signs_new = c.undo_signs.ensures.signs;
@@ -73,7 +74,7 @@ returns c =
     c.self.inside.played.items c.take_last-turn.result c.splice.new.list.items c.undo_signs.new.sizes.items c.undo_signs.new.signs.items
     c.truncate.new.self.items c.truncate-2.new.self.items = record {
       ends_new = c.splice.ensures ∙ (λ i. splice c.self.inside.ends.items (c.from-first.ensures i) (c.from-first.ensures i + c.from-2.ensures i)
-          (behind_read c.self.inside.closed.items c.deref.result.now (c.len.result - c.from.result)
+          (drop-as_read c.self.inside.closed.items c.deref.result.now (c.len.result - c.from.result)
           (length c.self.inside.closed.items - c.take_last-turn.result.closed) c.deref.ensures.0 kept i));
       sizes_new = c.undo_signs.ensures.sizes;
       signs_new = c.undo_signs.ensures.signs;

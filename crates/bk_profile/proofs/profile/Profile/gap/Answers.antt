@@ -2,7 +2,7 @@ use Rattle.std.proofs.Common.{List, length, lit<, subst, sym, ◌<◌, ◌∙◌
 use Rattle.bk_profile.proofs.Storing.{gap_read, narrow_runs, some_runs}
 use Rattle.bk_profile.specs.Gap.{IsGap}
 use Rattle.bk_profile.specs.Laid.{IsProfile, Laid}
-use Rattle.bk_profile.specs.Outline.{width_of}
+use Rattle.bk_profile.specs.OutlineRuns.{width_of}
 use Rattle.bk_profile.specs.declared.runs.Run.{Run}
 use Rattle.bk_profile.proofs.profile.Profile.gap.Goals as goal
 

@@ -2,9 +2,9 @@ use Rattle.std.proofs.Common.{List, ap, arith, length, lit<, refl, subst, sym, �
 use Rattle.bk_tiling.specs.declared.Square.{Square}
 use Rattle.bk_profile.proofs.Storing.{gap_read, level_small, narrow_runs, reads_from, some_runs, stored_laid}
 use Rattle.bk_profile.proofs.RunStarts.{start_below}
-use Rattle.bk_profile.specs.Gap.{Fits}
+use Rattle.bk_profile.specs.Gap.{FitsGap}
 use Rattle.bk_profile.specs.Laid.{Laid, LaysGroup, MisfitsGap}
-use Rattle.bk_profile.specs.Outline.{width_of}
+use Rattle.bk_profile.specs.OutlineRuns.{width_of}
 use Rattle.bk_profile.specs.declared.runs.Run.{Run}
 use Rattle.bk_profile.proofs.profile.Profile.lay.Goals as goal
 
@@ -32,7 +32,7 @@ hang-requires-clause-high c =
 
 pub invariant_of-self : goal.invariant_of-self
 invariant_of-self c =
-    let fits : Fits c.segment-gap.result c.args.sides.now = sym c.sum_of-sum.ensures.sum ∙ c.if-sum-gap.false in
+    let fits : FitsGap c.segment-gap.result c.args.sides.now = sym c.sum_of-sum.ensures.sum ∙ c.if-sum-gap.false in
     let room : length c.self.inside.laid.items + length c.args.sides.now ≤ 200 =
     omega (arith, c.requires.room, ap (λ (p : Laid). length p.squares) c.self.view_is) in
     rw (c.push_group.ensures, c.hang.ensures) (stored_laid _ _ _ _ _ _ c.self.invariant

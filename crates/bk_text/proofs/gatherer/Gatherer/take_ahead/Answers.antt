@@ -1,8 +1,8 @@
 -- Each arm of `take_ahead` leads where its callee says: a number, the sides of a group, or a comment to its end.
 use Rattle.std.specs.Prelude.{Some, length, refl, take}
 use Rattle.std.proofs.Common.{ap, inl, inr, le_refl, subst, sym, zero-le, ◌∙◌}
-use Rattle.bk_text.specs.Gathered.{IsGathered}
-use Rattle.bk_text.specs.Onward.{BeginsNumber, OpensGroup, behind_sides, onward}
+use Rattle.bk_text.specs.GatheredSides.{IsGathered}
+use Rattle.bk_text.specs.Onward.{BeginsFieldNumber, OpensGroup, behind_sides, onward}
 use Rattle.bk_text.specs.declared.reader.Field.TheVariants.{First, Height, Second}
 use Rattle.bk_text.proofs.CommentBytes.{comment_to_end}
 use Rattle.bk_text.proofs.Fronts.{group_follows, group_goes_on}
@@ -37,21 +37,21 @@ pub same-self-in-Number-1 : goal.same-self-in-Number-1
 same-self-in-Number-1 c = refl
 
 pub take_number-requires-clause-first : goal.take_number-requires-clause-first
-take_number-requires-clause-first c = subst (λ p. BeginsNumber p First) (sym c.in-Start.is) order_begins
+take_number-requires-clause-first c = subst (λ p. BeginsFieldNumber p First) (sym c.in-Start.is) order_begins
 
 pub take_number-requires-clause-header : goal.take_number-requires-clause-header
 take_number-requires-clause-header c = refl
 
 pub take_number-requires-in-BehindFirst-clause-first : goal.take_number-requires-in-BehindFirst-clause-first
 take_number-requires-in-BehindFirst-clause-first c =
-    subst (λ p. BeginsNumber p (Second c.in-BehindFirst.order)) (sym c.in-BehindFirst.is) (width_begins c.in-BehindFirst.order)
+    subst (λ p. BeginsFieldNumber p (Second c.in-BehindFirst.order)) (sym c.in-BehindFirst.is) (width_begins c.in-BehindFirst.order)
 
 pub take_number-requires-in-BehindFirst-clause-header : goal.take_number-requires-in-BehindFirst-clause-header
 take_number-requires-in-BehindFirst-clause-header c = refl
 
 pub take_number-requires-in-BeforeHeight-clause-first : goal.take_number-requires-in-BeforeHeight-clause-first
 take_number-requires-in-BeforeHeight-clause-first c =
-    subst (λ p. BeginsNumber p (Height c.in-BeforeHeight.order c.in-BeforeHeight.width)) (sym c.in-BeforeHeight.is)
+    subst (λ p. BeginsFieldNumber p (Height c.in-BeforeHeight.order c.in-BeforeHeight.width)) (sym c.in-BeforeHeight.is)
     (height_begins c.in-BeforeHeight.order c.in-BeforeHeight.width)
 
 pub take_number-requires-in-BeforeHeight-clause-header : goal.take_number-requires-in-BeforeHeight-clause-header

@@ -1,6 +1,6 @@
 use Rattle.std.specs.Prelude.{false, length, true, ◌<◌, ◌≡◌}
 use Rattle.std.proofs.Common.{ap, arith, le_refl, refl, subst, sym, ◌∙◌}
-use Rattle.bk_text.specs.Gathered.{Gathered, with_group}
+use Rattle.bk_text.specs.GatheredSides.{Gathered, with_group}
 use Rattle.bk_text.proofs.Fronts.{group_further, group_within}
 use Rattle.bk_text.proofs.Progress.{side_added}
 use Rattle.bk_text.proofs.gatherer.Gatherer.take_group.Goals as goal

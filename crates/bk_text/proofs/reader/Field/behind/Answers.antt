@@ -1,7 +1,7 @@
 -- Each arm of `behind` gives what the definition gives at that field and that byte.
 use Rattle.std.specs.Prelude.{None, Option, refl, ℕ, ◌≡◌}
 use Rattle.std.proofs.Common.{sym, ◌∙◌}
-use Rattle.bk_text.specs.Reader.{behind_number}
+use Rattle.bk_text.specs.LineReading.{behind_number}
 use Rattle.bk_text.specs.declared.reader.Bracket.{Bracket}
 use Rattle.bk_text.specs.declared.reader.Field.TheVariants.{Column, First, Height, Second, Side, Third}
 use Rattle.bk_text.specs.declared.reader.Header.{Header}

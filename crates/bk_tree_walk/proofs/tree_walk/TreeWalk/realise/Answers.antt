@@ -1,7 +1,7 @@
 use Rattle.std.proofs.Common.{ap, subst, sym, ◌∙◌}
 use Rattle.bk_word.specs.Play.{IsComplete}
 use Rattle.bk_word.specs.Word.{Word}
-use Rattle.bk_catalogue.proofs.OneEntry.{entry_complete}
+use Rattle.bk_catalogue.proofs.Members.OneEntry.{entry_complete}
 use Rattle.bk_word_net.specs.Realised.{IsTilingOf}
 use Rattle.bk_tree_walk.specs.Search.{SearchState}
 use Rattle.bk_tree_walk.proofs.MemberEntries.{member_realised}

@@ -2,13 +2,13 @@ use Rattle.std.proofs.Common.{Bor, Option, [], ap, arith, false, le_of_eq, refl,
 use Rattle.std.specs.Option.{option_copied}
 use Rattle.std.proofs.lemmas.Result.{err_from_is_err_and}
 use Rattle.std.specs.Prelude.{IfOk, OnErr}
+use Rattle.bk_laws.proofs.Outcomes.{on_err-intro}
 use Rattle.bk_tiling.specs.Tiling.{Tiling}
 use Rattle.bk_report.specs.ListLines.{refused_line}
 use Rattle.bk_answer.specs.Item.{IsLaidLine}
-use Rattle.bk_word.proofs.Failing.{on_err}
-use Rattle.bk_ports.specs.Answer.{HasOutcome, IsBegun}
+use Rattle.bk_ports.specs.WrittenAnswer.{HasOutcome, IsAnswerBegun}
 use Rattle.bk_verify_report.proofs.Entered.{begun_one, written_none, written_one}
-use Rattle.bk_verify_report.specs.Entering.{CountsAreBelow, EntersLine, MayWantAt, no_item, refuses}
+use Rattle.bk_verify_report.specs.ListLine.{CountsAreBelow, EntersLine, MayWantAt, no_item, refuses}
 use Rattle.bk_verify_report.specs.declared.entering.Verifying.{Verifying}
 use Rattle.bk_verify_report.specs.Laws.{still_ready}
 use Rattle.bk_verify_report.proofs.entering.VerifyRegisterRegister.enter.Goals as goal
@@ -31,7 +31,7 @@ returns-in_ok-write_all-in-Err-clause-outcome g c =
 
 pub returns-in_err-write_all-in-Err-clause-failed : goal.returns-in_err-write_all-in-Err-clause-failed
 returns-in_err-write_all-in-Err-clause-failed g c =
-    on_err c.from_residual.result
+    on_err-intro c.from_residual.result
     (begun_one c.args.self.now c.args.number c.args.line.now true (record c.args.self.now { refused = c.args.self.now.refused + 1 })
     (g.O.Sink.written c.args.out.now) (g.O.Sink.written c.write_all.new.self) (refused_line c.args.number c.in-Err.refused) c.as_slice.result.now
     (c.as_slice.ensures.value ∙ c.write_line_refused.ensures) (refuses c.in-Err.refused c.in-Err.ensures.refused) c.in_err-write_all-in-Err.ensures.err)
@@ -65,7 +65,7 @@ returns-in-Ok-Some-clause-outcome g c =
 
 pub returns-in-Ok-Some-clause-failed : goal.returns-in-Ok-Some-clause-failed
 returns-in-Ok-Some-clause-failed g c =
-    subst (λ (s : Verifying). OnErr c.feed.result (IsBegun (λ pieces refused. (last : Verifying) × EntersLine s c.args.number c.args.line.now pieces
+    subst (λ (s : Verifying). OnErr c.feed.result (IsAnswerBegun (λ pieces refused. (last : Verifying) × EntersLine s c.args.number c.args.line.now pieces
     refused last)
     (g.O.Sink.written c.args.out.now) (g.O.Sink.written c.feed.new.out)))
     c.self.view_is c.feed.ensures.failed

@@ -1,8 +1,8 @@
 use Rattle.std.proofs.lemmas.Grind.{common_steps}
 use Rattle.std.proofs.Common.{List, arith, refl, subst, sym, true≢false, ◌∙◌}
-use Rattle.bk_word.proofs.Failing.{on_err}
+use Rattle.bk_laws.proofs.Outcomes.{on_err-intro}
 use Rattle.bk_verify_report.proofs.Standing.{canonical_order, kept_then, none_of_other_kind, none_of_other_order, stands_told, taken_in}
-use Rattle.bk_verify_report.specs.Kept.{AreKeptEntries, EntriesState, IsFirstSight, IsTakenIn, Kept, StandsFor, StandsForNone}
+use Rattle.bk_verify_report.specs.KeptEntries.{AreKeptEntries, EntriesState, IsFirstSight, IsTakenIn, Kept, StandsFor, StandsForNone}
 use Rattle.bk_verify_report.proofs.entries.Entries.feed.Goals as goal
 
 pub returns-then-order-from-clause-fed : goal.returns-then-order-from-clause-fed
@@ -49,7 +49,7 @@ returns-in_err-keep-clause-wanting c =
     c.order.ensures.kept.tiling
     c.canonical-member.ensures.canonical c.order.ensures.value c.from.ensures c.if-order-from.false c.is_perfect_simple.ensures c.if-not-is_perfect_simple.false
     in
-    on_err c.from_residual.result
+    on_err-intro c.from_residual.result
     (subst (λ (s : EntriesState). IsFirstSight s c.args.tiling.now) c.self.view_is
     (record { tiling = c.canonical-member.result; stands = stands; new = c.in_default.ensures }))
 
@@ -92,7 +92,7 @@ returns-in-Some-clause-fed c = grind (arith, common_steps)
 
 pub returns-in_err-keep-clause-unchanged : goal.returns-in_err-keep-clause-unchanged
 returns-in_err-keep-clause-unchanged c =
-    on_err c.from_residual.result ((λ i. record { order = c.self.inside.order; pairs = c.in_err-keep.ensures.unchanged i }) ∙ c.self.view_is)
+    on_err-intro c.from_residual.result ((λ i. record { order = c.self.inside.order; pairs = c.in_err-keep.ensures.unchanged i }) ∙ c.self.view_is)
 
 pub returns-in_err-keep-clause-kept : goal.returns-in_err-keep-clause-kept
 returns-in_err-keep-clause-kept c =

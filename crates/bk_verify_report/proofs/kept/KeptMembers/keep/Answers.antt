@@ -1,6 +1,7 @@
 use Rattle.std.proofs.Common.{List, subst, sym}
-use Rattle.bk_verify_report.proofs.Storing.{IsKeyOf, IsSeenOf, kept_now, not_ok, on_ok, same_flat, still_stored, tells_apart}
-use Rattle.bk_verify_report.specs.Kept.{IsNotKept, Kept}
+use Rattle.bk_laws.proofs.Outcomes.{on_ok-intro, on_ok-of_error}
+use Rattle.bk_verify_report.proofs.Storing.{IsKeyOf, IsSeenOf, kept_now, same_flat, still_stored, tells_apart}
+use Rattle.bk_verify_report.specs.KeptEntries.{IsNotKept, Kept}
 use Rattle.bk_verify_report.proofs.kept.KeptMembers.keep.Goals as goal
 use Rattle.bk_verify_report.proofs.kept.KeptMembers.keep.Goals.{in-Err, in-Ok}
 
@@ -27,8 +28,8 @@ returns-clause-kept c =
     let seen : IsSeenOf c.args.line c.seen_on.result c.args.tiling.now = record
     { on = c.seen_on.ensures.line; height = c.seen_on.ensures.height; squares = c.seen_on.ensures.squares } in
     elim c.match-insert.branch [
-      | in-Ok w ↦ on_ok _ c.match-insert.result (kept_now same_flat tells_apart c.self.inside.entries c.insert.new.self c.flat_of.result c.args.line
+      | in-Ok w ↦ on_ok-intro _ c.match-insert.result (kept_now same_flat tells_apart c.self.inside.entries c.insert.new.self c.flat_of.result c.args.line
           c.seen_on.result c.args.tiling.now key seen
           c.args.self.now c.self.view_is c.self.invariant c.requires.new w.in-Ok.ensures.entries)
-      | in-Err w ↦ not_ok _ c.match-insert.result _ w.result-is
+      | in-Err w ↦ on_ok-of_error _ c.match-insert.result _ w.result-is
     ]

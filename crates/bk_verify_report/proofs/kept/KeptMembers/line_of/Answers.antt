@@ -1,6 +1,6 @@
 use Rattle.std.proofs.Common.{List, subst, sym}
 use Rattle.bk_verify_report.proofs.Storing.{IsKeyOf, found, missed, same_flat, tells_apart}
-use Rattle.bk_verify_report.specs.Kept.{IsKeptFrom, IsNotKept, Kept}
+use Rattle.bk_verify_report.specs.KeptEntries.{IsKeptFrom, IsNotKept, Kept}
 use Rattle.bk_verify_report.proofs.kept.KeptMembers.line_of.Goals as goal
 
 pub returns-in-Some : goal.returns-in-Some

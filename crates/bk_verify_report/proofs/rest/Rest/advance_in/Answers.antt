@@ -1,9 +1,10 @@
 use Rattle.std.specs.Prelude.{MatchOption}
 use Rattle.std.proofs.Common.{List, arith, refl, subst, sym, true≢false, ◌∙◌, ◌≡◌, ◌≤◌}
+use Rattle.bk_laws.proofs.Outcomes.{match_option-none, match_option-some}
 use Rattle.bk_word.specs.declared.Class.TheVariants.{Perfect}
 use Rattle.bk_verify_report.proofs.CountedMembers.{few_members}
-use Rattle.bk_verify_report.specs.Kept.{IsKeptFrom, IsNotKept, IsUpTo, Kept}
-use Rattle.bk_verify_report.proofs.Passing.{IsPassing, at_none, at_some, passing_all, passing_counted, passing_end, passing_few, passing_missing}
+use Rattle.bk_verify_report.specs.KeptEntries.{IsKeptFrom, IsNotKept, IsUpTo, Kept}
+use Rattle.bk_verify_report.proofs.Passing.{IsPassing, passing_all, passing_counted, passing_end, passing_few, passing_missing}
 use Rattle.bk_verify_report.proofs.Passing.{passing_more, passing_none, passing_stays}
 use Rattle.bk_verify_report.specs.Rest.{RestState}
 use Rattle.bk_verify_report.proofs.rest.Rest.advance_in.Goals as goal
@@ -32,7 +33,7 @@ returns-then-is_none-clause-entry g c _ =
     (IsKeptFrom pairs c.advance_in.new.entry.tiling)) c.members.invariant.1 c.line_of.ensures in
     passing_missing c.args.self.now.walk c.args.self.now.pairs here c.members.self-inside.members c.members.invariant.0 c.advance_in.new.entry.tiling
     c.advance_in.new.entry.word (c.advance_in.ensures.entry c.members-test.true)
-    (at_none (IsNotKept c.args.self.now.pairs c.advance_in.new.entry.tiling)
+    (match_option-none (IsNotKept c.args.self.now.pairs c.advance_in.new.entry.tiling)
     (IsKeptFrom c.args.self.now.pairs c.advance_in.new.entry.tiling) c.line_of.result c.if-is_none.ensures looked)
 
 pub returns-then-is_none-clause-code : goal.returns-then-is_none-clause-code
@@ -50,7 +51,8 @@ members-preserved g c =
     let then = g.M.Members.at c.advance_in.new.self in
     let looked = subst (λ (pairs : List Kept). MatchOption c.line_of.result (IsNotKept pairs c.advance_in.new.entry.tiling)
     (IsKeptFrom pairs c.advance_in.new.entry.tiling)) c.members.invariant.1 c.line_of.ensures in
-    let found = at_some (IsNotKept c.args.self.now.pairs c.advance_in.new.entry.tiling) (IsKeptFrom c.args.self.now.pairs c.advance_in.new.entry.tiling)
+    let found = match_option-some (IsNotKept c.args.self.now.pairs c.advance_in.new.entry.tiling)
+    (IsKeptFrom c.args.self.now.pairs c.advance_in.new.entry.tiling)
     c.line_of.result c.if-is_none.ensures looked in (
       passing_more c.args.self.now.walk c.args.self.now.pairs here c.members.self-inside.members c.members.invariant.0 c.advance_in.new.entry.tiling
           c.advance_in.new.entry.word (c.advance_in.ensures.entry c.members-test.true)

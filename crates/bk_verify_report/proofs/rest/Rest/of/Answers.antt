@@ -1,5 +1,5 @@
 use Rattle.std.proofs.Common.{subst, sym}
-use Rattle.bk_tree_walk.specs.Walking.{WalkState}
+use Rattle.bk_members.specs.Walking.{WalkState}
 use Rattle.bk_verify_report.proofs.Passing.{rest_none}
 use Rattle.bk_verify_report.specs.Rest.{IsKeptRest}
 use Rattle.bk_verify_report.proofs.rest.Rest.of.Goals as goal

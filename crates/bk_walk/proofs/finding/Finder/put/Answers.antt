@@ -1,7 +1,7 @@
 use Rattle.std.proofs.Common.{ap, arith, inl, inr, refl, subst, sym, ◌∙◌, ◌∷◌, ◌⊎◌}
 use Rattle.bk_lay.proofs.Words.{every_tiling_has_a_word}
 use Rattle.std.specs.Prelude.{IsSome}
-use Rattle.bk_found.specs.Kept.{HasMoreDifferent, Holds}
+use Rattle.bk_found.specs.KeptNumbers.{HasMoreDifferent, Holds}
 use Rattle.bk_catalogue.specs.Catalogue.{IsMember}
 use Rattle.bk_walk.specs.Finding.{Finding, HasMoreMembers, IsMembersNumber, wanted}
 use Rattle.bk_walk.proofs.FoundMembers.{as_many_members, members_number, more_members, only_with}

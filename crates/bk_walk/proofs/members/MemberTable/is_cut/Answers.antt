@@ -1,6 +1,6 @@
 use Rattle.std.specs.Prelude.{is_some}
 use Rattle.std.proofs.Common.{ap, arith, subst, sym, ◌∙◌}
-use Rattle.bk_found.specs.Kept.{Numbers}
+use Rattle.bk_found.specs.KeptNumbers.{Numbers}
 use Rattle.bk_walk.specs.Finding.{Finding, HasMoreMembers}
 use Rattle.bk_walk.proofs.members.MemberTable.is_cut.Goals as goal
 

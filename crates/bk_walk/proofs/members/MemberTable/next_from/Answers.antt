@@ -1,7 +1,7 @@
 use Rattle.std.specs.List.{AllByRecursion}
 use Rattle.std.specs.Prelude.{IfNone, IfSome, None, Option, Some}
 use Rattle.std.proofs.Common.{arith, subst, sym, ℕ, ◌<◌, ◌≡◌}
-use Rattle.bk_found.specs.Kept.{AreAscendingNumbers, IsFirstFrom, Numbers}
+use Rattle.bk_found.specs.KeptNumbers.{AreAscendingNumbers, IsFirstFrom, Numbers}
 use Rattle.bk_walk.specs.Finding.{Finding, HasOnlyMembers}
 use Rattle.bk_walk.specs.Members.{HasNoneFrom, IsNextNumber, IsWhole}
 use Rattle.bk_walk.proofs.WholeTables.{next_number, none_from}

@@ -1,5 +1,5 @@
 use Rattle.std.proofs.Common.{ap, arith, subst, ◌∙◌}
-use Rattle.bk_found.specs.Kept.{AreAscendingNumbers, Numbers}
+use Rattle.bk_found.specs.KeptNumbers.{AreAscendingNumbers, Numbers}
 use Rattle.bk_walk.specs.Finding.{Finding, HasOnlyMembers}
 use Rattle.bk_walk.proofs.members.MemberTable.numbers.Goals as goal
 

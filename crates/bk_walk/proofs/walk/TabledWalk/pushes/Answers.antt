@@ -1,6 +1,6 @@
 -- The count is that of its tree walk.
 use Rattle.std.proofs.Common.{ap, ◌∙◌}
-use Rattle.bk_tree_walk.specs.Walking.{WalkState}
+use Rattle.bk_members.specs.Walking.{WalkState}
 use Rattle.bk_walk.proofs.walk.TabledWalk.pushes.Goals as goal
 
 pub returns : goal.returns

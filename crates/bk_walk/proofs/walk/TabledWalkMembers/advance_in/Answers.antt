@@ -1,4 +1,4 @@
-use Rattle.std.proofs.Common.{None, Some, [], ap, arith, refl, subst, sym, true≢false, ◌-◌, ◌<◌, ◌^◌, ◌∙◌}
+use Rattle.std.proofs.Common.{None, Some, [], ap, arith, false, refl, subst, sym, true, true≢false, ◌-◌, ◌<◌, ◌^◌, ◌∙◌}
 use Rattle.bk_walk.proofs.Answering.{finds_of, kept_at_end, kept_at_word, kept_ended, members_order, next_member, none_after, steps_to_end, steps_to_word}
 use Rattle.bk_tree_walk.proofs.MemberEntries.{same_entry}
 use Rattle.bk_tree_walk.proofs.SearchLoop.{counts_known, counts_none, counts_then}
@@ -6,49 +6,51 @@ use Rattle.bk_catalogue.specs.Tree.{IsAtMostTree}
 use Rattle.bk_catalogue.specs.Following.{HasNoneAfter}
 use Rattle.bk_tiling.specs.Tiling.{Tiling}
 use Rattle.bk_code.specs.Code.{code_of}
-use Rattle.bk_tree_walk.specs.Search.{PushesGrow, place_of}
-use Rattle.bk_tree_walk.specs.Walking.{IsNextMember, WalkState}
-use Rattle.bk_tree_walk.specs.declared.Found.TheVariants.{Ended, Member}
+use Rattle.bk_tree_walk.specs.Search.{place_of}
+use Rattle.bk_members.specs.Walking.{IsNextMember, PushesGrow, WalkState}
 use Rattle.bk_walk.proofs.walk.TabledWalkMembers.advance_in.Goals as goal
 
 pub invariant_of-self : goal.invariant_of-self
 invariant_of-self g c =
     let s = c.self.inside.tree in
     let finds = finds_of s.order c.resume.new.self.order s.class c.resume.new.self.class (place_of c.resume.new.self) c.search.new.tree.front
-    (c.search.new.steps - c.resume.new.steps) Ended c.resume.ensures.stays.order c.resume.ensures.stays.class c.in-Ended.ensures.finds in
+    (c.search.new.steps - c.resume.new.steps) c.search.result false c.resume.ensures.stays.order c.resume.ensures.stays.class
+    c.if-not-search.true c.search.ensures.finds in
     kept_ended s.order c.search.new.tree.order s.class c.search.new.tree.class c.self.inside.cursor c.search.new.tree.front c.search.new.tree.pushes
-    (c.in-Ended.ensures.stays.order ∙ c.resume.ensures.stays.order) (c.in-Ended.ensures.stays.class ∙ c.resume.ensures.stays.class)
+    (c.search.ensures.stays.order ∙ c.resume.ensures.stays.order) (c.search.ensures.stays.class ∙ c.resume.ensures.stays.class)
     (kept_at_end s.order s.class c.self.inside.cursor c.search.new.tree.front c.search.new.tree.pushes c.self.invariant.least c.self.invariant.most
     c.self.invariant.few finds.1
     (none_after s.order s.class c.self.inside.cursor (place_of c.resume.new.self) c.resume.ensures.place c.args.steps.now c.resume.new.steps
     c.search.new.steps c.resume.ensures.few finds.0)
-    (counts_known c.resume.new.self.pushes c.search.new.tree.pushes c.resume.new.steps c.search.new.steps c.in-Ended.ensures.stays.counts))
+    (counts_known c.resume.new.self.pushes c.search.new.tree.pushes c.resume.new.steps c.search.new.steps c.search.ensures.stays.counts))
 
 pub invariant_of-self-2 : goal.invariant_of-self-2
 invariant_of-self-2 g c =
     let s = c.self.inside.tree in
     let entry = same_entry s.order c.resume.new.self.order s.class c.resume.new.self.class c.search.new.tree.front c.search.new.tree.front
-    c.search.new.tiling c.resume.ensures.stays.order c.resume.ensures.stays.class refl (c.in-Member.ensures.member refl) in
+    c.search.new.tiling c.resume.ensures.stays.order c.resume.ensures.stays.class refl (c.search.ensures.member c.if-not-search.false) in
     kept_at_word s.order c.search.new.tree.order c.search.new.tree.class c.write_found.new.cursor c.search.new.tree.front c.self.inside.ended
-    c.search.new.tree.pushes c.self.invariant.least c.self.invariant.most (c.in-Member.ensures.stays.order ∙ c.resume.ensures.stays.order)
+    c.search.new.tree.pushes c.self.invariant.least c.self.invariant.most (c.search.ensures.stays.order ∙ c.resume.ensures.stays.order)
     c.write_found.ensures.cursor
     (members_order s.order s.class c.search.new.tiling c.search.new.tree.front entry) c.if-self.false
-    (counts_known c.resume.new.self.pushes c.search.new.tree.pushes c.resume.new.steps c.search.new.steps c.in-Member.ensures.stays.counts)
+    (counts_known c.resume.new.self.pushes c.search.new.tree.pushes c.resume.new.steps c.search.new.steps c.search.ensures.stays.counts)
 
-pub returns-in-Ended-clause-none : goal.returns-in-Ended-clause-none
-returns-in-Ended-clause-none g c _ =
+pub returns-then-not-search-clause-none : goal.returns-then-not-search-clause-none
+returns-then-not-search-clause-none g c _ =
     let s = c.self.inside.tree in
     let finds = finds_of s.order c.resume.new.self.order s.class c.resume.new.self.class (place_of c.resume.new.self) c.search.new.tree.front
-    (c.search.new.steps - c.resume.new.steps) Ended c.resume.ensures.stays.order c.resume.ensures.stays.class c.in-Ended.ensures.finds in
+    (c.search.new.steps - c.resume.new.steps) c.search.result false c.resume.ensures.stays.order c.resume.ensures.stays.class
+    c.if-not-search.true c.search.ensures.finds in
     subst (λ (w : WalkState). HasNoneAfter w.order w.class w.cursor) c.self.view_is
     (none_after s.order s.class c.self.inside.cursor (place_of c.resume.new.self) c.resume.ensures.place c.args.steps.now c.resume.new.steps
     c.search.new.steps c.resume.ensures.few finds.0)
 
-pub returns-in-Ended-clause-steps_to_end : goal.returns-in-Ended-clause-steps_to_end
-returns-in-Ended-clause-steps_to_end g c _ =
+pub returns-then-not-search-clause-steps_to_end : goal.returns-then-not-search-clause-steps_to_end
+returns-then-not-search-clause-steps_to_end g c _ =
     let s = c.self.inside.tree in
     let finds = finds_of s.order c.resume.new.self.order s.class c.resume.new.self.class (place_of c.resume.new.self) c.search.new.tree.front
-    (c.search.new.steps - c.resume.new.steps) Ended c.resume.ensures.stays.order c.resume.ensures.stays.class c.in-Ended.ensures.finds in
+    (c.search.new.steps - c.resume.new.steps) c.search.result false c.resume.ensures.stays.order c.resume.ensures.stays.class
+    c.if-not-search.true c.search.ensures.finds in
     subst (λ (w : WalkState). IsAtMostTree w.order w.cursor None (c.search.new.steps - c.args.steps.now)) c.self.view_is
     (steps_to_end s.order s.class c.self.inside.cursor (place_of c.resume.new.self) c.resume.ensures.place c.args.steps.now c.resume.new.steps
     c.search.new.steps c.resume.ensures.few finds.0)
@@ -57,9 +59,10 @@ pub returns-clause-entry : goal.returns-clause-entry
 returns-clause-entry g c _ =
     let s = c.self.inside.tree in
     let finds = finds_of s.order c.resume.new.self.order s.class c.resume.new.self.class (place_of c.resume.new.self) c.search.new.tree.front
-    (c.search.new.steps - c.resume.new.steps) Member c.resume.ensures.stays.order c.resume.ensures.stays.class c.in-Member.ensures.finds in
+    (c.search.new.steps - c.resume.new.steps) c.search.result true c.resume.ensures.stays.order c.resume.ensures.stays.class
+    c.if-not-search.false c.search.ensures.finds in
     let entry = same_entry s.order c.resume.new.self.order s.class c.resume.new.self.class c.search.new.tree.front c.search.new.tree.front
-    c.search.new.tiling c.resume.ensures.stays.order c.resume.ensures.stays.class refl (c.in-Member.ensures.member refl) in
+    c.search.new.tiling c.resume.ensures.stays.order c.resume.ensures.stays.class refl (c.search.ensures.member c.if-not-search.false) in
     let found = c.write_found.new.entry in
     subst (λ (w : WalkState). IsNextMember w.order w.class w.cursor found.tiling found.word) c.self.view_is
     (subst (λ (t : Tiling). IsNextMember s.order s.class c.self.inside.cursor t found.word) (sym c.write_found.ensures.tiling)
@@ -73,7 +76,8 @@ pub returns-clause-steps : goal.returns-clause-steps
 returns-clause-steps g c _ =
     let s = c.self.inside.tree in
     let finds = finds_of s.order c.resume.new.self.order s.class c.resume.new.self.class (place_of c.resume.new.self) c.search.new.tree.front
-    (c.search.new.steps - c.resume.new.steps) Member c.resume.ensures.stays.order c.resume.ensures.stays.class c.in-Member.ensures.finds in
+    (c.search.new.steps - c.resume.new.steps) c.search.result true c.resume.ensures.stays.order c.resume.ensures.stays.class
+    c.if-not-search.false c.search.ensures.finds in
     subst (λ (w : WalkState). IsAtMostTree w.order w.cursor (Some c.write_found.new.cursor) (c.search.new.steps - c.args.steps.now)) c.self.view_is
     (steps_to_word s.order s.class c.self.inside.cursor (place_of c.resume.new.self) c.resume.ensures.place c.args.steps.now c.resume.new.steps
     c.search.new.steps c.resume.ensures.few c.search.new.tree.front c.write_found.new.cursor
@@ -112,32 +116,32 @@ pub returns-then-self-clause-steps : goal.returns-then-self-clause-steps
 returns-then-self-clause-steps g c e = absurd (true≢false (sym e))
 
 -- the search comes to the end
-pub returns-in-Ended-clause-entry : goal.returns-in-Ended-clause-entry
-returns-in-Ended-clause-entry g c e = absurd (true≢false (sym e))
+pub returns-then-not-search-clause-entry : goal.returns-then-not-search-clause-entry
+returns-then-not-search-clause-entry g c e = absurd (true≢false (sym e))
 
-pub returns-in-Ended-clause-code : goal.returns-in-Ended-clause-code
-returns-in-Ended-clause-code g c e = absurd (true≢false (sym e))
+pub returns-then-not-search-clause-code : goal.returns-then-not-search-clause-code
+returns-then-not-search-clause-code g c e = absurd (true≢false (sym e))
 
-pub returns-in-Ended-clause-cursor : goal.returns-in-Ended-clause-cursor
-returns-in-Ended-clause-cursor g c e = absurd (true≢false (sym e))
+pub returns-then-not-search-clause-cursor : goal.returns-then-not-search-clause-cursor
+returns-then-not-search-clause-cursor g c e = absurd (true≢false (sym e))
 
-pub returns-in-Ended-clause-stays : goal.returns-in-Ended-clause-stays
-returns-in-Ended-clause-stays g c _ = ap (λ (w : WalkState). w.cursor) c.self.view_is
+pub returns-then-not-search-clause-stays : goal.returns-then-not-search-clause-stays
+returns-then-not-search-clause-stays g c _ = ap (λ (w : WalkState). w.cursor) c.self.view_is
 
-pub returns-in-Ended-clause-ended : goal.returns-in-Ended-clause-ended
-returns-in-Ended-clause-ended g c = (λ _. refl, λ _. refl)
+pub returns-then-not-search-clause-ended : goal.returns-then-not-search-clause-ended
+returns-then-not-search-clause-ended g c = (λ _. refl, λ _. refl)
 
-pub returns-in-Ended-clause-later : goal.returns-in-Ended-clause-later
-returns-in-Ended-clause-later g c _ = refl
+pub returns-then-not-search-clause-later : goal.returns-then-not-search-clause-later
+returns-then-not-search-clause-later g c _ = refl
 
-pub returns-in-Ended-clause-order : goal.returns-in-Ended-clause-order
-returns-in-Ended-clause-order g c = c.in-Ended.ensures.stays.order ∙ c.resume.ensures.stays.order ∙ ap (λ (w : WalkState). w.order) c.self.view_is
+pub returns-then-not-search-clause-order : goal.returns-then-not-search-clause-order
+returns-then-not-search-clause-order g c = c.search.ensures.stays.order ∙ c.resume.ensures.stays.order ∙ ap (λ (w : WalkState). w.order) c.self.view_is
 
-pub returns-in-Ended-clause-class : goal.returns-in-Ended-clause-class
-returns-in-Ended-clause-class g c = c.in-Ended.ensures.stays.class ∙ c.resume.ensures.stays.class ∙ ap (λ (w : WalkState). w.class) c.self.view_is
+pub returns-then-not-search-clause-class : goal.returns-then-not-search-clause-class
+returns-then-not-search-clause-class g c = c.search.ensures.stays.class ∙ c.resume.ensures.stays.class ∙ ap (λ (w : WalkState). w.class) c.self.view_is
 
-pub returns-in-Ended-clause-steps : goal.returns-in-Ended-clause-steps
-returns-in-Ended-clause-steps g c e = absurd (true≢false (sym e))
+pub returns-then-not-search-clause-steps : goal.returns-then-not-search-clause-steps
+returns-then-not-search-clause-steps g c e = absurd (true≢false (sym e))
 
 -- the search comes to a member
 pub returns-clause-none : goal.returns-clause-none
@@ -156,10 +160,10 @@ pub returns-clause-later : goal.returns-clause-later
 returns-clause-later g c e = absurd (true≢false (sym e ∙ ap (λ (w : WalkState). w.ended) (sym c.self.view_is) ∙ c.if-self.false))
 
 pub returns-clause-order : goal.returns-clause-order
-returns-clause-order g c = c.in-Member.ensures.stays.order ∙ c.resume.ensures.stays.order ∙ ap (λ (w : WalkState). w.order) c.self.view_is
+returns-clause-order g c = c.search.ensures.stays.order ∙ c.resume.ensures.stays.order ∙ ap (λ (w : WalkState). w.order) c.self.view_is
 
 pub returns-clause-class : goal.returns-clause-class
-returns-clause-class g c = c.in-Member.ensures.stays.class ∙ c.resume.ensures.stays.class ∙ ap (λ (w : WalkState). w.class) c.self.view_is
+returns-clause-class g c = c.search.ensures.stays.class ∙ c.resume.ensures.stays.class ∙ ap (λ (w : WalkState). w.class) c.self.view_is
 
 pub returns-clause-steps_to_end : goal.returns-clause-steps_to_end
 returns-clause-steps_to_end g c e = absurd (true≢false e)
@@ -174,17 +178,17 @@ resume-requires-clause-begun g c = c.self.invariant.begun
 pub resume-requires-clause-few : goal.resume-requires-clause-few
 resume-requires-clause-few g c = c.self.invariant.few
 
-pub returns-in-Ended-clause-pushes : goal.returns-in-Ended-clause-pushes
-returns-in-Ended-clause-pushes g c =
+pub returns-then-not-search-clause-pushes : goal.returns-then-not-search-clause-pushes
+returns-then-not-search-clause-pushes g c =
     subst (λ (w : WalkState). PushesGrow w.pushes c.search.new.tree.pushes c.args.steps.now c.search.new.steps) c.self.view_is
     (counts_then c.self.inside.tree.pushes c.resume.new.self.pushes c.search.new.tree.pushes c.args.steps.now c.resume.new.steps c.search.new.steps
-    c.resume.ensures.stays.counts c.in-Ended.ensures.stays.counts)
+    c.resume.ensures.stays.counts c.search.ensures.stays.counts)
 
 pub returns-clause-pushes : goal.returns-clause-pushes
 returns-clause-pushes g c =
     subst (λ (w : WalkState). PushesGrow w.pushes c.search.new.tree.pushes c.args.steps.now c.search.new.steps) c.self.view_is
     (counts_then c.self.inside.tree.pushes c.resume.new.self.pushes c.search.new.tree.pushes c.args.steps.now c.resume.new.steps c.search.new.steps
-    c.resume.ensures.stays.counts c.in-Member.ensures.stays.counts)
+    c.resume.ensures.stays.counts c.search.ensures.stays.counts)
 
 pub returns-then-self-clause-steps_to_end : goal.returns-then-self-clause-steps_to_end
 returns-then-self-clause-steps_to_end g c _ = record { words = []; each = tt; ascending = tt; count = omega arith }

@@ -1,7 +1,7 @@
 use Rattle.std.proofs.Common.{ap, arith, length, sum, ◌∙◌, ◌≡◌}
+use Rattle.bk_laws.proofs.Sums.{sum-map_length}
 use Rattle.bk_word.specs.Play.{outline_of}
-use Rattle.bk_play.proofs.TurnParts.{sum_lengths}
-use Rattle.bk_catalogue.proofs.BoundsOfWords.{line_bound_by_lists, sizes_long}
+use Rattle.bk_catalogue.proofs.HangingBounds.BoundsOfWords.{line_bound_by_lists, sizes_long}
 use Rattle.bk_catalogue.specs.VerticalCut.{line_bound, line_bound_of, edges_on_lines, segments_of, touched}
 use Rattle.bk_walk_cuts.proofs.lined.LinedSkel.line_bound.Goals as goal
 
@@ -14,7 +14,7 @@ line_bound-requires-clause-long c = omega (
 )
 
 pub line_bound-requires-clause-enough : goal.line_bound-requires-clause-enough
-line_bound-requires-clause-enough c = omega (arith, sum_lengths (outline_of c.self.inside.skel).segments, ap sum c.sizes.ensures, ap length c.ends.ensures)
+line_bound-requires-clause-enough c = omega (arith, sum-map_length (outline_of c.self.inside.skel).segments, ap sum c.sizes.ensures, ap length c.ends.ensures)
 
 pub returns : goal.returns
 returns c =

@@ -1,7 +1,7 @@
 use Rattle.std.proofs.Common.{subst, sym, ap, arith, length, lit<, take, ◌-◌, ◌∙◌}
 use Rattle.bk_word.specs.Word.{Word}
 use Rattle.bk_walk_cuts.specs.Trace.{IsTraceOf}
-use Rattle.bk_catalogue.proofs.LinedMoves.{lined_less}
+use Rattle.bk_catalogue.proofs.HangingBounds.LinedMoves.{lined_less}
 use Rattle.bk_walk_cuts.proofs.lined.LinedSkel.pop.Goals as goal
 
 pub invariant_of-self : goal.invariant_of-self

@@ -4,7 +4,7 @@ use Rattle.bk_word.specs.Play.{outline_of}
 use Rattle.bk_word.specs.Word.{Move, Word, order_of}
 use Rattle.bk_catalogue.specs.VerticalCut.{begins_on_line}
 use Rattle.bk_walk_cuts.specs.Trace.{IsTraceOf}
-use Rattle.bk_catalogue.proofs.LinedMoves.{lined_count, lined_more}
+use Rattle.bk_catalogue.proofs.HangingBounds.LinedMoves.{lined_count, lined_more}
 use Rattle.bk_walk_cuts.proofs.lined.LinedSkel.push.Goals as goal
 
 pub push_lines-requires : goal.push_lines-requires

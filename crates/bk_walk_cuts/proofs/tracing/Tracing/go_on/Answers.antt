@@ -7,7 +7,7 @@ use Rattle.bk_walk_cuts.specs.SideForms.{levels_along}
 use Rattle.bk_walk_cuts.specs.SidesOfTilings.{MeetsMove}
 use Rattle.bk_walk_cuts.specs.Trace.{IsTraceOf, Trace}
 use Rattle.bk_walk_cuts.proofs.Segments.{numbers_are}
-use Rattle.bk_forms.specs.Form.{with_side}
+use Rattle.bk_forms.specs.Form.{with_column}
 use Rattle.bk_walk_cuts.proofs.SmallForms.{small_level, small_more}
 use Rattle.bk_walk_cuts.proofs.Traces.{bottoms_room, mark_room}
 use Rattle.bk_walk_cuts.proofs.TraceMore.{trace_more}
@@ -69,7 +69,7 @@ returns-clause-trace c =
     refl c.order.ensures.value (ap (λ (m : Move). m.count) c.m.view_is) in
     let trace = subst (IsTraceOf c.args.skel.now) (sym c.self.view_is) c.requires.trace in
     let all : length c.self.inside.marks.items ≡ length c.args.skel.now = ap (λ (t : Trace). length t.marks) c.self.view_is ∙ c.requires.all in
-    let bottoms_then = c.push_bottoms.ensures ∙ (λ i. c.self.inside.bottoms.items ++ map (λ n. with_side (level i) (n - 1)) (numbers i)) in
+    let bottoms_then = c.push_bottoms.ensures ∙ (λ i. c.self.inside.bottoms.items ++ map (λ n. with_column (level i) (n - 1)) (numbers i)) in
     let marks = c.push.ensures.items ∙ (λ i. c.self.inside.marks.items
     ++ record { equations = c.len.ensures.value i; squares = c.len-2.ensures.value i } ∷ []) in
     subst (λ (bs : List SeenForm). IsTraceOf (c.args.skel.now ++ c.args.m.now ∷ [])

@@ -2,7 +2,7 @@
 use Rattle.std.specs.Prelude.{[], ℕ, ◌++◌, ◌+◌, ◌<◌, ◌∷◌, ◌≡◌, ◌≤◌}
 use Rattle.std.proofs.Common.{arith, inl, inr, lit<, refl, sym, ◌∙◌}
 use Rattle.std.proofs.lemmas.Bool.{cases_lt}
-use Rattle.bk_word.specs.Taken.{Keeps, bare}
+use Rattle.bk_word.specs.Taken.{KeepsWord, bare}
 use Rattle.bk_word.specs.Word.{Word}
 use Rattle.bk_word.specs.declared.reading.Taken.{Taken}
 use Rattle.bk_word.proofs.StoredBytes.{order_one, stored_one}
@@ -11,14 +11,14 @@ use Rattle.bk_word.proofs.reading.Taken.add_count.Goals.{in_default-via-in-Ok+el
 
 -- what is kept once the byte of a count is pushed
 count_kept : (w : Word) (count b : ℕ) (old new : Taken) → new.order ≡ old.order + count → new.order ≤ 200 → b ≡ count
-    → new.bytes.items ≡ old.bytes.items ++ b ∷ [] → Keeps w old → Keeps (w ++ bare count ∷ []) new
+    → new.bytes.items ≡ old.bytes.items ++ b ∷ [] → KeepsWord w old → KeepsWord (w ++ bare count ∷ []) new
 count_kept w count b old new sum few byte is keeps = record {
   order = omega (arith, order_one w (bare count), keeps.order, sum, few);
   bytes = λ low. is ∙ (λ i. keeps.bytes (omega (arith, order_one w (bare count), low)) i ++ byte i ∷ []) ∙ sym (stored_one w (bare count));
 }
 
 -- nothing is pushed where the order gets too large
-count_passed : (w : Word) (count : ℕ) (old new : Taken) → new.order ≡ 201 → 200 < old.order + count → Keeps w old → Keeps (w ++ bare count ∷ []) new
+count_passed : (w : Word) (count : ℕ) (old new : Taken) → new.order ≡ 201 → 200 < old.order + count → KeepsWord w old → KeepsWord (w ++ bare count ∷ []) new
 count_passed w count old new is many keeps = record {
   order = omega (arith, order_one w (bare count), keeps.order, is, many);
   bytes = λ low. absurd (omega (arith, order_one w (bare count), keeps.order, low, many));

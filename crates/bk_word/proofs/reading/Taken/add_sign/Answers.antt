@@ -2,8 +2,8 @@
 use Rattle.std.specs.Prelude.{List, [], min, ℕ, ◌++◌, ◌<◌, ◌∷◌, ◌≡◌}
 use Rattle.std.proofs.Common.{ap, append_assoc, arith, lit<, refl, sym, ◌∙◌}
 use Rattle.std.proofs.lemmas.List.{map_push}
-use Rattle.bk_word.specs.Stored.{sign_byte, stored, stored_move}
-use Rattle.bk_word.specs.Taken.{Keeps, with_sign}
+use Rattle.bk_word.specs.StoredWord.{sign_byte, stored, stored_move}
+use Rattle.bk_word.specs.Taken.{KeepsWord, with_sign}
 use Rattle.bk_word.specs.Word.{Move, Word, order_of}
 use Rattle.bk_word.specs.declared.Sign.{Sign}
 use Rattle.bk_word.specs.declared.reading.Taken.{Taken}
@@ -24,14 +24,14 @@ stored_sign w m s =
 
 -- what is kept once the byte of a sign is pushed
 sign_kept : (w : Word) (m : Move) (s : Sign) (old new : Taken) (b : ℕ) → new.order ≡ old.order → b ≡ sign_byte s
-    → new.bytes.items ≡ old.bytes.items ++ b ∷ [] → Keeps (w ++ m ∷ []) old → Keeps (w ++ with_sign m s ∷ []) new
+    → new.bytes.items ≡ old.bytes.items ++ b ∷ [] → KeepsWord (w ++ m ∷ []) old → KeepsWord (w ++ with_sign m s ∷ []) new
 sign_kept w m s old new b same byte is keeps = record {
   order = same ∙ keeps.order ∙ ap (λ (n : ℕ). min n 201) (same_order w m s);
   bytes = λ few. is ∙ (λ i. keeps.bytes (omega (arith, few, same_order w m s)) i ++ byte i ∷ []) ∙ stored_sign w m s;
 }
 
 -- nothing is pushed where the order is too large
-sign_passed : (w : Word) (m : Move) (s : Sign) (old : Taken) → 200 < old.order → Keeps (w ++ m ∷ []) old → Keeps (w ++ with_sign m s ∷ []) old
+sign_passed : (w : Word) (m : Move) (s : Sign) (old : Taken) → 200 < old.order → KeepsWord (w ++ m ∷ []) old → KeepsWord (w ++ with_sign m s ∷ []) old
 sign_passed w m s old many keeps = record {
   order = keeps.order ∙ ap (λ (n : ℕ). min n 201) (same_order w m s);
   bytes = λ few. absurd (omega (arith, few, many, keeps.order, same_order w m s));

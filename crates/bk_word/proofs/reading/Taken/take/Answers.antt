@@ -1,7 +1,7 @@
 -- A letter or a dot ends the count before it, and a letter is a sign of the last move.
 use Rattle.std.specs.Prelude.{None, Some, [], if◌then◌else◌, ℕ, ◌*◌, ◌++◌, ◌+◌, ◌∷◌, ◌≡◌}
 use Rattle.std.proofs.Common.{Bool, ap, false, inl, inr, subst, sym, true, ◌∙◌}
-use Rattle.bk_word.specs.Taken.{Before, Count, Keeps, Reading, Signs, bare, counted, step, taken, with_sign}
+use Rattle.bk_word.specs.Taken.{Before, Count, KeepsWord, Reading, Signs, bare, moves_counted, step, taken, with_sign}
 use Rattle.bk_word.specs.Word.{Move, Word}
 use Rattle.bk_word.specs.declared.Sign.{Sign}
 use Rattle.bk_word.specs.declared.reader.Kind.TheVariants.{Digit, Dot, Letter, Other}
@@ -14,22 +14,22 @@ is_there true to next e = cc
 is_there false to next e = absurd (cc)
 
 -- a letter
-letter_kept : (r next : Reading) (s : Sign) (old mid new : Taken) → step r (Letter s) ≡ Some next → (Keeps (taken r) old → Keeps (counted r) mid)
-    → ((w : Word) (m : Move) → Keeps (w ++ m ∷ []) mid → Keeps (w ++ with_sign m s ∷ []) new) → Keeps (taken r) old → Keeps (taken next) new
+letter_kept : (r next : Reading) (s : Sign) (old mid new : Taken) → step r (Letter s) ≡ Some next → (KeepsWord (taken r) old → KeepsWord (moves_counted r) mid)
+    → ((w : Word) (m : Move) → KeepsWord (w ++ m ∷ []) mid → KeepsWord (w ++ with_sign m s ∷ []) new) → KeepsWord (taken r) old → KeepsWord (taken next) new
 letter_kept (Before w) next s old mid new e ends signs keeps = absurd (cc)
 letter_kept (Count w n) next s old mid new e ends signs keeps =
-    let to : Signs w (with_sign (bare n) s) ≡ next = cc in subst (λ (x : Reading). Keeps (taken x) new) to (signs w (bare n) (ends keeps))
+    let to : Signs w (with_sign (bare n) s) ≡ next = cc in subst (λ (x : Reading). KeepsWord (taken x) new) to (signs w (bare n) (ends keeps))
 letter_kept (Signs w m) next s old mid new e ends signs keeps =
-    subst (λ (x : Reading). Keeps (taken x) new) (is_there _ (Signs w (with_sign m s)) next e) (signs w m (ends keeps))
+    subst (λ (x : Reading). KeepsWord (taken x) new) (is_there _ (Signs w (with_sign m s)) next e) (signs w m (ends keeps))
 
 -- a dot
-dot_kept : (r next : Reading) (old new : Taken) → step r Dot ≡ Some next → (Keeps (taken r) old → Keeps (counted r) new) → Keeps (taken r) old
-    → Keeps (taken next) new
+dot_kept : (r next : Reading) (old new : Taken) → step r Dot ≡ Some next → (KeepsWord (taken r) old → KeepsWord (moves_counted r) new) → KeepsWord (taken r) old
+    → KeepsWord (taken next) new
 dot_kept (Before w) next old new e ends keeps = absurd (cc)
 dot_kept (Count w n) next old new e ends keeps =
-    subst (λ (x : Reading). Keeps (taken x) new) (is_there _ (Before (w ++ bare n ∷ [])) next e) (ends keeps)
+    subst (λ (x : Reading). KeepsWord (taken x) new) (is_there _ (Before (w ++ bare n ∷ [])) next e) (ends keeps)
 dot_kept (Signs w m) next old new e ends keeps =
-    subst (λ (x : Reading). Keeps (taken x) new) (is_there _ (Before (w ++ m ∷ [])) next e) (ends keeps)
+    subst (λ (x : Reading). KeepsWord (taken x) new) (is_there _ (Before (w ++ m ∷ [])) next e) (ends keeps)
 
 -- a digit takes no move, and no other byte goes on
 digit_takes : (r next : Reading) (d : ℕ) → step r (Digit d) ≡ Some next → taken r ≡ taken next
@@ -63,6 +63,6 @@ returns-in-Dot c = λ r next place e keeps.
 
 pub returns-in-Digit : goal.returns-in-Digit
 returns-in-Digit c = λ r next place e keeps. elim c.in-Digit.is [
-  | inl d ↦ subst (λ (w : Word). Keeps w c.args.self.now) (digit_takes r next d.0 (ap (step r) (sym d.1) ∙ e)) keeps
+  | inl d ↦ subst (λ (w : Word). KeepsWord w c.args.self.now) (digit_takes r next d.0 (ap (step r) (sym d.1) ∙ e)) keeps
   | inr other ↦ absurd (other_stops r next (ap (step r) (sym other) ∙ e))
 ]

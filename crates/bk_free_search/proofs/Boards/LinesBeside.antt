@@ -1,0 +1,121 @@
+-- The lines that are gathered at the sides of squares.
+use Rattle.std.proofs.Common.{List, [], ap, append_assoc, arith, inl, inr, length, slice_index_or, subst, suc, sym, zero}
+use Rattle.std.proofs.Common.{ℕ, ◌++◌, ◌+◌, ◌-◌, ◌<◌, ◌∙◌, ◌∷◌, ◌≡◌, ◌≤◌, ◌⊎◌}
+use Rattle.std.proofs.lemmas.Bool.{cases_lt}
+use Rattle.std.proofs.lemmas.Option.{get_or_from_slice_get, slice_get-get_or, slice_get_within}
+use Rattle.bk_laws.proofs.ListPlaces.{get_back, get_front}
+use Rattle.bk_laws.proofs.NumberOrder.{lt_add_one-less_or_same}
+use Rattle.bk_word.proofs.PlayLists.{numbers-length}
+use Rattle.bk_word.specs.Play.{numbers_from}
+use Rattle.bk_free_search.specs.NodeLines.{Has, IsAtSquare, IsBesideNew, IsBesideOneOf, StandBetween}
+use Rattle.bk_free_search.specs.declared.line_set.LineSet.{LineSet}
+
+-- of the squares before a place all lines are gathered, and none but such
+pub record Gathered (lefts rights squares : List ℕ) (place : ℕ) (lines : LineSet) : Type 0 where
+  pub only : (line : ℕ) → Has lines line → IsBesideOneOf lefts rights squares line
+  pub all : (line : ℕ) (b : IsBesideOneOf lefts rights squares line) → line < 32 → b.place < place → Has lines line
+
+-- the lines beside some squares, gathered, with those of one square more
+pub gathered_more : (lefts rights squares : List ℕ) (place d : ℕ) (before lines : LineSet) → Gathered lefts rights squares place before → place < length squares
+    → ((line : ℕ) → Has lines line → IsAtSquare lefts rights (slice_index_or squares place d) line ⊎ Has before line)
+    → ((line : ℕ) → line < 32 → IsAtSquare lefts rights (slice_index_or squares place d) line → Has lines line) → ((line : ℕ) → Has before line → Has lines line)
+    → Gathered lefts rights squares (place + 1) lines
+gathered_more lefts rights squares place d before lines g within only all kept = record {
+  only = λ line has. found line (only line has);
+  all = λ line b low under. held line b low (lt_add_one-less_or_same b.place place under);
+}
+  where
+    found : (line : ℕ) → IsAtSquare lefts rights (slice_index_or squares place d) line ⊎ Has before line → IsBesideOneOf lefts rights squares line
+    found line (inl b) = record { place = place; number = slice_index_or squares place d; at = slice_get-get_or squares place d within; beside = b }
+    found line (inr has) = g.only line has
+
+    held : (line : ℕ) (b : IsBesideOneOf lefts rights squares line) → line < 32 → (b.place < place) ⊎ (b.place ≡ place) → Has lines line
+    held line b low (inl under) = kept line (g.all line b low under)
+    held line b low (inr same) = all line low (subst (λ (n : ℕ). IsAtSquare lefts rights n line) number b.beside)
+      where
+        number : b.number ≡ slice_index_or squares place d
+        number = sym (get_or_from_slice_get squares b.place b.number d b.at) ∙ ap (λ k. slice_index_or squares k d) same
+
+-- once all squares are passed, each line below 32 that is beside one of them is gathered
+pub all_gathered : (lefts rights squares : List ℕ) (place : ℕ) (lines : LineSet) → Gathered lefts rights squares place lines → length squares ≤ place
+    → (line : ℕ) → line < 32 → IsBesideOneOf lefts rights squares line → Has lines line
+all_gathered lefts rights squares place lines g over line low b = g.all line b low (omega (arith, over, slice_get_within squares b.place b.number b.at))
+
+-- ---- new squares
+
+module _ (lefts rights : List ℕ) (hung count first last : ℕ) (b : StandBetween lefts rights hung count first last) (some : 0 < count) where
+  -- their lines are the two between which they stand, and their own
+  pub beside_new : (line : ℕ) → IsBesideNew lefts rights hung count line → (line ≡ first) ⊎ ((line ≡ last) ⊎ ((hung + 2 ≤ line) × (line < hung + count + 1)))
+  beside_new line n = sides n.beside
+    where
+      by_left : (k : ℕ) → k < count → slice_index_or lefts (hung + k) 0 ≡ line
+          → (line ≡ first) ⊎ ((line ≡ last) ⊎ ((hung + 2 ≤ line) × (line < hung + count + 1)))
+      by_left zero low e = let same : hung + 0 ≡ hung = omega arith in inl (sym e ∙ ap (λ j. slice_index_or lefts j 0) same ∙ b.first_is)
+      by_left (suc k) low e =
+          let same : hung + suc k ≡ hung + k + 1 = omega arith in
+          let is : line ≡ hung + k + 2 = sym e ∙ ap (λ j. slice_index_or lefts j 0) same ∙ b.lefts_are k (omega (arith, low)) in
+          inr (inr (omega (arith, is), omega (arith, is, low)))
+
+      by_right : (k : ℕ) → (k + 1 < count) ⊎ (count ≤ k + 1) → k < count → slice_index_or rights (hung + k) 1 ≡ line
+          → (line ≡ first) ⊎ ((line ≡ last) ⊎ ((hung + 2 ≤ line) × (line < hung + count + 1)))
+      by_right k (inl more) low e = let is : line ≡ hung + k + 2 = sym e ∙ b.rights_are k more in inr (inr (omega (arith, is), omega (arith, is, more)))
+      by_right k (inr none) low e = let same : hung + k ≡ hung + count - 1 = omega (arith, none, low) in
+          inr (inl (sym e ∙ ap (λ j. slice_index_or rights j 1) same ∙ b.last_is))
+
+      sides : IsAtSquare lefts rights (hung + n.k + 1) line → (line ≡ first) ⊎ ((line ≡ last) ⊎ ((hung + 2 ≤ line) × (line < hung + count + 1)))
+      sides (inl e) = let same : hung + n.k ≡ hung + n.k + 1 - 1 = omega arith in by_left n.k n.low (ap (λ j. slice_index_or lefts j 0) same ∙ e)
+      sides (inr e) = let same : hung + n.k ≡ hung + n.k + 1 - 1 = omega arith in
+          by_right n.k (cases_lt (n.k + 1) count) n.low (ap (λ j. slice_index_or rights j 1) same ∙ e)
+
+  -- the line at the left of the first new square is beside a new square
+  pub first_beside : (line : ℕ) → line ≡ first → IsBesideNew lefts rights hung count line
+  first_beside line e = record {
+    k = 0;
+    low = some;
+    beside = inl (let same : hung + 0 + 1 - 1 ≡ hung = omega arith in ap (λ j. slice_index_or lefts j 0) same ∙ b.first_is ∙ sym e);
+  }
+
+  -- the line at the right of the last new square is beside a new square
+  pub last_beside : (line : ℕ) → line ≡ last → IsBesideNew lefts rights hung count line
+  last_beside line e = record {
+    k = count - 1;
+    low = omega (arith, some);
+    beside = inr (let same : hung + (count - 1) + 1 - 1 ≡ hung + count - 1 = omega (arith, some) in
+        ap (λ j. slice_index_or rights j 1) same ∙ b.last_is ∙ sym e);
+  }
+
+  -- a line between two new squares is beside a new square
+  pub own_beside : (line : ℕ) → hung + 2 ≤ line → line < hung + count + 1 → IsBesideNew lefts rights hung count line
+  own_beside line low high = record {
+    k = line - hung - 2;
+    low = omega (arith, low, high);
+    beside = inr (let same : hung + (line - hung - 2) + 1 - 1 ≡ hung + (line - hung - 2) = omega arith in ap (λ j. slice_index_or rights j 1) same
+        ∙ b.rights_are (line - hung - 2) (omega (arith, low, high)) ∙ omega (arith, low));
+  }
+
+-- so they stand where a move's lines were appended
+numbers_at : (from many k d : ℕ) → k < many → slice_index_or (numbers_from from many) k d ≡ from + k
+numbers_at from zero k d h = absurd (omega (arith, h))
+numbers_at from (suc many) zero d h = omega arith
+numbers_at from (suc many) (suc k) d h = numbers_at (from + 1) many k d (omega (arith, h)) ∙ omega arith
+
+-- new squares put behind the old left and right lines stand between the first and the last line
+pub stand_between : (lefts rights lefts_then rights_then : List ℕ) (hung count first last : ℕ) → 0 < count → length lefts ≡ hung → length rights ≡ hung
+    → lefts_then ≡ lefts ++ first ∷ numbers_from (hung + 2) (count - 1) → rights_then ≡ rights ++ numbers_from (hung + 2) (count - 1) ++ last ∷ []
+    → StandBetween lefts_then rights_then hung count first last
+stand_between lefts rights lefts_then rights_then hung count first last some l r le re = record {
+  first_is = ap (λ ls. slice_index_or ls hung 0) le ∙ get_back lefts (first ∷ numbers_from (hung + 2) (count - 1)) 0 hung 0 (omega (arith, l));
+  last_is = ap (λ rs. slice_index_or rs (hung + count - 1) 1) right
+      ∙ get_back rights (numbers_from (hung + 2) (count - 1) ++ last ∷ []) (count - 1) (hung + count - 1) 1 (omega (arith, r, some))
+      ∙ get_back (numbers_from (hung + 2) (count - 1)) (last ∷ []) 0 (count - 1) 1 (omega (arith, numbers-length (hung + 2) (count - 1)));
+  lefts_are = λ k h. ap (λ ls. slice_index_or ls (hung + k + 1) 0) le
+      ∙ get_back lefts (first ∷ numbers_from (hung + 2) (count - 1)) (suc k) (hung + k + 1) 0 (omega (arith, l))
+      ∙ numbers_at (hung + 2) (count - 1) k 0 (omega (arith, h)) ∙ omega arith;
+  rights_are = λ k h. ap (λ rs. slice_index_or rs (hung + k) 1) right
+      ∙ get_back rights (numbers_from (hung + 2) (count - 1) ++ last ∷ []) k (hung + k) 1 (omega (arith, r))
+      ∙ get_front (numbers_from (hung + 2) (count - 1)) (last ∷ []) k 1 (omega (arith, h, numbers-length (hung + 2) (count - 1)))
+      ∙ numbers_at (hung + 2) (count - 1) k 1 (omega (arith, h)) ∙ omega arith;
+}
+  where
+    right : rights_then ≡ rights ++ (numbers_from (hung + 2) (count - 1) ++ last ∷ [])
+    right = re ∙ append_assoc rights (numbers_from (hung + 2) (count - 1)) (last ∷ [])

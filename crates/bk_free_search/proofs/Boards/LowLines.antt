@@ -1,0 +1,82 @@
+-- The lines of a word of at most 16 squares have numbers that can stand in a set.
+use Rattle.std.proofs.Common.{List, [], ap, arith, inl, inr, length, refl, slice_index_or, subst, sym}
+use Rattle.std.proofs.Common.{ℕ, ◌++◌, ◌+◌, ◌-◌, ◌<◌, ◌∙◌, ◌∷◌, ◌≡◌, ◌≤◌, ◌⊎◌}
+use Rattle.std.proofs.lemmas.Bool.{cases_lt}
+use Rattle.std.proofs.lemmas.List.{length-map}
+use Rattle.std.proofs.lemmas.Option.{slice_get-get_or}
+use Rattle.bk_laws.proofs.ListItems.{slice_index_or-any_default, slice_index_or-beyond}
+use Rattle.bk_word.proofs.StoredBytes.{order_append}
+use Rattle.bk_word.specs.Outline.{IsLegalMove, valley_of}
+use Rattle.bk_word.specs.Play.{numbers_from, outline_of}
+use Rattle.bk_word.specs.Word.{Move, Word, order_of}
+use Rattle.bk_layout.proofs.FreeCuts.CutByNodes.{as_many_lefts}
+use Rattle.bk_layout.specs.LineNumbers.{lefts_of, square_lines}
+use Rattle.bk_layout.proofs.FreeCuts.KnownLines.{known_lines}
+use Rattle.bk_free_search.proofs.Boards.LeftLines.{index_left, left_more}
+use Rattle.bk_free_search.proofs.Boards.RightLines.{as_many_rights, index_right, right_more}
+use Rattle.bk_free_search.specs.Lefts.{IsLeftWord, first_left}
+use Rattle.bk_free_search.specs.NodeLines.{AreLow}
+use Rattle.bk_free_search.specs.Rights.{last_right, rights_of}
+
+-- the lines at the left of the squares are low
+pub low_lefts : (w : Word) → order_of w ≤ 16 → AreLow (lefts_of w)
+low_lefts w few k wall one = cases (cases_lt k (length (lefts_of w)))
+  where
+    cases : (k < length (lefts_of w)) ⊎ (length (lefts_of w) ≤ k) → slice_index_or (lefts_of w) k wall < 32
+    cases (inr h) = omega (arith, one, slice_index_or-beyond (lefts_of w) k wall h)
+    cases (inl h) = omega (
+      arith,
+      few,
+      h,
+      as_many_lefts w,
+      slice_index_or-any_default (lefts_of w) k wall 0 h,
+      index_left (square_lines w) k,
+      (known_lines w k (slice_index_or (square_lines w) k (0, 1)) (slice_get-get_or (square_lines w) k (0, 1)
+          (omega (arith, h, length-map (square_lines w) (λ s. s.0))))).0,
+    )
+
+-- the lines at the right of the squares are low
+pub low_rights : (w : Word) → order_of w ≤ 16 → AreLow (rights_of w)
+low_rights w few k wall one = cases (cases_lt k (length (rights_of w)))
+  where
+    cases : (k < length (rights_of w)) ⊎ (length (rights_of w) ≤ k) → slice_index_or (rights_of w) k wall < 32
+    cases (inr h) = omega (arith, one, slice_index_or-beyond (rights_of w) k wall h)
+    cases (inl h) = omega (
+      arith,
+      few,
+      h,
+      as_many_rights w,
+      slice_index_or-any_default (rights_of w) k wall 1 h,
+      index_right (square_lines w) k,
+      (known_lines w k (slice_index_or (square_lines w) k (0, 1)) (slice_get-get_or (square_lines w) k (0, 1)
+          (omega (arith, h, length-map (square_lines w) (λ s. s.1))))).1,
+    )
+
+-- the line at the left end of a segment is low
+pub low_left_end : (lefts squares : List ℕ) → AreLow lefts → first_left lefts squares < 32
+low_left_end lefts [] low = omega arith
+low_left_end lefts (number ∷ squares) low = low (number - 1) 0 (omega arith)
+
+-- where right lines are numbers below 32, so is the right end of any squares
+pub low_right_end : (rights squares : List ℕ) → AreLow rights → last_right rights squares < 32
+low_right_end rights [] low = omega arith
+low_right_end rights (number ∷ []) low = low (number - 1) 1 (omega arith)
+low_right_end rights (number ∷ next ∷ squares) low = low_right_end rights (next ∷ squares) low
+
+-- with a move more they are low too
+pub low_lefts_then : (w : Word) (m : Move) (lefts lefts_then : List ℕ) (first count hung : ℕ) → IsLeftWord w lefts → IsLegalMove (outline_of w) m
+    → order_of w + m.count ≤ 16 → first ≡ first_left lefts (valley_of (outline_of w)) → count ≡ m.count → hung ≡ order_of w
+    → lefts_then ≡ lefts ++ first ∷ numbers_from (hung + 2) (count - 1) → AreLow lefts_then
+low_lefts_then w m lefts lefts_then first count hung left legal few f same h are =
+    let then = left_more w (w ++ m ∷ []) lefts lefts_then m first count left legal f same refl
+    (are ∙ ap (λ k. lefts ++ first ∷ numbers_from (k + 2) (count - 1)) h) in
+    subst (λ (ls : List ℕ). AreLow ls) (sym then.lefts_are) (low_lefts (w ++ m ∷ []) (omega (arith, few, order_append w (m ∷ []))))
+
+-- where a word has at most 16 squares after a legal move, its right lines are numbers below 32
+pub low_rights_then : (w : Word) (m : Move) (rights rights_then : List ℕ) (last count hung : ℕ) → rights ≡ rights_of w → IsLegalMove (outline_of w) m
+    → order_of w + m.count ≤ 16 → last ≡ last_right rights (valley_of (outline_of w)) → count ≡ m.count → hung ≡ order_of w
+    → rights_then ≡ rights ++ numbers_from (hung + 2) (count - 1) ++ last ∷ [] → AreLow rights_then
+low_rights_then w m rights rights_then last count hung right legal few l same h are =
+    let then : rights_then ≡ rights_of (w ++ m ∷ []) = are ∙ ap (λ k. rights ++ numbers_from (k + 2) (count - 1) ++ last ∷ []) h
+    ∙ right_more w m rights last count legal right l same in
+    subst (λ (ls : List ℕ). AreLow ls) (sym then) (low_rights (w ++ m ∷ []) (omega (arith, few, order_append w (m ∷ []))))

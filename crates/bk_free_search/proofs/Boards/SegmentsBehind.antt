@@ -1,0 +1,1 @@
+-- The segments behind a place, by the flat lists of the open squares.

@@ -1,0 +1,11 @@
+-- Which words the search goes on to, and that it loses none that is sought.
+pub mod AheadMoves
+pub mod AllUnderExamples
+pub mod Cutting
+pub mod LastSquare
+pub mod LastSquareExamples
+pub mod NextMoves
+pub mod SignPhases
+pub mod SoughtExamples
+pub mod TurnsTaken
+pub mod UnderSigns

@@ -1,0 +1,197 @@
+-- Which signs a next move has, place by place: even or under at a left neighbour, above or under between its own squares, and so many even ones
+-- that no more are needed behind them.
+use Rattle.std.proofs.Common.{List, [], ap, append_assoc, arith, count_by, false, length, slice_get, subst, sym, true, ℕ}
+use Rattle.std.proofs.Common.{◌++◌, ◌+◌, ◌<◌, ◌∙◌, ◌∷◌, ◌≡◌, ◌≤◌}
+use Rattle.std.proofs.lemmas.List.{length-append}
+use Rattle.std.proofs.lemmas.List.Sums.{count_by-le-length}
+use Rattle.bk_word.specs.Outline.{IsLegalMove, has_left_wall, has_right_wall, open_side}
+use Rattle.bk_word.specs.Play.{outline_of}
+use Rattle.bk_word.specs.Signs.{is_even}
+use Rattle.bk_word.specs.Word.{Move, Word}
+use Rattle.bk_word.specs.declared.Sign.{Sign}
+use Rattle.bk_word.specs.declared.Sign.TheVariants.{Above, Even, Under}
+use Rattle.bk_layout.proofs.FreeCuts.SquaresLeft.{evens-cons}
+use Rattle.bk_layout.specs.NormalImage.{IsNormalSought}
+use Rattle.bk_free_search.proofs.Asks.AskedSigns.{begun_is_barred}
+use Rattle.bk_free_search.proofs.NextWords.Cutting.{above_is_barred, even_is_barred, normal, turned_is_barred}
+use Rattle.bk_free_search.proofs.Asks.EvenSigns.{evens_append, side_few, signs_lack_evens}
+use Rattle.bk_free_search.proofs.NextWords.NextMoves.{next_fertile}
+use Rattle.bk_free_search.specs.AskedSigns.{AreFewAsks, BarsSigns, IsAsked, IsMoveBegun, IsNextCount, IsWithOwn, NeedsLeft, StandBeside}
+use Rattle.bk_free_search.specs.Sought.{GoesOnBy}
+use Rattle.bk_free_search.proofs.Asks.AskedNext.{few_up}
+use Rattle.bk_free_search.specs.Strong.{IsFewPassed}
+use Rattle.bk_free_search.specs.declared.asking.Asked.{Asked}
+use Rattle.bk_free_search.specs.declared.asking.Beside.{Beside}
+use Rattle.bk_free_search.specs.declared.asking.Next.{Next}
+use Rattle.bk_free_search.specs.declared.behind.Asks.{Asks}
+
+-- no sought word goes on by signs that are barred
+pub none_goes_on_so : (n : ℕ) (front w : Word) (count : ℕ) (signs : List Sign) → BarsSigns n front count signs → IsNormalSought n w
+    → GoesOnBy front count signs w → ⊥
+none_goes_on_so n front w count signs bars sought on =
+    next_fertile n front w on.move on.rest sought on.is (bars.barren on.move on.more on.count_is on.signs_are)
+
+-- at a left neighbour the first sign isn't above
+pub above_at_left_is_barred : (n : ℕ) (front : Word) (count : ℕ) (signs : List Sign) → has_left_wall (outline_of front) ≡ false → signs ≡ []
+    → BarsSigns n front count (signs ++ Above ∷ [])
+above_at_left_is_barred n front all signs apart none = record {
+  barren = λ other more count are. normal n (front ++ other ∷ []) (above_is_barred n front signs Above other more apart
+      (ap (λ (l : List Sign). length l) none) (λ i. Above) (are ∙ append_assoc signs (Above ∷ []) more));
+}
+
+-- between two of the move's own squares none is even
+pub own_even_is_barred : (n : ℕ) (front : Word) (count : ℕ) (signs : List Sign) → open_side (has_left_wall (outline_of front)) ≤ length signs
+    → length signs + 1 < open_side (has_left_wall (outline_of front)) + count → BarsSigns n front count (signs ++ Even ∷ [])
+own_even_is_barred n front all signs from to = record {
+  barren = λ other more count are. normal n (front ++ other ∷ []) (even_is_barred n front signs Even all other more from to
+      (λ i. Even) count (are ∙ append_assoc signs (Even ∷ []) more));
+}
+
+-- behind the sign even alone a sign above is barred
+pub own_above_is_barred : (n : ℕ) (front : Word) (count : ℕ) (signs : List Sign) → 1 < count → signs ≡ Even ∷ []
+    → BarsSigns n front count (signs ++ Above ∷ [])
+own_above_is_barred n front all signs two even = record {
+  barren = λ other more count are. normal n (front ++ other ∷ []) (turned_is_barred n front (record { count = all; signs = signs }) Above other more
+      (record {
+        two = two;
+        one = ap (λ (l : List Sign). length l) even;
+        even = ap (λ (l : List Sign). slice_get l 0) even;
+        above = λ i. Above;
+      })
+      count (are ∙ append_assoc signs (Above ∷ []) more));
+}
+
+none_even : (s : Sign) → (s ≡ Even → ⊥) → count_by is_even (s ∷ []) ≡ 0
+none_even Above not = omega (arith, evens-cons Above [])
+none_even Under not = omega (arith, evens-cons Under [])
+none_even Even not = absurd (not (λ i. Even))
+
+-- the sign at the left neighbour is even where the right one alone can't give as many even ones as are needed
+pub left_lacks_even : (n : ℕ) (front : Word) (around : Beside) → StandBeside n front around → open_side around.right_wall < around.ahead.evens
+    → (count : ℕ) (sign : Sign) → (sign ≡ Even → ⊥) → BarsSigns n front count (sign ∷ [])
+left_lacks_even n front around beside lacks all sign not = record {
+  barren = λ other more count are. signs_lack_evens n front (sign ∷ []) other more around.ahead.evens 0 (open_side around.right_wall) beside.evens_are
+      (omega arith) are (omega (arith, none_even sign not)) (omega (arith, lacks)) (λ _. omega (arith, ap open_side beside.right_is));
+}
+
+-- the sign at the right neighbour is even if the signs before it have too few even ones
+pub right_lacks_even : (n : ℕ) (front : Word) (m : Move) (next : Next) (around : Beside) (asked : Asked) → IsMoveBegun n front m next around
+    → IsAsked front m.signs asked → asked.evens < around.ahead.evens → length m.signs + 1 ≡ next.wanted → (sign : Sign) → (sign ≡ Even → ⊥)
+    → BarsSigns n front m.count (m.signs ++ sign ∷ [])
+right_lacks_even n front m next around asked begun is lacks last sign not = record {
+  barren = λ other more count are. signs_lack_evens n front (m.signs ++ sign ∷ []) other more around.ahead.evens asked.evens 0 begun.around_is.evens_are
+      (omega (arith, length-append m.signs (sign ∷ []))) are
+      (omega (arith, is.evens_are, evens_append m.signs (sign ∷ []), none_even sign not)) (omega (arith, lacks))
+      (λ low. absurd (omega (arith, low, count, begun.next_is.wanted_is, last, length-append m.signs (sign ∷ []))));
+}
+
+-- where as many signs are even as there are, there is no other
+pub one_even : (signs : List Sign) → length signs ≡ 1 → count_by is_even signs ≡ 1 → signs ≡ Even ∷ []
+one_even [] long even = absurd (omega (arith, long))
+one_even (s ∷ t ∷ signs) long even = absurd (omega (arith, long))
+one_even (Even ∷ []) long even = λ i. Even ∷ []
+one_even (Above ∷ []) long even = absurd (omega (arith, even, evens-cons Above []))
+one_even (Under ∷ []) long even = absurd (omega (arith, even, evens-cons Under []))
+
+-- fewer squares are left than the first signs need
+pub need_is_barred : (n : ℕ) (front : Word) (m : Move) (next : Next) (around : Beside) (signs : List Sign) (asked : Asked) (need : ℕ)
+    → IsMoveBegun n front m next around → IsAsked front signs asked → open_side (has_left_wall (outline_of front)) ≤ length signs
+    → length signs ≤ next.own → NeedsLeft asked.passed around.behind.even around.ahead.moves need → next.left < need → BarsSigns n front m.count signs
+need_is_barred n front m next around signs asked need begun is from own needs less =
+    begun_is_barred n front m next around begun signs asked is from own
+    (needs next.left less (omega (arith, begun.next_is.left_is, begun.most)))
+
+-- before the first sign, at the left wall
+pub none_is_barred : (n : ℕ) (front : Word) (m : Move) (next : Next) (around : Beside) → IsMoveBegun n front m next around → m.signs ≡ []
+    → has_left_wall (outline_of front) ≡ true → next.left < around.needs.none → BarsSigns n front m.count m.signs
+none_is_barred n front m next around begun none wall less =
+    need_is_barred n front m next around m.signs around.before.none around.needs.none begun
+    (subst (λ (l : List Sign). IsAsked front l around.before.none) (sym none) begun.around_is.before_is.none)
+    (omega (arith, ap open_side wall)) (omega (arith, ap (λ (l : List Sign). length l) none)) begun.around_is.needs_are.none less
+
+-- with the sign at a left neighbour
+pub first_is_barred : (n : ℕ) (front : Word) (m : Move) (next : Next) (around : Beside) (sign : Sign) (asked : Asked) (need : ℕ) → IsMoveBegun n front m next around
+    → m.signs ≡ [] → has_left_wall (outline_of front) ≡ false → IsAsked front (sign ∷ []) asked
+    → NeedsLeft asked.passed around.behind.even around.ahead.moves need → next.left < need → BarsSigns n front m.count (m.signs ++ sign ∷ [])
+first_is_barred n front m next around sign asked need begun none apart is needs less =
+    subst (λ (l : List Sign). BarsSigns n front m.count (l ++ sign ∷ [])) (sym none)
+    (need_is_barred n front m next around (sign ∷ []) asked need begun is (omega (arith, side_few (has_left_wall (outline_of front))))
+    (omega (arith, begun.next_is.own_is, begun.some, ap open_side apart)) needs less)
+
+-- a move isn't whole before its last own sign
+pub not_whole : (n : ℕ) (front : Word) (count : ℕ) (signs : List Sign) (next : Next) → IsNextCount n front count next → length signs < next.wanted
+    → IsLegalMove (outline_of front) (record { count = count; signs = signs }) → ⊥
+not_whole n front count signs next is low legal = omega (arith, legal.signs, is.wanted_is, low)
+
+-- at a left neighbour the first sign is still to come
+pub first_missing : (n : ℕ) (front : Word) (m : Move) (next : Next) (around : Beside) → IsMoveBegun n front m next around → m.signs ≡ []
+    → has_left_wall (outline_of front) ≡ false → IsLegalMove (outline_of front) m → ⊥
+first_missing n front m next around begun none apart legal =
+    omega (arith, legal.signs, begun.some, ap open_side apart, ap (λ (l : List Sign). length l) none)
+
+-- at a right neighbour the last one is, when those before it are there
+pub last_missing : (n : ℕ) (front : Word) (m : Move) (next : Next) (around : Beside) → IsMoveBegun n front m next around → length m.signs ≡ next.own
+    → around.right_wall ≡ false → length m.signs + 1 ≡ next.wanted
+last_missing n front m next around begun own apart =
+    omega (arith, own, begun.next_is.own_is, begun.next_is.wanted_is, ap open_side begun.around_is.right_is, ap open_side apart)
+
+-- at the right wall none is
+pub none_missing : (n : ℕ) (front : Word) (m : Move) (next : Next) (around : Beside) → IsMoveBegun n front m next around → length m.signs ≡ next.own
+    → around.right_wall ≡ true → length m.signs ≡ next.wanted
+none_missing n front m next around begun own wall =
+    omega (arith, own, begun.next_is.own_is, begun.next_is.wanted_is, ap open_side begun.around_is.right_is, ap open_side wall)
+
+-- a move with all its signs is legal
+pub whole_is_legal : (n : ℕ) (front : Word) (m k : Move) (next : Next) (around : Beside) → IsMoveBegun n front m next around → k.count ≡ m.count
+    → length k.signs ≡ next.wanted → IsLegalMove (outline_of front) k
+whole_is_legal n front m k next around begun count whole =
+    record { some = omega (arith, begun.some, count); signs = omega (arith, begun.next_is.wanted_is, whole, count) }
+
+-- what is barred as the first sign
+pub bars_first : (n : ℕ) (front : Word) (count : ℕ) (signs : List Sign) (sign : Sign) → signs ≡ [] → BarsSigns n front count (sign ∷ [])
+    → BarsSigns n front count (signs ++ sign ∷ [])
+bars_first n front count signs sign none bars = subst (λ (l : List Sign). BarsSigns n front count (l ++ sign ∷ [])) (sym none) bars
+
+-- above behind the sign even alone
+pub own_turned_is_barred : (n : ℕ) (front : Word) (m : Move) (next : Next) (around : Beside) → IsMoveBegun n front m next around
+    → length m.signs < next.own → m.signs ≡ Even ∷ [] → BarsSigns n front m.count (m.signs ++ Above ∷ [])
+own_turned_is_barred n front m next around begun low even = own_above_is_barred n front m.count m.signs (omega (
+  arith,
+  ap (λ (l : List Sign). length l) even,
+  low,
+  begun.next_is.own_is,
+  side_few (has_left_wall (outline_of front)),
+)) even
+
+-- the numbers that are counted are small
+pub few_now : (n : ℕ) (front : Word) (m : Move) (next : Next) (around : Beside) (asked : Asked) (k : ℕ) → IsWithOwn n front m next around asked → 480 ≤ k
+    → IsFewPassed asked.passed k
+few_now n front m next around asked k is many = few_up asked.passed (450 + length m.signs) k (omega (
+  arith,
+  many,
+  is.begun.signs,
+  is.begun.next_is.wanted_is,
+  is.begun.fits,
+  is.begun.most,
+  side_few (has_left_wall (outline_of front)),
+  side_few (has_right_wall (outline_of front)),
+)) is.asked_is.few
+
+-- of the signs that a next move has so far at most 1000 are even
+pub evens_now : (n : ℕ) (front : Word) (m : Move) (next : Next) (around : Beside) (asked : Asked) → IsWithOwn n front m next around asked
+    → asked.evens ≤ 1000
+evens_now n front m next around asked is = omega (
+  arith,
+  is.asked_is.evens_are,
+  count_by-le-length is_even m.signs,
+  is.begun.signs,
+  is.begun.next_is.wanted_is,
+  is.begun.fits,
+  is.begun.most,
+  side_few (has_left_wall (outline_of front)),
+  side_few (has_right_wall (outline_of front)),
+)
+
+-- numbers that segments behind the valley ask for, small at a count, are small above it
+pub few_behind : (asks : Asks) (k n : ℕ) → k ≤ n → AreFewAsks asks k → AreFewAsks asks n
+few_behind asks k n h few = record { add = omega (arith, h, few.add); most = omega (arith, h, few.most); more = omega (arith, h, few.more) }

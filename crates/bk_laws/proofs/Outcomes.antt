@@ -1,0 +1,148 @@
+-- Values that may be missing, and results that may be errors.
+use Rattle.std.specs.Option.{ok_or}
+use Rattle.std.specs.Prelude.{Bool, IfErr, IfNone, IfOk, IfSome, IsOk, IsSomeAnd, MatchOption, OnErr, OnOk, cond, option_to_list}
+use Rattle.std.specs.Result.{IsErrAnd, is_err, result_ok}
+use Rattle.std.proofs.Common.{Err, None, Ok, Option, Result, Some, ap, arith, false, is_some, length, nat_lt, refl, subst, sym, true, true≢false, ℕ, ◌<◌, ◌∙◌}
+use Rattle.std.proofs.Common.{◌≡◌, ◌≤◌}
+use Rattle.std.proofs.lemmas.Bool.Decides.{nat_tests}
+use Rattle.std.proofs.lemmas.Option.{same_Some}
+
+-- if none is found below a bound, the place is at least the bound
+pub le-from_none_found : (n m : ℕ) → ◌≡◌ {A = Option ℕ} None (cond (nat_lt n m) (Some n) None) → m ≤ n
+le-from_none_found n m e = by (nat_lt n m) refl e
+  where
+    by : (b : Bool) → nat_lt n m ≡ b → ◌≡◌ {A = Option ℕ} None (cond b (Some n) None) → m ≤ n
+    by true t e = absurd (cc)
+    by false t e = grind (arith, nat_tests)
+
+-- what is found below a bound is the place, and below the bound
+pub found-below_bound : (n m g : ℕ) → Some g ≡ cond (nat_lt n m) (Some n) None → (g ≡ n) × (n < m)
+found-below_bound n m g e = by (nat_lt n m) refl e
+  where
+    by : (b : Bool) → nat_lt n m ≡ b → Some g ≡ cond (nat_lt n m) (Some n) None → (g ≡ n) × (n < m)
+    by true t e = (same_Some g n (e ∙ ap (λ (v : Bool). cond v (Some n) None) t), (grind (arith, nat_tests)))
+    by false t e = absurd (cc)
+
+-- an option has one value
+pub some-unique : {A : Type 0} (o : Option A) (x y : A) → o ≡ Some x → o ≡ Some y → x ≡ y
+some-unique o x y e f = cc
+
+-- an error is no success
+pub err-not_ok : {T E : Type 0} (r : Result T E) (x : E) → r ≡ Err x → IsOk r → ⊥
+err-not_ok (Ok y) x e ok = cc
+err-not_ok (Err y) x e ok = let no : false ≡ true = ok in cc
+
+-- what follows from a fact where there is no value
+pub if_none-weaken : {A : Type 0} (o : Option A) (P Q : Type 0) → (P → Q) → IfNone o P → IfNone o Q
+if_none-weaken None P Q f p = f p
+if_none-weaken (Some a) P Q f p = p
+
+-- what follows where there is no value holds where the fault stands for it
+pub if_err-of_if_none : {A E : Type 0} (o : Option A) (fault : E) (P Q : Type 0) → (P → Q) → IfNone o P → IfErr (ok_or o fault) (λ _. Q)
+if_err-of_if_none None fault P Q f p = f p
+if_err-of_if_none (Some a) fault P Q f p = tt
+
+-- what holds anyway holds where there is no value
+pub if_none-intro : {A : Type 0} (o : Option A) (P : Type 0) → P → IfNone o P
+if_none-intro None P p = p
+if_none-intro (Some a) P p = tt
+
+-- a value isn't none
+pub some-is_not_none : {A : Type 0} (a : A) → Some a ≡ None → ⊥
+some-is_not_none a e = cc
+
+-- where a result is no success, what holds of a fault holds
+pub if_err-apply : {A E : Type 0} (r : Result A E) (P : Type 0) → result_ok r ≡ None → IfErr r (λ _. P) → P
+if_err-apply (Ok a) P none p = absurd (some-is_not_none a none)
+if_err-apply (Err e) P none p = p
+
+-- anything holds of no value
+pub if_some-of_none : {A : Type 0} (o : Option A) (P : A → Type 0) → o ≡ None → IfSome o P
+if_some-of_none o P e = subst (λ v. IfSome v P) (sym e) tt
+
+-- a success has what is ensured of it
+pub if_ok-apply : {A E : Type 0} (r : Result A E) (P : A → Type 0) (a : A) → result_ok r ≡ Some a → IfOk r P → P a
+if_ok-apply (Ok b) P a e h = let same : b ≡ a = cc in subst P same h
+if_ok-apply (Err fault) P a e h = absurd (cc)
+
+-- a value of which something holds is there, with that
+pub is_some_and-intro : {A : Type 0} (P : A → Type 0) (o : Option A) (x : A) → o ≡ Some x → P x → IsSomeAnd o P
+is_some_and-intro {A} P o x e p = subst (λ (r : Option A). IsSomeAnd r P) (sym e) p
+
+-- an optional number is a list of at most one
+pub option_to_list-at_most_one : (o : Option ℕ) → length (option_to_list o) ≤ 1
+option_to_list-at_most_one None = omega arith
+option_to_list-at_most_one (Some a) = omega arith
+
+-- two equal options have the same value
+pub some-injective : {A : Type 0} (x y : A) → ◌≡◌ {A = Option A} (Some x) (Some y) → x ≡ y
+some-injective x y e = cc
+
+-- two values of one option are one
+pub some-unique_of_same : {n : Option ℕ} (p q : ℕ) → n ≡ Some p → n ≡ Some q → p ≡ q
+some-unique_of_same p q e f = some-injective p q (sym e ∙ f)
+
+-- two equal options of pairs have the same parts
+pub some_pair-injective : (a b c d : ℕ) → ◌≡◌ {A = Option (ℕ × ℕ)} (Some (a, b)) (Some (c, d)) → (a ≡ c) × (b ≡ d)
+some_pair-injective a b c d e = (ap first e, ap second e)
+  where
+    first : Option (ℕ × ℕ) → ℕ
+    first None = 0
+    first (Some x) = x.0
+
+    second : Option (ℕ × ℕ) → ℕ
+    second None = 0
+    second (Some x) = x.1
+
+-- where there is an error, anything holds of a success
+pub if_ok-of_error : {T E : Type 0} (Q : E → Type 0) (r : Result T E) (P : T → Type 0) → IsErrAnd r Q → IfOk r P
+if_ok-of_error Q (Ok x) P h = absurd h
+if_ok-of_error Q (Err y) P h = tt
+
+-- what holds of a success holds where the result is no error
+pub on_ok-apply : {T E : Type 0} (r : Result T E) (P : Type 0) → is_err r ≡ false → OnOk r P → P
+on_ok-apply (Ok x) P e h = h
+on_ok-apply (Err x) P e h = absurd (true≢false e)
+
+-- no value isn't a value
+pub none-is_not_some : (k : ℕ) → ◌≡◌ {A = Option ℕ} None (Some k) → ⊥
+none-is_not_some k e = cc
+
+-- what a look-up that found nothing says
+pub match_option-none : {A : Type 0} (P : Type 0) (Q : A → Type 0) (r : Option A) → is_some r ≡ false → MatchOption r P Q → P
+match_option-none P Q None e m = m
+match_option-none P Q (Some a) e m = absurd (true≢false e)
+
+-- what a look-up that found something says
+pub match_option-some : {A : Type 0} (P : Type 0) (Q : A → Type 0) (r : Option A) → is_some r ≡ true → MatchOption r P Q → (a : A) × Q a
+match_option-some P Q None e m = absurd (true≢false (sym e))
+match_option-some P Q (Some a) e m = (a, m)
+
+-- what holds anyway holds of a success
+pub on_ok-intro : {A E : Type 0} (P : Type 0) (r : Result A E) → P → OnOk r P
+on_ok-intro P (Ok a) p = p
+on_ok-intro P (Err e) p = tt
+
+-- anything holds of the success of an error
+pub on_ok-of_error : {A E : Type 0} (P : Type 0) (r : Result A E) (e : E) → r ≡ Err e → OnOk r P
+on_ok-of_error {A} {E} P r e is = subst (λ (r : Result A E). OnOk r P) (sym is) tt
+
+-- an option that the test finds to have no value has none
+pub none-from_is_some : (limit : Option ℕ) → is_some limit ≡ false → limit ≡ None
+none-from_is_some None e = refl
+none-from_is_some (Some n) e = absurd (cc)
+
+-- what a result promises of a success holds if it isn't found to be an error
+pub on_ok-use : {T E : Type 0} (r : Result T E) (P : Type 0) → OnOk r P → is_err r ≡ false → P
+on_ok-use (Ok v) P h e = h
+on_ok-use (Err f) P h e = absurd (cc)
+
+-- a success is not found to be an error
+pub ok-is_not_err : {T E : Type 0} (r : Result T E) → IsOk r → is_err r ≡ true → false ≡ true
+ok-is_not_err (Ok v) h e = e
+ok-is_not_err (Err f) h e = h
+
+-- what holds anyway holds of an error
+pub on_err-intro : {A E : Type 0} {P : Type 0} (r : Result A E) → P → OnErr r P
+on_err-intro (Ok a) p = tt
+on_err-intro (Err e) p = p

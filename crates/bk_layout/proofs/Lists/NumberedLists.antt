@@ -1,0 +1,66 @@
+-- Lists of the values of a function at numbers in a row.
+use Rattle.std.specs.List.{AllByRecursion}
+use Rattle.std.proofs.Common.{Bool, List, Some, [], ap, arith, cond, inl, inr, length, map, refl, slice_get, slice_index_or, subst, suc, zero, ℕ}
+use Rattle.std.proofs.Common.{◌+◌, ◌<◌, ◌∙◌, ◌∷◌, ◌≡◌, ◌≤◌, ◌⊎◌}
+use Rattle.std.proofs.lemmas.Bool.{cases_lt}
+use Rattle.bk_word.specs.Play.{numbers_from}
+use Rattle.bk_layout.specs.SignedWord.{with_reversed}
+
+-- there are as many values as numbers
+pub numbers_length : {A : Type 0} (f : ℕ → A) (b n : ℕ) → length (map f (numbers_from b n)) ≡ n
+numbers_length f b zero = refl
+numbers_length f b (suc n) = ap suc (numbers_length f (b + 1) n)
+
+-- read at a place
+pub numbers_get : {A : Type 0} (f : ℕ → A) (b n k : ℕ) → k < n → slice_get (map f (numbers_from b n)) k ≡ Some (f (b + k))
+numbers_get f b zero k h = absurd (omega arith)
+numbers_get f b (suc n) zero h = ap (λ (i : ℕ). Some (f i)) (omega arith)
+numbers_get f b (suc n) (suc k) h = numbers_get f (b + 1) n k (omega arith) ∙ ap (λ (i : ℕ). Some (f i)) (omega arith)
+
+-- the value at a place is that of the number at this place
+pub numbers_index : {A : Type 0} (f : ℕ → A) (b n k : ℕ) (d : A) → k < n → slice_index_or (map f (numbers_from b n)) k d ≡ f (b + k)
+numbers_index f b zero k d h = absurd (omega arith)
+numbers_index f b (suc n) zero d h = ap f (omega arith)
+numbers_index f b (suc n) (suc k) d h = numbers_index f (b + 1) n k d (omega arith) ∙ ap f (omega arith)
+
+-- two functions, and what holds at each number
+pub numbers_each : {A : Type 0} (f g : ℕ → A) (b n : ℕ) → ((k : ℕ) → b ≤ k → k < b + n → f k ≡ g k) → map f (numbers_from b n) ≡ map g (numbers_from b n)
+numbers_each f g b zero each = refl
+numbers_each f g b (suc n) each = λ i. each b (omega arith) (omega arith) i ∷ numbers_each f g (b + 1) n (λ k lo hi. each k (omega arith) (omega arith)) i
+
+-- what holds of the value of each number holds of all values
+pub numbers_all : {A : Type 0} (P : A → Type 0) (f : ℕ → A) (b n : ℕ) → ((k : ℕ) → b ≤ k → k < b + n → P (f k)) → AllByRecursion P (map f (numbers_from b n))
+numbers_all P f b zero each = tt
+numbers_all P f b (suc n) each = (each b (omega arith) (omega arith), numbers_all P f (b + 1) n (λ k lo hi. each k (omega arith) (omega arith)))
+
+-- what holds of all values in a range holds of the value of each number there
+pub at_number : {A : Type 0} (P : A → Type 0) (f : ℕ → A) (b n k : ℕ) → AllByRecursion P (map f (numbers_from b n)) → b ≤ k → k < b + n → P (f k)
+at_number P f b zero k all lo hi = absurd (omega arith)
+at_number P f b (suc n) k all lo hi = cases (cases_lt b k) (at_number P f (b + 1) n k all.1)
+  where
+    cases : (b < k) ⊎ (k ≤ b) → (b + 1 ≤ k → k < b + 1 + n → P (f k)) → P (f k)
+    cases (inl h) rest = rest (omega arith) (omega arith)
+    cases (inr h) rest = let same : b ≡ k = omega arith in subst (λ (i : ℕ). P (f i)) same all.0
+
+-- ---- wires of which some are reversed
+
+-- as many wires are there after some are turned
+pub reversed_length : (turned : ℕ → Bool) (b : ℕ) (ws : List (ℕ × ℕ)) → length (with_reversed turned b ws) ≡ length ws
+reversed_length turned b [] = refl
+reversed_length turned b (w ∷ ws) = ap suc (reversed_length turned (b + 1) ws)
+
+-- the wire at a place is the one that was there, turned where it is one of those
+pub reversed_get : (turned : ℕ → Bool) (f : ℕ → ℕ × ℕ) (b n k : ℕ) → k < n
+    → slice_get (with_reversed turned b (map f (numbers_from b n))) k ≡ Some (cond (turned (b + k)) ((f (b + k)).1, (f (b + k)).0) (f (b + k)))
+reversed_get turned f b zero k h = absurd (omega arith)
+reversed_get turned f b (suc n) zero h = ap (λ (i : ℕ). Some (cond {A = ℕ × ℕ} (turned i) ((f i).1, (f i).0) (f i))) (omega arith)
+reversed_get turned f b (suc n) (suc k) h = reversed_get turned f (b + 1) n k (omega arith)
+    ∙ ap (λ (i : ℕ). Some (cond {A = ℕ × ℕ} (turned i) ((f i).1, (f i).0) (f i))) (omega arith)
+
+-- wires that differ by these turns are the turned ones
+pub reversed_numbers : (turned : ℕ → Bool) (f : ℕ → ℕ × ℕ) (g : ℕ → ℕ × ℕ) (b n : ℕ)
+    → ((k : ℕ) → b ≤ k → k < b + n → g k ≡ cond (turned k) ((f k).1, (f k).0) (f k))
+    → map g (numbers_from b n) ≡ with_reversed turned b (map f (numbers_from b n))
+reversed_numbers turned f g b zero each = refl
+reversed_numbers turned f g b (suc n) each =
+    λ i. each b (omega arith) (omega arith) i ∷ reversed_numbers turned f g (b + 1) n (λ k lo hi. each k (omega arith) (omega arith)) i

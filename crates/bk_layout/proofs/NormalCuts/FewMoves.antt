@@ -1,0 +1,159 @@
+-- The moves at the walls in two parts of a word, and how many moves a word of a normal layout has at most.
+use Rattle.std.proofs.Common.{Bool, [], ap, arith, cond, false, inl, inr, length, max, nat_lt, refl, slice_get, subst, true, ℕ, ◌*◌, ◌++◌, ◌+◌, ◌<◌}
+use Rattle.std.proofs.Common.{◌∷◌, ◌≡◌, ◌≤◌, ◌⊎◌}
+use Rattle.std.specs.Prelude.{◌/◌}
+use Rattle.std.proofs.lemmas.Bool.Decides.{nat_tests}
+use Rattle.bk_word.specs.Outline.{Outline, start}
+use Rattle.bk_word.specs.Play.{AreLegalFrom, IsLegal, after_move, after_moves, outline_of}
+use Rattle.bk_word.specs.Word.{Word}
+use Rattle.bk_word.proofs.PlayLaws.{legal_front}
+use Rattle.bk_layout.specs.Layout.{Layout}
+use Rattle.bk_layout.specs.LayoutLaws.{IsWordOfLayout}
+use Rattle.bk_layout.specs.LayoutCounts.{counts_of_layout}
+use Rattle.bk_layout.specs.FreeCuts.{IsSound}
+use Rattle.bk_layout.proofs.NormalCuts.NumbersShown.{left_is, moves_is, right_is}
+use Rattle.bk_layout.proofs.FreeCuts.RunsOfLines.{wall_moves_hang_one}
+use Rattle.bk_layout.specs.NormalCuts.{AreMostMoves, MostMovesAreMost, MostMovesStay}
+use Rattle.bk_layout.specs.NormalLayout.{IsNormalLayout}
+use Rattle.bk_layout.specs.WordNumbers.{AMoveHangsAtWalls, first_count, left_moves_from, left_squares, right_moves_from, right_squares}
+
+-- the moves at a wall in two parts
+pub left_moves_append : (o : Outline) (front rest : Word) → left_moves_from o (front ++ rest)
+    ≡ left_moves_from o front + left_moves_from (after_moves o front) rest
+left_moves_append o [] rest = omega arith
+left_moves_append o (m ∷ front) rest = omega (arith, left_moves_append (after_move o m) front rest)
+
+-- the moves at the right wall of two parts of a word are as many as in one and in the other
+pub right_moves_append : (o : Outline) (front rest : Word) → right_moves_from o (front ++ rest)
+    ≡ right_moves_from o front + right_moves_from (after_moves o front) rest
+right_moves_append o [] rest = omega arith
+right_moves_append o (m ∷ front) rest = omega (arith, right_moves_append (after_move o m) front rest)
+
+-- the first move stays where more go on
+pub first_kept : (front rest : Word) → 0 < length front → first_count (front ++ rest) ≡ first_count front
+first_kept [] rest some = absurd (omega (arith, some))
+first_kept (m ∷ front) rest some = refl
+
+-- at least as many moves at the right wall come as more squares stand at the left wall now
+module _ (n : ℕ) (l : Layout) (w : Word) (sound : IsSound n l) (normal : IsNormalLayout l) (word : IsWordOfLayout l w) where
+  -- in a word of a normal layout at most as many moves are at the left wall as at the right
+  pub walls_left : (front rest : Word) → w ≡ front ++ rest
+      → left_moves_from start front + left_moves_from (outline_of front) rest ≤ right_moves_from start front + right_moves_from (outline_of front) rest
+  walls_left front rest is = omega (
+    arith,
+    normal.across,
+    left_is l w sound.fits sound.walls word,
+    right_is l w sound.fits sound.walls word,
+    (wall_moves_hang_one w (word.complete).legal).left,
+    (wall_moves_hang_one w (word.complete).legal).right,
+    ap (left_moves_from start) is,
+    ap (right_moves_from start) is,
+    left_moves_append start front rest,
+    right_moves_append start front rest,
+  )
+
+  module _ (front rest : Word) (is : w ≡ front ++ rest) where
+    legal_then : AreLegalFrom start front
+    legal_then = legal_front start front rest (subst (AreLegalFrom start) is (word.complete).legal)
+
+    -- at the right wall stand at least as many squares as at either wall now
+    right_more : max (left_squares front) (right_squares front) ≤ (counts_of_layout l).right
+    right_more = omega (
+      arith,
+      normal.across,
+      left_is l w sound.fits sound.walls word,
+      right_is l w sound.fits sound.walls word,
+      (wall_moves_hang_one w (word.complete).legal).left,
+      (wall_moves_hang_one w (word.complete).legal).right,
+      ap (left_moves_from start) is,
+      ap (right_moves_from start) is,
+      left_moves_append start front rest,
+      right_moves_append start front rest,
+      (wall_moves_hang_one front legal_then).left,
+      (wall_moves_hang_one front legal_then).right,
+    )
+
+    -- so many squares hang from the top
+    top_is : 0 < max (left_squares front) (right_squares front) → length (l.hanging 0) ≡ first_count front
+    top_is some = at front is some
+      where
+        at : (front : Word) → w ≡ front ++ rest → 0 < max (left_squares front) (right_squares front) → length (l.hanging 0) ≡ first_count front
+        at [] e h = absurd (omega (arith, h))
+        at (m ∷ front) e h = omega (arith, word.first_count m (ap (λ (v : Word). slice_get v 0) e))
+
+    -- the word has few moves
+    pub few_moves : (most : ℕ) → AreMostMoves n front most → length w ≤ most
+    few_moves most (inl few) = omega (arith, few, normal.few, sound.squares, moves_is l w word)
+    few_moves most (inr (few, wide)) = cases (two (length w) most)
+      where
+        two : (a b : ℕ) → (a ≤ b) ⊎ (b < a)
+        two a b = grind arith
+
+        cases : (length w ≤ most) ⊎ (most < length w) → length w ≤ most
+        cases (inl h) = h
+        cases (inr h) = absurd (omega (
+          arith,
+          normal.half (omega (arith, h, few, normal.few, sound.squares, moves_is l w word)),
+          right_more,
+          wide,
+          top_is (omega (arith, wide)),
+        ))
+
+-- ---- which number it is
+
+-- a normal word that begins with moves has at most as many moves as is computed from them
+pub most_moves_are_most : MostMovesAreMost
+most_moves_are_most n front = of (first_count front) (max (left_squares front) (right_squares front))
+  where
+    of : (a b : ℕ) → (n ≤ 2 * cond (nat_lt a b) (n / 2) ((n + 1) / 2)) ⊎ ((n ≤ 2 * cond (nat_lt a b) (n / 2) ((n + 1) / 2) + 1) × (a < b))
+    of a b = cases (two a b)
+      where
+        two : (a b : ℕ) → (b ≤ a) ⊎ (a < b)
+        two a b = grind arith
+
+        not : (a b : ℕ) → b ≤ a → nat_lt a b ≡ false
+        not a b h = grind (arith, nat_tests)
+
+        is : (a b : ℕ) → a < b → nat_lt a b ≡ true
+        is a b h = grind (arith, nat_tests)
+
+        cases : (b ≤ a) ⊎ (a < b)
+            → (n ≤ 2 * cond (nat_lt a b) (n / 2) ((n + 1) / 2)) ⊎ ((n ≤ 2 * cond (nat_lt a b) (n / 2) ((n + 1) / 2) + 1) × (a < b))
+        cases (inl h) = inl (omega (arith, ap (λ (x : Bool). cond {A = ℕ} x (n / 2) ((n + 1) / 2)) (not a b h)))
+        cases (inr h) = inr (omega (arith, ap (λ (x : Bool). cond {A = ℕ} x (n / 2) ((n + 1) / 2)) (is a b h)), h)
+
+-- a move at a wall hangs one square there
+pub a_move_hangs_at_walls : AMoveHangsAtWalls
+a_move_hangs_at_walls front m legal = record {
+  left = omega (
+    arith,
+    (wall_moves_hang_one (front ++ m ∷ []) legal).left,
+    (wall_moves_hang_one front (legal_front start front (m ∷ []) legal)).left,
+    left_moves_append start front (m ∷ []),
+  );
+  right = omega (
+    arith,
+    (wall_moves_hang_one (front ++ m ∷ []) legal).right,
+    (wall_moves_hang_one front (legal_front start front (m ∷ []) legal)).right,
+    right_moves_append start front (m ∷ []),
+  );
+}
+
+-- a bound on the number of moves holds still when the moves go on
+pub most_moves_stay : MostMovesStay
+most_moves_stay n most front more legal (inl h) = inl h
+most_moves_stay n most front more legal (inr (h, wide)) = inr (h, at front legal wide)
+  where
+    at : (front : Word) → IsLegal (front ++ more) → first_count front < max (left_squares front) (right_squares front)
+        → first_count (front ++ more) < max (left_squares (front ++ more)) (right_squares (front ++ more))
+    at [] legal wide = absurd (omega (arith, wide))
+    at (m ∷ front) legal wide = omega (
+      arith,
+      wide,
+      (wall_moves_hang_one (m ∷ front ++ more) legal).left,
+      (wall_moves_hang_one (m ∷ front ++ more) legal).right,
+      (wall_moves_hang_one (m ∷ front) (legal_front start (m ∷ front) more legal)).left,
+      (wall_moves_hang_one (m ∷ front) (legal_front start (m ∷ front) more legal)).right,
+      left_moves_append start (m ∷ front) more,
+      right_moves_append start (m ∷ front) more,
+    )

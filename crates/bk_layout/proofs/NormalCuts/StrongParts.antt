@@ -1,0 +1,141 @@
+-- The strong bound on parts of an outline: joining segments, and what stands before others, makes it no smaller.
+use Rattle.std.proofs.Common.{Bool, List, [], arith, cond, false, filter, length, map, true, ℕ, ◌++◌, ◌+◌, ◌∷◌, ◌≡◌, ◌≤◌}
+use Rattle.bk_laws.proofs.TestsAsNumbers.{cond_count-le_of_implies}
+use Rattle.bk_word.specs.Play.{before_first_list, joined, parts}
+use Rattle.bk_word.specs.declared.Sign.{Sign}
+use Rattle.bk_word.specs.declared.Sign.TheVariants.{Above, Even, Under}
+use Rattle.bk_catalogue.proofs.HangingBounds.ClosingLaws.{unders, unders-append, unders-cons, unders-parts}
+use Rattle.bk_layout.specs.StrongBound.{strong_from, weight_from}
+
+-- the weight of segments
+abbrev pub weight : Bool → List Sign → List (List ℕ) → ℕ
+weight low signs segments = weight_from low signs (map length segments)
+
+-- a first segment that may be a valley counts for no less
+pub weight_low : (b : Bool) (signs : List Sign) (segments : List (List ℕ)) → weight false signs segments ≤ weight b signs segments
+weight_low b signs [] = omega arith
+weight_low b [] (s ∷ segments) = omega arith
+weight_low b (Above ∷ signs) (s ∷ segments) = omega arith
+weight_low b (Even ∷ signs) (s ∷ segments) = omega arith
+weight_low b (Under ∷ signs) (s ∷ segments) = omega arith
+
+-- where the first segment is no valley, its squares do not count
+weight_grown : (x : List ℕ) (signs : List Sign) (segments : List (List ℕ)) → weight false signs (before_first_list x segments) ≡ weight false signs segments
+weight_grown x [] [] = omega arith
+weight_grown x (Above ∷ signs) [] = omega arith
+weight_grown x (Even ∷ signs) [] = omega arith
+weight_grown x (Under ∷ signs) [] = omega arith
+weight_grown x [] (s ∷ segments) = omega arith
+weight_grown x (Above ∷ signs) (s ∷ segments) = omega arith
+weight_grown x (Even ∷ signs) (s ∷ segments) = omega arith
+weight_grown x (Under ∷ signs) (s ∷ segments) = omega arith
+
+-- joining segments at even signs makes it no smaller
+pub weight_joined : (b : Bool) (signs : List Sign) (segments : List (List ℕ)) → weight b signs segments ≤ weight b (filter parts signs) (joined signs segments)
+weight_joined b signs [] = omega arith
+weight_joined b [] (s ∷ segments) = omega arith
+weight_joined b (Above ∷ signs) (s ∷ segments) = omega (arith, weight_joined false signs segments)
+weight_joined b (Under ∷ signs) (s ∷ segments) = omega (arith, weight_joined true signs segments)
+weight_joined b (Even ∷ signs) (s ∷ segments) = omega (
+  arith,
+  weight_joined false signs segments,
+  weight_grown s (filter parts signs) (joined signs segments),
+  weight_low b (filter parts signs) (before_first_list s (joined signs segments)),
+)
+
+-- nor does what stands before
+pub weight_behind : (b : Bool) (xs ys : List Sign) (ss ts : List (List ℕ)) → length xs ≡ length ss → weight false ys ts ≤ weight b (xs ++ ys) (ss ++ ts)
+weight_behind b [] ys [] ts e = omega (arith, weight_low b ys ts)
+weight_behind b [] ys (s ∷ ss) ts e = absurd (omega arith)
+weight_behind b (x ∷ xs) ys [] ts e = absurd (omega arith)
+weight_behind b (Above ∷ xs) ys (s ∷ ss) ts e = omega (arith, weight_behind false xs ys ss ts (omega arith))
+weight_behind b (Even ∷ xs) ys (s ∷ ss) ts e = omega (arith, weight_behind false xs ys ss ts (omega arith))
+weight_behind b (Under ∷ xs) ys (s ∷ ss) ts e = omega (arith, weight_behind true xs ys ss ts (omega arith))
+
+-- what a part adds to the segments before it
+abbrev pub seen : Bool → List Sign → List (List ℕ) → ℕ
+seen b signs segments = unders signs + weight b signs segments
+
+-- what segments add to those before them grows no smaller where more segments stand in front
+pub seen_behind : (b : Bool) (xs ys : List Sign) (ss ts : List (List ℕ)) → length xs ≡ length ss → seen false ys ts ≤ seen b (xs ++ ys) (ss ++ ts)
+seen_behind b xs ys ss ts e = omega (arith, weight_behind b xs ys ss ts e, unders-append xs ys)
+
+-- ---- with marks that stay where segments grow
+
+module _ (P : List ℕ → Bool) (grows_left : (s t : List ℕ) → P t ≡ true → P (s ++ t) ≡ true) (grows_right : (s t : List ℕ) → P s ≡ true
+    → P (s ++ t) ≡ true) where
+  -- the strong bound of segments, each with its own mark
+  abbrev pub strong : Bool → List Sign → List (List ℕ) → ℕ
+  strong low signs segments = strong_from low signs (map length segments) (map P segments)
+
+  -- one for a marked segment, none for another
+  abbrev pub mark : List ℕ → ℕ
+  mark s = cond (P s) 1 0
+
+  -- the strong bound is no smaller where a sign under stands before the first segment
+  pub strong_low : (b : Bool) (signs : List Sign) (segments : List (List ℕ)) → strong false signs segments ≤ strong b signs segments
+  strong_low b signs [] = omega arith
+  strong_low b [] (s ∷ segments) = omega arith
+  strong_low b (Above ∷ signs) (s ∷ segments) = omega arith
+  strong_low b (Even ∷ signs) (s ∷ segments) = omega arith
+  strong_low b (Under ∷ signs) (s ∷ segments) = omega arith
+
+  mark_left : (s t : List ℕ) → mark t ≤ mark (s ++ t)
+  mark_left s t = cond_count-le_of_implies (P t) (P (s ++ t)) (grows_left s t)
+
+  mark_right : (s t : List ℕ) → mark s ≤ mark (s ++ t)
+  mark_right s t = cond_count-le_of_implies (P s) (P (s ++ t)) (grows_right s t)
+
+  -- a segment that grows at its left
+  strong_grown : (b : Bool) (s : List ℕ) (signs : List Sign) (segments : List (List ℕ)) → strong false signs segments
+      ≤ strong b signs (before_first_list s segments)
+  strong_grown b s signs [] = omega arith
+  strong_grown b s [] (t ∷ segments) = omega (arith, mark_left s t)
+  strong_grown b s (Above ∷ signs) (t ∷ segments) = omega (arith, mark_left s t)
+  strong_grown b s (Even ∷ signs) (t ∷ segments) = omega (arith, mark_left s t)
+  strong_grown b s (Under ∷ signs) (t ∷ segments) = omega (arith, mark_left s t)
+
+  -- what it grows by sees what it sees
+  head_counts : (b : Bool) (s : List ℕ) (signs : List Sign) (segments : List (List ℕ)) → seen false signs segments + mark s
+      ≤ strong b signs (before_first_list s segments)
+  head_counts b s [] [] = omega arith
+  head_counts b s (Above ∷ signs) [] = omega (arith, unders-cons Above signs)
+  head_counts b s (Even ∷ signs) [] = omega (arith, unders-cons Even signs)
+  head_counts b s (Under ∷ signs) [] = omega (arith, unders-cons Under signs)
+  head_counts b s [] (t ∷ segments) = omega (arith, mark_right s t)
+  head_counts b s (Above ∷ signs) (t ∷ segments) = omega (arith, unders-cons Above signs, mark_right s t)
+  head_counts b s (Even ∷ signs) (t ∷ segments) = omega (arith, unders-cons Even signs, mark_right s t)
+  head_counts b s (Under ∷ signs) (t ∷ segments) = omega (arith, unders-cons Under signs, mark_right s t)
+
+  -- joining segments at even signs makes it no smaller
+  pub strong_joined : (b : Bool) (signs : List Sign) (segments : List (List ℕ))
+      → strong b signs segments ≤ strong b (filter parts signs) (joined signs segments)
+  strong_joined b signs [] = omega arith
+  strong_joined b [] (s ∷ segments) = omega arith
+  strong_joined b (Above ∷ signs) (s ∷ segments) =
+      omega (arith, strong_joined false signs segments, weight_joined false signs segments, unders-parts signs)
+  strong_joined b (Under ∷ signs) (s ∷ segments) = omega (arith, strong_joined true signs segments, weight_joined true signs segments, unders-parts signs)
+  strong_joined b (Even ∷ signs) (s ∷ segments) = omega (
+    arith,
+    strong_joined false signs segments,
+    weight_joined false signs segments,
+    unders-parts signs,
+    strong_grown b s (filter parts signs) (joined signs segments),
+    head_counts b s (filter parts signs) (joined signs segments),
+  )
+
+  -- nor does what stands before
+  pub strong_behind : (b : Bool) (xs ys : List Sign) (ss ts : List (List ℕ)) → length xs ≡ length ss → strong false ys ts ≤ strong b (xs ++ ys) (ss ++ ts)
+  strong_behind b [] ys [] ts e = omega (arith, strong_low b ys ts)
+  strong_behind b [] ys (s ∷ ss) ts e = absurd (omega arith)
+  strong_behind b (x ∷ xs) ys [] ts e = absurd (omega arith)
+  strong_behind b (Above ∷ xs) ys (s ∷ ss) ts e = omega (arith, strong_behind false xs ys ss ts (omega arith))
+  strong_behind b (Even ∷ xs) ys (s ∷ ss) ts e = omega (arith, strong_behind false xs ys ss ts (omega arith))
+  strong_behind b (Under ∷ xs) ys (s ∷ ss) ts e = omega (arith, strong_behind true xs ys ss ts (omega arith))
+
+  -- the first of some segments sees what stands behind them
+  pub first_sees : (b : Bool) (x : Sign) (xs ys : List Sign) (s : List ℕ) (ss ts : List (List ℕ)) → length xs ≡ length ss
+      → seen false ys ts ≤ strong b ((x ∷ xs) ++ ys) ((s ∷ ss) ++ ts)
+  first_sees b Above xs ys s ss ts e = omega (arith, seen_behind false xs ys ss ts e)
+  first_sees b Even xs ys s ss ts e = omega (arith, seen_behind false xs ys ss ts e)
+  first_sees b Under xs ys s ss ts e = omega (arith, seen_behind true xs ys ss ts e)

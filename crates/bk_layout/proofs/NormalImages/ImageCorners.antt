@@ -1,0 +1,86 @@
+-- The longest squares in the corners of a tiling's image.
+use Rattle.std.proofs.Common.{Bool, List, [], ap, cond, false, inl, inr, map, max, refl, true, ◌&&◌, ◌+◌, ◌||◌, ◌∙◌, ◌∷◌, ◌≡◌, ◌≤◌}
+use Rattle.std.proofs.Math.Bool.{or_comm}
+use Rattle.bk_laws.proofs.NumberOrder.{max-left_comm}
+use Rattle.bk_laws.proofs.NumberTests.{eq_test-counted_back_end, eq_test-counted_back_start}
+use Rattle.bk_tiling.proofs.TilingLaws.{within_of}
+use Rattle.bk_tiling.specs.CodeOrder.{comes_before, in_code_order, with_square}
+use Rattle.bk_tiling.specs.Tiling.{IsOneOf, IsTiling, Tiling}
+use Rattle.bk_tiling.specs.declared.Square.{Square}
+use Rattle.bk_sym.specs.Image.{image, image_square}
+use Rattle.bk_sym.specs.declared.Turn.{Turn}
+use Rattle.bk_sym.specs.declared.Turn.TheVariants.{FlipX, FlipY}
+use Rattle.bk_layout.specs.Normal.{is_at_bottom, is_at_left, is_at_right, is_at_top, is_in_bottom_corner, is_in_left_corner, is_in_right_corner}
+use Rattle.bk_layout.specs.Normal.{is_in_top_corner, longest}
+
+-- ---- the longest of squares
+
+longest_with : (p : Square → Bool) (q : Square) (squares : List Square) → longest p (with_square q squares) ≡ longest p (q ∷ squares)
+longest_with p q [] = refl
+longest_with p q (r ∷ squares) = cases (comes_before q r) (longest_with p q squares)
+  where
+    cases : (b : Bool) → longest p (with_square q squares) ≡ longest p (q ∷ squares)
+        → longest p (cond b (q ∷ r ∷ squares) (r ∷ with_square q squares)) ≡ longest p (q ∷ r ∷ squares)
+    cases true e = refl
+    cases false e = ap (max (cond (p r) r.s 0)) e ∙ max-left_comm (cond (p r) r.s 0) (cond (p q) q.s 0) (longest p squares)
+
+-- putting squares in order keeps it
+pub longest_ordered : (p : Square → Bool) (squares : List Square) → longest p (in_code_order squares) ≡ longest p squares
+longest_ordered p [] = refl
+longest_ordered p (q ∷ squares) = longest_with p q (in_code_order squares) ∙ ap (max (cond (p q) q.s 0)) (longest_ordered p squares)
+
+-- moving squares keeps the longest that a test passes, where another test passes the moved ones
+longest_moved : (p d : Square → Bool) (f : Square → Square) (squares : List Square) → ((q : Square) → IsOneOf q squares → p (f q) ≡ d q)
+    → ((q : Square) → (f q).s ≡ q.s) → longest p (map f squares) ≡ longest d squares
+longest_moved p d f [] each side = refl
+longest_moved p d f (q ∷ squares) each side = λ i.
+    max (cond (each q (inl refl) i) (side q i) 0) (longest_moved p d f squares (λ r h. each r (inr h)) side i)
+
+module _ (t : Tiling) (tiling : IsTiling t) where
+  longest_image : (turn : Turn) (c d : Square → Bool) → ((q : Square) → (image_square turn t.width t.height q).s ≡ q.s)
+      → ((q : Square) → q.x + q.s ≤ 0 + t.width → q.y + q.s ≤ 0 + t.height → c (image_square turn t.width t.height q) ≡ d q)
+      → longest c (image turn t).squares ≡ longest d t.squares
+  longest_image turn c d side each = longest_ordered c (map (image_square turn t.width t.height) t.squares)
+      ∙ longest_moved c d (image_square turn t.width t.height) t.squares
+      (λ q h. each q (within_of t tiling q h).right (within_of t tiling q h).bottom) side
+
+  -- the walls, mirrored
+  mirrored_walls : (q : Square) → q.x + q.s ≤ 0 + t.width
+      → (is_at_left (image_square FlipX t.width t.height q) || is_at_right t.width (image_square FlipX t.width t.height q))
+      ≡ (is_at_left q || is_at_right t.width q)
+  mirrored_walls q a =
+      (λ i. eq_test-counted_back_start t.width q.x q.s a i || eq_test-counted_back_end t.width q.x q.s a i) ∙ or_comm (is_at_right t.width q) (is_at_left q)
+
+  -- ---- left and right exchanged
+
+  -- the longest in a corner at the top is the same
+  pub corner_x_top : longest (is_in_top_corner t.width) (image FlipX t).squares ≡ longest (is_in_top_corner t.width) t.squares
+  corner_x_top = longest_image FlipX (is_in_top_corner t.width) (is_in_top_corner t.width) (λ q. refl)
+      (λ q a b. ap (λ (c : Bool). is_at_top q && c) (mirrored_walls q a))
+
+  -- the longest in a corner at the bottom stays when the image is flipped along x
+  pub corner_x_bottom : longest (is_in_bottom_corner t.width t.height) (image FlipX t).squares ≡ longest (is_in_bottom_corner t.width t.height) t.squares
+  corner_x_bottom = longest_image FlipX (is_in_bottom_corner t.width t.height) (is_in_bottom_corner t.width t.height) (λ q. refl)
+      (λ q a b. ap (λ (c : Bool). is_at_bottom t.height q && c) (mirrored_walls q a))
+
+  -- at the left it is the one that was at the right
+  pub corner_x_left : longest (is_in_left_corner t.height) (image FlipX t).squares ≡ longest (is_in_right_corner t.width t.height) t.squares
+  corner_x_left = longest_image FlipX (is_in_left_corner t.height) (is_in_right_corner t.width t.height) (λ q. refl)
+      (λ q a b. ap (λ (c : Bool). c && (is_at_top q || is_at_bottom t.height q)) (eq_test-counted_back_start t.width q.x q.s a))
+
+  -- the longest in a corner at the right is the one that was at the left
+  pub corner_x_right : longest (is_in_right_corner t.width t.height) (image FlipX t).squares ≡ longest (is_in_left_corner t.height) t.squares
+  corner_x_right = longest_image FlipX (is_in_right_corner t.width t.height) (is_in_left_corner t.height) (λ q. refl)
+      (λ q a b. ap (λ (c : Bool). c && (is_at_top q || is_at_bottom t.height q)) (eq_test-counted_back_end t.width q.x q.s a))
+
+  -- ---- top and bottom exchanged
+
+  -- at the top it is the one that was at the bottom
+  pub corner_y_top : longest (is_in_top_corner t.width) (image FlipY t).squares ≡ longest (is_in_bottom_corner t.width t.height) t.squares
+  corner_y_top = longest_image FlipY (is_in_top_corner t.width) (is_in_bottom_corner t.width t.height) (λ q. refl)
+      (λ q a b. ap (λ (c : Bool). c && (is_at_left q || is_at_right t.width q)) (eq_test-counted_back_start t.height q.y q.s b))
+
+  -- the longest in a corner at the bottom is the one that was at the top
+  pub corner_y_bottom : longest (is_in_bottom_corner t.width t.height) (image FlipY t).squares ≡ longest (is_in_top_corner t.width) t.squares
+  corner_y_bottom = longest_image FlipY (is_in_bottom_corner t.width t.height) (is_in_top_corner t.width) (λ q. refl)
+      (λ q a b. ap (λ (c : Bool). c && (is_at_left q || is_at_right t.width q)) (eq_test-counted_back_end t.height q.y q.s b))

@@ -1,0 +1,25 @@
+-- Each tiling has a layout that fits, and what the nodes and lines of a tiling are.
+pub mod ApartLines
+pub mod ApartNodes
+pub mod CornerLines
+pub mod CornersExamples
+pub mod Edges
+pub mod GroupNodes
+pub mod InnerNodes
+pub mod LineEdges
+pub mod LineEnds
+pub mod LineNumbers
+pub mod LinesFit
+pub mod LinesGoOn
+pub mod MeetingEnds
+pub mod NodeColumns
+pub mod NodeCorners
+pub mod NodeEnds
+pub mod NodeLines
+pub mod Nodes
+pub mod NodesFit
+pub mod TilingCorners
+pub mod TilingFits
+pub mod TilingLayoutExamples
+pub mod TilingNet
+pub mod TilingSquares

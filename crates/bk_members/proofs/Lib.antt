@@ -1,0 +1,2 @@
+-- Members worked by hand.
+pub mod WalkExamples

@@ -1,5 +1,0 @@
-use Rattle.std.proofs.Common.{map, take, ◌≡◌}
-use Rattle.bk_simple.proofs.sorted_sides.Given as goal
-
-abbrev pub invariant-loop-q : goal.invariant-loop-q
-invariant-loop-q l = l.sides.items ≡ map (λ q. q.s) (take l.q-index l.q-items)

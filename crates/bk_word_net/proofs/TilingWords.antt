@@ -1,0 +1,10 @@
+-- The word of a tiling, held against the groups and nodes of the tiling.
+pub mod AlongWord
+pub mod CellGroups
+pub mod ExactNodes
+pub mod GroupRuns
+pub mod TilingOfTurns
+pub mod TurnsOfTiling
+pub mod WordEnds
+pub mod WordNodes
+pub mod WordSquares
