@@ -5,22 +5,27 @@ use bk_free_search::Board;
 use bk_play::SmallMove;
 use bk_short::Short;
 use bk_tiling::Tiling;
-use bk_word::{Class, Move, Word, read_word};
+use bk_word::{Class, Move, Sign, Word, read_word};
 use std::process::Abort;
 
 // A tiling's width, its height and its sides in code order.
 type Sides = (u64, u64, &'static [u64]);
 
-// Goes on by a move, which must be legal.
-fn push(rt: &impl Abort, board: &mut Board, m: &Move) {
-    assert!(rt; m.signs.len() <= 17);
+// The signs of a move in a short list, which must have room for them.
+fn signs_of(rt: &impl Abort, m: &Move) -> Short<Sign, 17> {
     let mut signs = Short::new();
     for sign in m.signs.as_slice() {
+        assert!(rt; signs.len() < 17);
         signs.push(*sign);
     }
+    signs
+}
+
+// Goes on by a move, which must be legal.
+fn push(rt: &impl Abort, board: &mut Board, m: &Move) {
     let m = SmallMove {
         count: m.count,
-        signs,
+        signs: signs_of(rt, m),
     };
     assert!(rt; board.skel().legal(&m) && board.skel().order() + usize::from(m.count) <= 16);
     board.push(&m);
