@@ -8,8 +8,9 @@ is not made again. If the program is right already, nothing is said, written or 
 Each crate is proved by the prover's own command, over the libraries of the crates below, and those with the longest chains of crates above them go
 first. One process proves a crate, or more if processors would have nothing to do else. What is proved stays as a library in the crate's folder
 out/rlib/, so a build that was stopped goes on where it was. Beside the libraries lie the sums of `rt` too: so `rt check` takes those of a build, and
-a build takes those of `rt check`. A library of a build has statements only, and is made anew if one below it is another than it was proved over. What a check kept in a crate's folder out/incremental/ is used too. Where no
-check was, as in a fresh clone, each crate is proved from nothing. The program that is there stays until the new one takes its place. Standard error
+a build takes those of `rt check`. A library of a build has statements only, and is made anew if one below it is another than it was proved over. A
+crate is proved from nothing, whatever a check kept of it (out/incremental/): the prover doesn't take that for a library of statements only. The
+program that is there stays until the new one takes its place. Standard error
 says which crates are being proved, how many are done and how long it has taken.
 
 The status is 0 if the program is in crates/bk_main/out/bk_main, made from what is there now. A build that a signal stops ends by that signal.

@@ -73,7 +73,7 @@ class Toolchain:
             *(f"{self.folder}/bin/rattle", "build", "--crate-name", crate.name, crate.root, *given, *own),
             *(f"-Ldependency={it}" for it in folders),
             *("--antt-project", f"{self.folder}/rattle/logic/antt-project.json", "--logic-built", f"{self.folder}/logic_built"),
-            *("--jobs", str(jobs), "--links", f"{crate.name}=", *crate.kept_work(), *words),
+            *("--jobs", str(jobs), "--links", f"{crate.name}=", *words),
         ]
 
     def link(self, made, program):
@@ -103,11 +103,6 @@ class Crate:
         for file in sorted(it for part in PARTS for it in files_of(self.name, *part)):
             found.update(repr((file, bytes_of(f"{TOP}/{file}"))).encode())
         return found.hexdigest()
-
-    def kept_work(self):
-        """Returns the words for what checks of the crate kept, if they kept something."""
-        kept = "out/incremental"
-        return ["--incremental", kept] if os.path.isdir(f"{self.folder}/{kept}") and os.listdir(f"{self.folder}/{kept}") else []
 
     def kept(self, name):
         """Returns a file beside the library: `made_from` has the build's sum of what it was made from, and `stamp` that of `rt`."""

@@ -15,16 +15,19 @@ CRATES = {"bk_low": "", "bk_mid": "bk_low", "bk_side": "bk_low", "bk_main": "bk_
 ODD = "a b'\"$x\n y"
 SLOW = 60
 PROVER = """#!/bin/sh
-# Takes what it is told to prove for proved, after as many seconds as a file says.
+# Takes what it is told to prove for proved, after as many seconds as a file says. It refuses the words that the prover refuses together.
 kit=$(dirname "$0")/..
-name= to= of=
+name= to= of= statements= kept=
 while [ $# -gt 0 ]; do
     case $1 in
         --crate-name) name=$2 of=$3 ;;
         -o) to=$2 ;;
+        --statements) statements=1 ;;
+        --incremental) kept=1 ;;
     esac
     shift
 done
+[ -z "$statements" ] || [ -z "$kept" ] || exit 2
 echo "$name" >>"$kit/proved"
 [ ! -e "$kit/seconds" ] || sleep "$(cat "$kit/seconds")"
 [ ! -e "$kit/refuses" ] || exit 1

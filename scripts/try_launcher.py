@@ -209,6 +209,13 @@ def libraries_of_rt(place):
         must(file.read() == hashlib.sha256(b"twotwo").hexdigest(), "the sum beside the library isn't that of `rt`")
 
 
+def checked_before(place):
+    """What a check kept of a crate isn't in the way of a build."""
+    write(f"{place.top}/crates/bk_mid/out/incremental/kept", "")
+    is_built(place.call("0"))
+    must(sorted(place.proved()) == sorted([*CRATES]), "not each crate was proved")
+
+
 def another_toolchain(place):
     place.build()
     write(f"{place.kit}/KIT-ID", "stand-in 2\n")
@@ -360,6 +367,7 @@ CASES = [
     changed_while_proved,
     crates_below_one,
     libraries_of_rt,
+    checked_before,
     another_toolchain,
     program_replaced,
     changed_without_rt,
