@@ -4,7 +4,7 @@
     bench/boards.py [--function NAME] [--first N] [--last N] [--class CLASS] PROGRAM
 
 Runs `list` of PROGRAM, the built program crates/bk_main/out/bk_main, at the orders from 12 to 16, or those named, under callgrind (valgrind).
-Counted are all calls of the function NAME, by default `go_on` of bk_free_search: one for each board that the search comes to, the empty one and whole
+Counted are all calls of the function NAME, by default `meet_all` of bk_free_search: one for each board that the search comes to, the empty one and whole
 words among them, but none for the words that it makes of a board by the last square. Prints a markdown table: the order, the calls, and the
 instructions of the whole run. A function that the compiler puts into its callers can't be counted: then the script says which functions of the crates
 of the search were called, how often, and ends with 1.
@@ -54,7 +54,7 @@ def is_named(function, name):
 def words():
     parser = argparse.ArgumentParser(description=__doc__, formatter_class=argparse.RawDescriptionHelpFormatter)
     parser.add_argument("program", metavar="PROGRAM")
-    parser.add_argument("--function", default="go_on", metavar="NAME")
+    parser.add_argument("--function", default="meet_all", metavar="NAME")
     parser.add_argument("--first", type=int, default=12, metavar="N")
     parser.add_argument("--last", type=int, default=16, metavar="N")
     parser.add_argument("--class", dest="kind", choices=["perfect", "imperfect", "simple"], default="perfect", metavar="CLASS")

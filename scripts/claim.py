@@ -42,16 +42,17 @@ class Module:
 
 
 class Declared:
-    """A type of the code, as a file of definitions names it."""
+    """A type or a constant of the code, as a file of definitions names it."""
 
     def __init__(self, crate, name):
         self.names, self.head = {}, ""
+        body = rf"pub (?:struct|enum) {name} \{{\n(?:.*\n)*?\}}|(?:pub(?:\(crate\))? )?const {name}: .*;"
         for self.path in files_of(crate, "src", ".rt"):
-            found = re.search(rf"(?:^///.*\n)*(?:^#.*\n)*^pub (?:struct|enum) {name} \{{\n(?:.*\n)*?\}}", text_of(self.path), re.MULTILINE)
+            found = re.search(rf"(?:^//.*\n)*(?:^#.*\n)*^(?:{body})", text_of(self.path), re.MULTILINE)
             if found:
                 self.texts = {name: re.sub(r"^ *#.*\n", "", found[0], flags=re.MULTILINE)}
                 return
-        raise LookupError(f"no type {name} in {crate}")
+        raise LookupError(f"no type or constant {name} in {crate}")
 
 
 @functools.cache
@@ -76,7 +77,10 @@ def where(module, name):
         constructed = next((it for it, text in found.texts.items() if re.search(rf"^  {name} :", text, re.MULTILINE)), None)
         return (found, name) if name in found.texts else (found, constructed) if constructed else None
     named = DECLARED.fullmatch(module)
-    return (declared(named[1], named[2]), named[2]) if named else None
+    if not named:
+        return None
+    name = name if named[2] == "TheConstants" else named[2]
+    return declared(named[1], name), name
 
 
 def uses(module, name):
@@ -185,8 +189,9 @@ def wrong_claim(is_written):
     if not begin or not end:
         yield f"{PAGE}: the marks of the definitions aren't there"
     elif is_written:
+        text = by_hand + begin + shown() + end + behind
         with open(f"{TOP}/{PAGE}", "w", encoding="utf-8") as file:
-            file.write(by_hand + begin + shown() + end + behind)
+            file.write(text)
     elif made != shown():
         yield f"{PAGE}: the definitions are others now: scripts/claim.py"
     yield from wrong_quotes(by_hand)

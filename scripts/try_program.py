@@ -3,7 +3,8 @@
 
 Each case gives the program its arguments and an input, and says the status, the text of the standard output and that of standard error. Tried are
 the statuses 0, 1, 2, 3, 4, 7 and 8, an empty argument, arguments that are no text, an input that can't be read, streams that are closed, outputs
-that can't be written, the longest input of empty lines, and a small stack.
+that can't be written, the longest input of empty lines, a small stack, and few seconds: the searches of a listing can't be counted from outside, but
+one for each member would take minutes.
 Prints a line for each case that differs and then how many were tried. The status is 1 if something differs.
 
     scripts/try_program.py [PROGRAM]
@@ -31,6 +32,9 @@ BLOCK = 1 << 20
 WIDEST = 300
 # A stack of so many bytes, which `ulimit -s 320` gives, suffices for all commands.
 SMALL_STACK = 320 << 10
+# So many seconds of a processor are more than ten times what the greatest catalogue takes, and less than a tenth of what it would take if each member
+# were searched for anew, or if no table of members were kept.
+FEW_SECONDS = 5
 
 
 @dataclass
@@ -105,24 +109,25 @@ def run_on_line_feeds(program, count):
     return child.returncode, out.decode(), err.decode()
 
 
-def run_on_stack(program, size, *arguments, text=""):
-    """Runs the program with a stack of so many bytes, and gives its status and what it wrote."""
-    limit = None if size is None else lambda: resource.setrlimit(resource.RLIMIT_STACK, (size, size))
+def run_within(program, resource_kind, most, *arguments, text=""):
+    """Runs the program with at most so much of a resource, and gives its status and what it wrote."""
+    limit = lambda: resource.setrlimit(resource_kind, (most, most))  # pylint: disable=unnecessary-lambda-assignment
     ran = subprocess.run([program, *arguments], input=text, capture_output=True, text=True, preexec_fn=limit, check=False)
     return ran.returncode, ran.stdout, ran.stderr
 
 
-def on_small_stack(program):
-    """Returns what the greatest catalogue and the comparison with it come to on a small stack, each beside what it comes to else."""
-    listing = "list", "--order", "16"
-    whole = run_on_stack(program, None, *listing)
-    codes = "".join(line + "\n" for line in whole[1].splitlines() if not line.startswith(";"))
-    comparison = "verify", "--order", "16"
-    wanted = (0, "; end order 16 members 9016 missing 0 foreign 0 repeated 0 refused 0\n", "")
-    return [
-        ("list --order 16 on a small stack", whole, run_on_stack(program, SMALL_STACK, *listing)),
-        ("verify --order 16 on a small stack", wanted, run_on_stack(program, SMALL_STACK, *comparison, text=codes)),
-    ]
+def within_limits(program):
+    """Returns what the greatest catalogue and the comparison with it come to on a small stack or in few seconds, each beside what it must come to."""
+    listing, comparison = ("list", "--order", "16"), ("verify", "--order", "16")
+    ran = subprocess.run([program, *listing], capture_output=True, text=True, check=False)
+    whole = ran.returncode, ran.stdout, ran.stderr
+    codes = "".join(line + "\n" for line in ran.stdout.splitlines() if not line.startswith(";"))
+    same = (0, "; end order 16 members 9016 missing 0 foreign 0 repeated 0 refused 0\n", "")
+    tried = []
+    for name, kind, most in ("on a small stack", resource.RLIMIT_STACK, SMALL_STACK), ("in few seconds", resource.RLIMIT_CPU, FEW_SECONDS):
+        tried.append((f"list --order 16 {name}", whole, run_within(program, kind, most, *listing)))
+        tried.append((f"verify --order 16 {name}", same, run_within(program, kind, most, *comparison, text=codes)))
+    return tried
 
 
 def short(said):
@@ -137,7 +142,7 @@ def main():
     tried = [(case.name, (case.status, case.out, case.err), run(program, case)) for case in CASES]
     tried.append(("as many line feeds as are taken", (0, "", ""), run_on_line_feeds(program, MOST_BYTES)))
     tried.append(("one byte more", (7, "", ""), run_on_line_feeds(program, MOST_BYTES + 1)))
-    tried += on_small_stack(program)
+    tried += within_limits(program)
     different = [(name, wanted, found) for name, wanted, found in tried if wanted != found]
     for name, wanted, found in different:
         print(f"{name}: wanted {short(wanted)}, found {short(found)}")

@@ -6,15 +6,15 @@ use Rattle.bk_laws.proofs.Bytes.{appends-then}
 use Rattle.bk_ports.proofs.KnownSteps.{prefix_after}
 use Rattle.bk_ports.specs.Causes.{HasCause, Rose}
 use Rattle.bk_ports.specs.declared.Failed.{Failed}
-use Rattle.bk_ports.proofs.OtherOutputs.{IsStop, broken_behind, stops_as, whole_behind}
-use Rattle.bk_ports.specs.Ending.{EndsWith, HasVerdict, IsBrokenBehind, IsWholeOutput, Streams}
+use Rattle.bk_ports.proofs.OtherOutputs.{IsStop, stops_as, whole_behind}
+use Rattle.bk_ports.specs.Ending.{EndsWith, HasVerdict, IsReadWhole, Streams}
 use Rattle.bk_ports.specs.Entering.{AreAllEntered, entries_of}
 use Rattle.bk_ports.specs.Faults.{CountsTell, Faults}
 use Rattle.bk_ports.specs.Reply.{text_of}
 use Rattle.bk_ports.specs.declared.Ended.{Ended}
 use Rattle.bk_ports.specs.declared.Ended.TheVariants.{NoMemory, NoneRefused, ReadFailed, SomeRefused, TooMany, WriteFailed}
-use Rattle.bk_alike.specs.GroupsEnd.{AreLinesListed, IsClosingBroken, closing_lines, listing_of}
-use Rattle.bk_alike.specs.Listed.{Listed, listing_rules, none_listed}
+use Rattle.bk_alike.specs.GroupsEnd.{IsListText, closing_lines, listing_of}
+use Rattle.bk_alike.specs.Listed.{Listed, listing_start}
 use Rattle.bk_alike.specs.declared.Wanted.{Wanted}
 use Rattle.bk_alike.specs.WrittenLines.{WritesLines}
 
@@ -35,54 +35,58 @@ verdict_told ended (inr e) = subst IsVerdict (sym e) tt
 
 -- a run that stops at its lines
 pub stops_listing : (wanted : Wanted) (last : Listed) (streams : Streams) (ended : Ended) → IsStop ended
-    → EndsWith (entries_of listing_rules none_listed last) streams ended → EndsWith (listing_of wanted) streams ended
+    → EndsWith (entries_of listing_start last) streams ended → EndsWith (listing_of wanted) streams ended
 stops_listing wanted last =
-    stops_as (entries_of listing_rules none_listed last) (listing_of wanted)
+    stops_as (entries_of listing_start last) (listing_of wanted)
     (record {
-      lines = λ lines refused a b all. (last, all);
+      lines = λ lines refused a b all. record { replies = all.replies; each = (last, all.each); written = all.written; any = all.any };
       begun = λ lines a b begun. begun;
       begun_behind = λ lines a b none. absurd none;
       short = λ lines a b short. short;
     })
 
 module _ (wanted : Wanted) (last : Listed) (left left_after a b c : Option (List ℕ)) where
+  -- the text of a list whose lines are all entered
+  list_text : (refused : Bool) (lines : List (List ℕ)) → (h : AreAllEntered listing_start last lines refused a b)
+      → IsListText wanted lines refused (text_of h.replies ++ concat (closing_lines wanted last))
+  list_text refused lines h = record { replies = h.replies; last = last; each = h.each; any = h.any; text_is = refl }
+
   listed : (refused : Bool) (lines : List (List ℕ)) → (r : Result (Unit {0}) Failed) → WritesLines (closing_lines wanted last) b c r → r ≡ Ok tt
-      → AreAllEntered listing_rules none_listed 1 lines a b refused last → AreLinesListed wanted lines refused a c
-  listed refused lines (Ok x) w e h = record {
-    replies = h.replies;
-    last = last;
-    each = h.each;
-    any = h.any;
-    written = appends-then a b c (text_of h.replies) (concat (closing_lines wanted last)) (text_of h.replies ++ concat
-        (closing_lines wanted last)) h.written w refl;
-  }
+      → AreAllEntered listing_start last lines refused a b → (listing_of wanted).whole lines refused a c
+  listed refused lines (Ok x) w e h = (
+    text_of h.replies ++ concat (closing_lines wanted last),
+    list_text refused lines h,
+    appends-then a b c (text_of h.replies) (concat (closing_lines wanted last)) (text_of h.replies ++ concat (closing_lines wanted last))
+        h.written w refl,
+  )
   listed refused lines (Err f) w e h = absurd (cc)
 
   broken : (refused : Bool) (lines : List (List ℕ)) → (r : Result (Unit {0}) Failed) → WritesLines (closing_lines wanted last) b c r → (f : Failed)
-      → r ≡ Err f → AreAllEntered listing_rules none_listed 1 lines a b refused last → IsClosingBroken wanted lines a c
+      → r ≡ Err f → AreAllEntered listing_start last lines refused a b → (listing_of wanted).begun_behind lines a c
   broken refused lines (Ok x) w f e h = absurd (cc)
-  broken refused lines (Err g) w f e h = record {
-    replies = h.replies;
-    last = last;
-    each = h.each;
-    written = prefix_after a b c (text_of h.replies) (concat (closing_lines wanted last)) h.written w;
-  }
+  broken refused lines (Err g) w f e h = (
+    refused,
+    text_of h.replies ++ concat (closing_lines wanted last),
+    list_text refused lines h,
+    prefix_after a b c (text_of h.replies) (concat (closing_lines wanted last)) h.written w,
+  )
 
   listed_behind : (refused : Bool) → (r : Result (Unit {0}) Failed) → WritesLines (closing_lines wanted last) b c r → r ≡ Ok tt
-      → IsWholeOutput (entries_of listing_rules none_listed last) (streams_of left left_after a b) refused
-      → IsWholeOutput (listing_of wanted) (streams_of left left_after a c) refused
+      → IsReadWhole (λ lines. AreAllEntered listing_start last lines refused) (streams_of left left_after a b)
+      → IsReadWhole (λ lines. (listing_of wanted).whole lines refused) (streams_of left left_after a c)
   listed_behind refused r w e all =
-      whole_behind (entries_of listing_rules none_listed last) (listing_of wanted) left left_after a b c refused all refused
-      (λ lines. listed refused lines r w e)
+      whole_behind (λ lines. AreAllEntered listing_start last lines refused) (λ lines. (listing_of wanted).whole lines refused)
+      left left_after a b c all (λ lines. listed refused lines r w e)
 
   closing_broken : (refused : Bool) → (r : Result (Unit {0}) Failed) → WritesLines (closing_lines wanted last) b c r → (f : Failed) → r ≡ Err f
-      → IsWholeOutput (entries_of listing_rules none_listed last) (streams_of left left_after a b) refused
-      → IsBrokenBehind (listing_of wanted) (streams_of left left_after a c)
+      → IsReadWhole (λ lines. AreAllEntered listing_start last lines refused) (streams_of left left_after a b)
+      → IsReadWhole (listing_of wanted).begun_behind (streams_of left left_after a c)
   closing_broken refused r w f e all =
-      broken_behind (entries_of listing_rules none_listed last) (listing_of wanted) left left_after a b c refused all (λ lines. broken refused lines r w f e)
+      whole_behind (λ lines. AreAllEntered listing_start last lines refused) (listing_of wanted).begun_behind left left_after a b c all
+      (λ lines. broken refused lines r w f e)
 
   -- where all lines are entered, and what is wanted was written or not
-  pub closes_well : (ended : Ended) → EndsWith (entries_of listing_rules none_listed last) (streams_of left left_after a b) ended → IsVerdict ended
+  pub closes_well : (ended : Ended) → EndsWith (entries_of listing_start last) (streams_of left left_after a b) ended → IsVerdict ended
       → (r : Result (Unit {0}) Failed) → WritesLines (closing_lines wanted last) b c r → r ≡ Ok tt
       → EndsWith (listing_of wanted) (streams_of left left_after a c) ended
   closes_well NoneRefused h v r w e = listed_behind false r w e h
@@ -93,7 +97,7 @@ module _ (wanted : Wanted) (last : Listed) (left left_after a b c : Option (List
   closes_well TooMany h v r w e = absurd v
 
   -- a listing with a verdict whose closing lines can't be written ends with a failed write
-  pub closes_broken : (ended : Ended) → EndsWith (entries_of listing_rules none_listed last) (streams_of left left_after a b) ended → IsVerdict ended
+  pub closes_broken : (ended : Ended) → EndsWith (entries_of listing_start last) (streams_of left left_after a b) ended → IsVerdict ended
       → (r : Result (Unit {0}) Failed) → WritesLines (closing_lines wanted last) b c r → (f : Failed) → r ≡ Err f
       → EndsWith (listing_of wanted) (streams_of left left_after a c) WriteFailed
   closes_broken NoneRefused h v r w f e = inr (closing_broken false r w f e h)

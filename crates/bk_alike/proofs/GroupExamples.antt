@@ -2,6 +2,7 @@
 use Rattle.std.specs.Fmt.{digits}
 use Rattle.std.specs.Prelude.{None, codes, ◌≤◌}
 use Rattle.std.proofs.Common.{List, [], arith, false, length, lit<, lit≤, refl, true, ℕ, ◌++◌, ◌∷◌, ◌≡◌}
+use Rattle.bk_sym.proofs.CanonicalTests.{canonical_by_test}
 use Rattle.bk_tiling.proofs.ExampleTilings.{rectangle_3x2, square_2x2, square_at}
 use Rattle.bk_tiling.proofs.TilingTest.{tiling_from_test}
 use Rattle.bk_tiling.specs.Tiling.{Tiling}
@@ -15,7 +16,7 @@ use Rattle.bk_answer.specs.Item.{HasTiling}
 use Rattle.bk_pair.specs.declared.Kind.TheVariants.{Any, Perfect}
 use Rattle.bk_alike.specs.declared.item.KeptItem.{KeptItem}
 use Rattle.bk_alike.specs.GroupsEnd.{closing_lines}
-use Rattle.bk_alike.specs.Listed.{Listed, ListsLine, accepts, keeps, no_more, none_listed, refuses, with_item, with_refused}
+use Rattle.bk_alike.specs.Listed.{Listed, ListsLine, keeps, listing_start, no_more, refuses, with_item, with_refused}
 use Rattle.bk_alike.specs.Pairs.{all_pairs}
 use Rattle.bk_alike.specs.declared.Wanted.TheVariants.{Groups, Pairs}
 
@@ -26,21 +27,7 @@ abbrev flipped : Tiling
 flipped = record { width = 3; height = 2; squares = square_at 0 0 1 ∷ square_at 1 0 2 ∷ square_at 0 1 1 ∷ [] }
 
 canonical_flipped : IsCanonicalOf flipped rectangle_3x2
-canonical_flipped = record {
-  turn = FlipX;
-  image_of = refl;
-  lying = lit≤ tt;
-  greatest = elim [
-    | Same ↦ λ le. refl
-    | FlipX ↦ λ le. refl
-    | FlipY ↦ λ le. refl
-    | Half ↦ λ le. refl
-    | Swap ↦ λ le. absurd (omega arith)
-    | SwapFlipX ↦ λ le. absurd (omega arith)
-    | SwapFlipY ↦ λ le. absurd (omega arith)
-    | SwapHalf ↦ λ le. absurd (omega arith)
-  ];
-}
+canonical_flipped = canonical_by_test flipped rectangle_3x2 FlipX refl (lit≤ tt) refl
 
 has_flipped : HasTiling (codes "[1,2][1]") flipped
 has_flipped = record {
@@ -50,8 +37,8 @@ has_flipped = record {
 }
 
 -- it is kept by its canonical tiling, and nothing is written yet
-kept_flipped : ListsLine none_listed 1 (codes "[1,2][1]") [] false (with_item none_listed 1 rectangle_3x2)
-kept_flipped = accepts flipped [] false _ has_flipped (keeps rectangle_3x2 (lit< tt) canonical_flipped)
+kept_flipped : ListsLine listing_start.state 1 (codes "[1,2][1]") [] false (with_item listing_start.state 1 rectangle_3x2)
+kept_flipped = keeps flipped rectangle_3x2 has_flipped (lit< tt) canonical_flipped
 
 -- a refusal is written at once, and counted
 refused_second : (s : Listed) → ListsLine s 2 (codes "[18,15][7,9]") (codes "line 2 no gap 2 15 16\n" ∷ []) true (with_refused s)
@@ -62,7 +49,7 @@ refused_second s = refuses (Gap 2 15 16) gap_refused
 kept_no_more : (s : Listed) → 16_384 ≤ length s.items
     → ListsLine s 16_385 (codes "[1,2][1]") (codes "line 16385 no more\n" ∷ []) true (with_refused s)
 unfolding digits
-kept_no_more s full = accepts flipped _ true _ has_flipped (no_more full)
+kept_no_more s full = no_more flipped has_flipped full
 
 -- ---- groups and pairs
 

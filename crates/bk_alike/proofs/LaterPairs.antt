@@ -15,7 +15,7 @@ use Rattle.bk_report.specs.ListLines.{pair_line}
 use Rattle.bk_alike.specs.Alike.{group_of, item_size, size_eq}
 use Rattle.bk_alike.specs.declared.item.KeptItem.{KeptItem}
 use Rattle.bk_alike.specs.LaterLines.{later_lines}
-use Rattle.bk_alike.specs.Pairs.{is_pair, pair_lines, pairs_with}
+use Rattle.bk_alike.specs.Pairs.{is_pair, pair_lines}
 use Rattle.bk_alike.proofs.PairLines.{IsItemAt, tiling_at}
 
 -- items of two sizes are no pair
@@ -75,10 +75,10 @@ places_over a n x rest other =
 
 -- behind the item, and from the start
 behind_item : (kind : Kind) (items : List KeptItem) (i : ℕ) (a : KeptItem) (n : ℕ) (rest : List KeptItem) → i < n → AreFrom items n rest
-    → flat_map (later_lines kind items i a) (places_from a n rest) ≡ pairs_with kind a rest
+    → flat_map (later_lines kind items i a) (places_from a n rest) ≡ flat_map (pair_lines kind a) rest
 behind_item kind items i a n [] behind at = refl
 behind_item kind items i a n (x ∷ rest) behind at =
-    let more : flat_map (later_lines kind items i a) (places_from a (n + 1) rest) ≡ pairs_with kind a rest
+    let more : flat_map (later_lines kind items i a) (places_from a (n + 1) rest) ≡ flat_map (pair_lines kind a) rest
     = behind_item kind items i a (n + 1) rest (omega arith) (next_from items n x rest at) in
     elim (cases_Bool (size_eq (item_size a) (item_size x))) [
       | inl t ↦
@@ -86,16 +86,16 @@ behind_item kind items i a n (x ∷ rest) behind at =
           ap (flat_map (later_lines kind items i a)) (places_next a n x rest t) ∙ (λ j. here j ++ more j)
       | inr f ↦
           ap (flat_map (later_lines kind items i a)) (places_over a n x rest f) ∙ more
-          ∙ ap (λ (l : List (List ℕ)). l ++ pairs_with kind a rest) (sym (other_size kind a x f))
+          ∙ ap (λ (l : List (List ℕ)). l ++ flat_map (pair_lines kind a) rest) (sym (other_size kind a x f))
     ]
 
 from_start : (kind : Kind) (items : List KeptItem) (i : ℕ) (a : KeptItem) (m n : ℕ) (rest : List KeptItem) → n + m ≡ i + 1 → AreFrom items n rest
-    → flat_map (later_lines kind items i a) (places_from a n rest) ≡ pairs_with kind a (drop m rest)
+    → flat_map (later_lines kind items i a) (places_from a n rest) ≡ flat_map (pair_lines kind a) (drop m rest)
 from_start kind items i a zero n rest e at =
-    behind_item kind items i a n rest (omega (arith, e)) at ∙ ap (λ (l : List KeptItem). pairs_with kind a l) (sym (drop-none rest))
+    behind_item kind items i a n rest (omega (arith, e)) at ∙ ap (λ (l : List KeptItem). flat_map (pair_lines kind a) l) (sym (drop-none rest))
 from_start kind items i a (suc m) n [] e at = refl
 from_start kind items i a (suc m) n (x ∷ rest) e at =
-    let more : flat_map (later_lines kind items i a) (places_from a (n + 1) rest) ≡ pairs_with kind a (drop m rest)
+    let more : flat_map (later_lines kind items i a) (places_from a (n + 1) rest) ≡ flat_map (pair_lines kind a) (drop m rest)
     = from_start kind items i a m (n + 1) rest (omega (arith, e)) (next_from items n x rest at) in
     elim (cases_Bool (size_eq (item_size a) (item_size x))) [
       | inl t ↦
@@ -108,14 +108,14 @@ from_start kind items i a (suc m) n (x ∷ rest) e at =
 
 -- the lines of an item with later ones of its size are its lines with all later ones
 pub pairs_of_size : (kind : Kind) (items : List KeptItem) (i : ℕ) (a : KeptItem)
-    → flat_map (later_lines kind items i a) (group_of items (item_size a)) ≡ pairs_with kind a (drop (i + 1) items)
+    → flat_map (later_lines kind items i a) (group_of items (item_size a)) ≡ flat_map (pair_lines kind a) (drop (i + 1) items)
 pairs_of_size kind items i a =
     from_start kind items i a (i + 1) 0 items (omega arith) (λ k. let e : 0 + k ≡ k = omega arith in ap (λ (m : ℕ). slice_get items m) e)
 
 -- the lines of an item with places that were looked up by the size of its tiling are its lines with all later ones
 pub pairs_looked_up : (kind : Kind) (items : List KeptItem) (i line width height : ℕ) (t : Tiling) (places : List ℕ) → IsItemAt items i line t
     → width ≡ t.width → height ≡ t.height → places ≡ group_of items (width, height) → (a : KeptItem) → slice_get items i ≡ Some a
-    → flat_map (later_lines kind items i a) places ≡ pairs_with kind a (drop (i + 1) items)
+    → flat_map (later_lines kind items i a) places ≡ flat_map (pair_lines kind a) (drop (i + 1) items)
 pairs_looked_up kind items i line width height t places at wide high looked a e =
     let tiling : t ≡ a.tiling = tiling_at items i line t a at e in
     let size : ◌≡◌ {A = ℕ × ℕ} (width, height) (item_size a) = (λ j. (wide j, high j)) ∙ ap (λ (u : Tiling). (u.width, u.height)) tiling in

@@ -20,7 +20,7 @@ use Rattle.bk_answer.specs.Item.{HasItem, HasTiling}
 use Rattle.bk_answer.specs.Refusing.{IsLineRefused}
 use Rattle.bk_sym.specs.Canonical.{IsCanonicalOf}
 use Rattle.bk_report.specs.declared.refusal.Refused.TheVariants.{More}
-use Rattle.bk_alike.specs.Listed.{Listed, ListsLine, MayWantItem, accepts, keeps, no_more, refuses, skipped, with_item, with_refused}
+use Rattle.bk_alike.specs.Listed.{Listed, ListsLine, MayWantItem, keeps, no_more, refuses, skipped, with_item, with_refused}
 
 -- the line of a refusal was written
 pub refused_outcome : (answers : List (List ℕ) → Bool → Type 0) (wants : Type 0) (line : List ℕ) (a b : Option (List ℕ)) (r : Result Outcome Failed)
@@ -49,14 +49,14 @@ pub kept_line : (s next : Listed) (number : ℕ) (bytes : List ℕ) (t c : Tilin
 kept_line s next number bytes t c a has few canon is =
     subst (λ (n : Listed). IsWritten (λ pieces refused. ListsLine s number bytes pieces refused n) a a false) (sym is)
     (writes_none (λ pieces refused. ListsLine s number bytes pieces refused (with_item s number c)) false a
-    (accepts t [] false (with_item s number c) has (keeps c few canon)))
+    (keeps t c has few canon))
 
 -- or refused, where 16,384 are kept
 pub full_line : (s next : Listed) (number : ℕ) (bytes : List ℕ) (t : Tiling) → HasTiling bytes t → 16384 ≤ length s.items → next ≡ with_refused s
     → ListsLine s number bytes (refused_line number More ∷ []) true next
 full_line s next number bytes t has full is =
     subst (λ (n : Listed). ListsLine s number bytes (refused_line number More ∷ []) true n) (sym is)
-    (accepts t (refused_line number More ∷ []) true (with_refused s) has (no_more full))
+    (no_more t has full)
 
 -- where a call that keeps an item doesn't say that 16,384 are kept, fewer are
 pub has_room : (n : ℕ) (r : Result (Unit {0}) AddFault) → (r ≡ Err Full → ⊥) → (r ≡ Err Full) ↔ (16384 ≤ n) → n < 16384

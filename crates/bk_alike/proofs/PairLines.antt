@@ -1,5 +1,5 @@
 -- The lines of two items, by whether they are a pair; how many pairs there are.
-use Rattle.std.specs.Prelude.{Bool, Some, cond, false, slice_get, true}
+use Rattle.std.specs.Prelude.{Bool, Some, cond, false, flat_map, slice_get, true}
 use Rattle.std.proofs.Common.{List, [], ap, arith, length, ℕ, ◌∙◌, ◌∷◌, ◌≡◌, ◌≤◌}
 use Rattle.std.proofs.lemmas.List.{length-append}
 use Rattle.bk_laws.proofs.Outcomes.{some-unique}
@@ -8,7 +8,7 @@ use Rattle.bk_pair.specs.declared.Kind.{Kind}
 use Rattle.bk_pair.specs.Pair.{joined_square}
 use Rattle.bk_report.specs.ListLines.{pair_line}
 use Rattle.bk_alike.specs.declared.item.KeptItem.{KeptItem}
-use Rattle.bk_alike.specs.Pairs.{is_pair, pair_lines, pairs_with}
+use Rattle.bk_alike.specs.Pairs.{is_pair, pair_lines}
 
 -- ---- how many pairs there are
 
@@ -20,9 +20,10 @@ one_at_most kind a b = by (is_pair kind a.tiling b.tiling)
     by false = omega arith
 
 -- an item has at most as many lines with later ones as there are later ones
-pub few_with : (kind : Kind) (a : KeptItem) (later : List KeptItem) → length (pairs_with kind a later) ≤ length later
+pub few_with : (kind : Kind) (a : KeptItem) (later : List KeptItem) → length (flat_map (pair_lines kind a) later) ≤ length later
 few_with kind a [] = omega arith
-few_with kind a (b ∷ later) = omega (arith, one_at_most kind a b, few_with kind a later, length-append (pair_lines kind a b) (pairs_with kind a later))
+few_with kind a (b ∷ later) =
+    omega (arith, one_at_most kind a b, few_with kind a later, length-append (pair_lines kind a b) (flat_map (pair_lines kind a) later))
 
 -- the line's number and the tiling are those of the item at a place
 abbrev pub IsItemAt : List KeptItem → ℕ → ℕ → Tiling → Type 0

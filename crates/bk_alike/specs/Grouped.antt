@@ -2,6 +2,7 @@
 use Rattle.std.specs.List.{AllByRecursion, list_any}
 use Rattle.std.specs.Prelude.{List, [], false, length, suc, zero, ℕ, ⊤, ◌++◌, ◌∷◌, ◌≡◌, ◌≤◌}
 use Rattle.bk_alike.specs.Alike.{alike_groups, group_of, size_eq, sizes}
+use Rattle.bk_alike.specs.declared.TheConstants.{MOST_ITEMS}
 use Rattle.bk_alike.specs.declared.item.KeptItem.{KeptItem}
 
 -- no size stands twice
@@ -17,7 +18,7 @@ with_place (group ∷ groups) (suc g) place = group ∷ with_place groups g plac
 
 -- the stored sizes and groups are those of the items
 pub record IsGrouped (items : List KeptItem) (stored : List (ℕ × ℕ)) (groups : List (List ℕ)) : Type 0 where
-  pub few : length items ≤ 16_384
+  pub few : length items ≤ MOST_ITEMS
   pub sizes_are : stored ≡ sizes items
   pub groups_are : groups ≡ alike_groups items
   pub apart : AreSizesApart (sizes items)

@@ -10,18 +10,15 @@ use Rattle.bk_report.specs.declared.refusal.Refused.{Refused}
 use Rattle.bk_report.specs.declared.refusal.Refused.TheVariants.{More}
 use Rattle.bk_answer.specs.Item.{HasItem, HasTiling}
 use Rattle.bk_answer.specs.Refusing.{IsLineRefused}
-use Rattle.bk_ports.specs.Entering.{AreEntered, Entering}
+use Rattle.bk_ports.specs.Entering.{AreEntered, EnteringFrom}
 use Rattle.bk_ports.specs.Reply.{Reply, some_refused}
+use Rattle.bk_alike.specs.declared.TheConstants.{MOST_ITEMS}
 use Rattle.bk_alike.specs.declared.item.KeptItem.{KeptItem}
 
 -- the items that are kept, and how many lines were refused
 pub record Listed : Type 0 where
   pub items : List KeptItem
   pub refused : ℕ
-
--- no items, and no refused lines
-abbrev pub none_listed : Listed
-none_listed = record { items = []; refused = 0 }
 
 -- with one more item
 abbrev pub with_item : Listed → ℕ → Tiling → Listed
@@ -31,12 +28,6 @@ with_item s number c = record s { items = s.items ++ record { line = number; til
 abbrev pub with_refused : Listed → Listed
 with_refused s = record s { refused = s.refused + 1 }
 
--- how the tiling of a line is listed: kept with its canonical tiling, as long as fewer than 16,384 are, or refused
-pub data ListsTiling (s : Listed) (number : ℕ) (t : Tiling) : List (List ℕ) → Bool → Listed → Type 0 where
-  keeps : (c : Tiling) → length s.items < 16_384 → IsCanonicalOf t c
-      → ListsTiling s number t [] false (with_item s number c)
-  no_more : 16_384 ≤ length s.items → ListsTiling s number t (refused_line number More ∷ []) true (with_refused s)
-
 -- how a line is listed
 pub data ListsLine (s : Listed) (number : ℕ) (bytes : List ℕ) : List (List ℕ) → Bool → Listed → Type 0 where
   -- a line without an item is passed over
@@ -44,22 +35,29 @@ pub data ListsLine (s : Listed) (number : ℕ) (bytes : List ℕ) : List (List �
   -- a line that `check` refuses is answered by its number and the cause
   refuses : (refused : Refused) → IsLineRefused bytes refused
       → ListsLine s number bytes (refused_line number refused ∷ []) true (with_refused s)
-  -- one that it accepts is listed by its tiling
-  accepts : (t : Tiling) (pieces : List (List ℕ)) (refused : Bool) (next : Listed) → HasTiling bytes t
-      → ListsTiling s number t pieces refused next → ListsLine s number bytes pieces refused next
+  -- one that it accepts is kept with the canonical tiling, as long as fewer than 16,384 are
+  keeps : (t c : Tiling) → HasTiling bytes t → length s.items < MOST_ITEMS → IsCanonicalOf t c
+      → ListsLine s number bytes [] false (with_item s number c)
+  -- and refused where so many are
+  no_more : (t : Tiling) → HasTiling bytes t → MOST_ITEMS ≤ length s.items
+      → ListsLine s number bytes (refused_line number More ∷ []) true (with_refused s)
 
 -- memory may be wanting at an accepted line alone, where fewer than 16,384 items are kept
 abbrev pub MayWantItem : Listed → ℕ → List ℕ → Type 0
-MayWantItem s number bytes = (t : Tiling) × HasTiling bytes t × (length s.items < 16_384)
+MayWantItem s number bytes = (t : Tiling) × HasTiling bytes t × (length s.items < MOST_ITEMS)
 
--- how lines are listed
-abbrev pub listing_rules : Entering Listed
-listing_rules = record { enters = ListsLine; may_want = MayWantItem }
+-- lines to be listed: how, with no items and no refused lines, and from line 1 on
+abbrev pub listing_start : EnteringFrom Listed
+listing_start = record {
+  rules = record { enters = ListsLine; may_want = MayWantItem };
+  state = record { items = []; refused = 0 };
+  number = 1;
+}
 
 -- where these lines are listed one after another, some line is refused: `check` refuses it, or it accepts it and 16,384
 -- items are kept before it
 pub record HasRefusedLine (lines : List (List ℕ)) : Type 0 where
   pub replies : List Reply
   pub last : Listed
-  pub each : AreEntered listing_rules none_listed 1 lines replies last
+  pub each : AreEntered listing_start lines replies last
   pub some : some_refused replies ≡ true

@@ -21,11 +21,7 @@ abbrev pub pair_lines : Kind → KeptItem → KeptItem → List (List ℕ)
 pair_lines kind a b = cond (is_pair kind a.tiling b.tiling)
     (pair_line a.line b.line (joined_square a.tiling b.tiling) ∷ []) []
 
--- the lines of an item with each later one
-abbrev pub pairs_with : Kind → KeptItem → List KeptItem → List (List ℕ)
-pairs_with kind a later = flat_map (pair_lines kind a) later
-
--- the lines of each two items, by the first and then by the second
+-- the lines of each two items: those of an item with each later one, and then those of the later ones
 abbrev pub all_pairs : Kind → List KeptItem → List (List ℕ)
 all_pairs kind [] = []
-all_pairs kind (a ∷ later) = pairs_with kind a later ++ all_pairs kind later
+all_pairs kind (a ∷ later) = flat_map (pair_lines kind a) later ++ all_pairs kind later

@@ -3,7 +3,7 @@
 ghost use Rattle.bk_ports.specs.Ending.{EndsWith, streams_between};
 ghost use Rattle.bk_ports.specs.Faults.{CountsTell, IsCalm, IsDoneOrWanting, faults_between};
 ghost use Rattle.bk_alike.specs.GroupsEnd.{listing_of};
-ghost use Rattle.bk_alike.specs.Listed.{none_listed};
+ghost use Rattle.bk_alike.specs.Listed.{listing_start};
 ghost use Rattle.std.specs.Prelude.{◌≡◌};
 
 use crate::Wanted;
@@ -47,7 +47,7 @@ fn list_into<S: Source, O: Sink>(
     source: &mut S,
     out: &mut O,
 ) -> Ended
-    requires { list.old ≡ none_listed }
+    requires { list.old ≡ listing_start.state }
     ensures ending { EndsWith (listing_of wanted)
         (streams_between S.left O.written (source.old, out.old) (source.new, out.new))
         result }

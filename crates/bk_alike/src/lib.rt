@@ -8,12 +8,12 @@ ghost use Rattle.bk_tiling.specs.Tiling.{Tiling as Tiled};
 ghost use Rattle.bk_sym.specs.Canonical.{IsCanonicalOf};
 ghost use Rattle.bk_alike.specs.Alike.{alike_groups, group_of, size_eq, sizes, with_size};
 ghost use Rattle.bk_alike.specs.Grouped.{with_place};
-ghost use Rattle.bk_alike.specs.ListingLaw.{LinesHaveOneListing};
 ghost use Rattle.indexmap.specs.IndexMap.{keys, values};
 
 mod closing;
 mod command;
 mod item;
+mod laws;
 mod listed;
 mod pairs;
 
@@ -23,6 +23,7 @@ use bk_tiling::Tiling;
 pub use command::list_lines;
 use indexmap::IndexMap;
 pub use item::KeptItem;
+pub use laws::lines_have_one_listing;
 use std::alloc::{AllocError, Global};
 use std::marker::Model;
 
@@ -84,7 +85,7 @@ impl Alike {
     /// Keeps the canonical tiling of a tiling with its line. `Full` comes exactly where 16,384 items are kept; a
     /// refusal changes nothing.
     pub fn add(&mut self, line: u64, tiling: &Tiling) -> Result<(), AddFault>
-        ensures full { result ≡ Err AddFault.Full ↔ (16_384 ≤ length self.old) }
+        ensures full { result ≡ Err AddFault.Full ↔ (MOST_ITEMS ≤ length self.old) }
         ensures kept { OnOk result ((c : Tiled) × IsCanonicalOf tiling.now c
             × (self.new ≡ self.old ++ record { line = line; tiling = c } ∷ [])) }
         ensures unchanged { OnErr result (self.new ≡ self.old) }
@@ -95,22 +96,20 @@ impl Alike {
         }
         let kept = canonical(tiling);
         let size = (kept.width(), kept.height());
-        match push_item(self.alloc, &mut self.items, line, &kept) {
-            Ok(()) => match put_in_group(self.alloc, &mut self.groups, size, n as u32) {
-                Ok(()) => Ok(()),
-                Err(AllocError) => {
-                    self.items.truncate(n);
-                    Err(AddFault::NoMemory)
-                }
-            },
-            Err(AllocError) => Err(AddFault::NoMemory),
+        if push_item(self.alloc, &mut self.items, line, &kept).is_err() {
+            return Err(AddFault::NoMemory);
         }
+        if put_in_group(self.alloc, &mut self.groups, size, n as u32).is_err() {
+            self.items.truncate(n);
+            return Err(AddFault::NoMemory);
+        }
+        Ok(())
     }
 
     /// How many items are kept.
     pub fn len(&self) -> usize
         ensures value { result ≡ length self.now }
-        ensures few { length self.now ≤ 16_384 }
+        ensures few { length self.now ≤ MOST_ITEMS }
     {
         self.items.len()
     }
@@ -155,7 +154,7 @@ impl Alike {
     /// The items of a size, as places from 0, in the order of their lines. The size is looked up by its hash.
     pub fn of_size(&self, size: (u64, u64)) -> &[u32]
         ensures value { result.now ≡ group_of self.now size }
-        ensures few { length self.now ≤ 16_384 }
+        ensures few { length self.now ≤ MOST_ITEMS }
     {
         match self.groups.get_index_of(&size) {
             Some(g) => self.members(g),
@@ -195,23 +194,11 @@ fn put_in_group(
     ensures same_groups { OnErr result (map (λ group. group.items) (values groups.new)
         ≡ map (λ group. group.items) (values groups.old)) }
 {
-    match groups.get_index_of(&size) {
-        Some(g) => match groups[g].push(place) {
-            Ok(()) => Ok(()),
-            Err(_) => Err(AllocError),
-        },
-        None => match Vec::from_slice(alloc, &[place]) {
-            Ok(group) => match groups.insert(size, group) {
-                Ok(_) => Ok(()),
-                Err(_) => Err(AllocError),
-            },
-            Err(AllocError) => Err(AllocError),
-        },
-    }
+    let Some(g) = groups.get_index_of(&size) else {
+        let group = Vec::from_slice(alloc, &[place])?;
+        groups.insert(size, group)?;
+        return Ok(());
+    };
+    groups[g].push(place)?;
+    Ok(())
 }
-
-/// Lines have one listing: the replies to them, the items that are kept and the number of refused lines are a function
-/// of the lines, and so is all that is written of them.
-pub fn lines_have_one_listing()
-    ensures { LinesHaveOneListing }
-{}

@@ -30,7 +30,7 @@ impl Model for ItemList {
 }
 
 impl ItemList {
-    ghost use Rattle.bk_alike.specs.Listed.{none_listed, with_refused};
+    ghost use Rattle.bk_alike.specs.Listed.{listing_start, with_refused};
     ghost use Rattle.bk_report.specs.ListLines.{refused_line};
     ghost use Rattle.std.specs.Prelude.{Bool, List, [], ℕ, ◌∷◌, true, ◌≤◌};
     ghost use Rattle.std.specs.Io.KnownBytes.{Appends};
@@ -38,7 +38,7 @@ impl ItemList {
 
     // No items, and no refused lines.
     pub(crate) fn new(alloc: Global) -> ItemList
-        ensures { result ≡ none_listed }
+        ensures { result ≡ listing_start.state }
     {
         ItemList {
             items: Alike::new(alloc),

@@ -1,10 +1,11 @@
 //! The pairs of items, written.
 
 ghost use Rattle.std.specs.Prelude.{IfOk, Some, [], drop, length, slice_get, ◌+◌, ◌<◌, ◌∷◌, ◌≡◌, ◌≤◌};
+ghost use Rattle.std.specs.List.{flat_map};
 ghost use Rattle.bk_ports.specs.Causes.{HasCause};
 ghost use Rattle.bk_alike.specs.declared.item.KeptItem.{KeptItem as Kept};
 ghost use Rattle.bk_alike.specs.LaterLines.{later_lines};
-ghost use Rattle.bk_alike.specs.Pairs.{all_pairs, is_pair, pairs_with};
+ghost use Rattle.bk_alike.specs.Pairs.{all_pairs, is_pair, pair_lines};
 ghost use Rattle.bk_alike.specs.WrittenLines.{WritesLines};
 ghost use Rattle.bk_pair.specs.Pair.{CanBeLaid, joined_square};
 ghost use Rattle.bk_report.specs.ListLines.{pair_line};
@@ -44,9 +45,10 @@ fn write_pairs_with<O: Sink>(
 ) -> Result<u64, Failed>
     requires { i < length items.now }
     ensures lines { (a : Kept) → slice_get items.now i ≡ Some a
-        → WritesLines (pairs_with kind a (drop (i + 1) items.now)) (O.written out.old) (O.written out.new) result }
+        → WritesLines (flat_map (pair_lines kind a) (drop (i + 1) items.now)) (O.written out.old)
+        (O.written out.new) result }
     ensures count { IfOk result (λ n. (a : Kept) → slice_get items.now i ≡ Some a
-        → n ≡ length (pairs_with kind a (drop (i + 1) items.now))) }
+        → n ≡ length (flat_map (pair_lines kind a) (drop (i + 1) items.now))) }
     ensures cause { HasCause (O.faults out.old) (O.faults out.new) result }
 {
     let (_line, tiling) = items.item(i);

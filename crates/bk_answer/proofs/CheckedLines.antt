@@ -12,7 +12,6 @@ use Rattle.bk_answer.specs.Answer.{AnswersLine, MayWant}
 use Rattle.bk_answer.specs.Checked.{Accepts, IsChecked, IsReplyTo}
 use Rattle.bk_answer.specs.CodeAnswer.{AnswersCodeLine, answers, no_item, refuses}
 use Rattle.bk_answer.specs.Item.{HasItem, HasTiling, IsSize}
-use Rattle.bk_answer.specs.CodeCommand.{by_plain}
 use Rattle.bk_answer.specs.declared.command.Command.{Command}
 use Rattle.bk_answer.specs.declared.command.Command.TheVariants.{Memory, Plain}
 use Rattle.bk_answer.specs.declared.command.MemoryCommand.TheVariants.{Flow, Solve, Word}
@@ -20,9 +19,9 @@ use Rattle.bk_answer.specs.declared.plain.PlainCommand.TheVariants.{Check}
 use Rattle.bk_answer.proofs.Accepting.{accepted_exactly, first_byte, refusal_byte}
 use Rattle.bk_answer.proofs.KeptFronts.{front_answer}
 
-module _ (bytes : List ℕ) (pieces : List (List ℕ)) (refused : Bool) (an : AnswersCodeLine (by_plain Check) bytes pieces refused) where
+module _ (bytes : List ℕ) (pieces : List (List ℕ)) (refused : Bool) (an : AnswersCodeLine (Plain Check) bytes pieces refused) where
   -- any line
-  accepts_some : (others : List (List ℕ)) (p : Bool) → AnswersCodeLine (by_plain Check) bytes others p → Accepts others
+  accepts_some : (others : List (List ℕ)) (p : Bool) → AnswersCodeLine (Plain Check) bytes others p → Accepts others
       → (t : Tiling) × HasTiling bytes t
   accepts_some others p (no_item a) b = absurd (omega (arith, first_byte [] b))
   accepts_some others p (refuses r h) b = absurd (refusal_byte r (first_byte (refusal_line r ++ []) b))
@@ -88,7 +87,7 @@ kept_whole line short = either (two (length line))
     either (inr h) = absurd (omega (arith, length-take-le 8193 line (omega arith)))
 
 wanting_short : (command : Command) (bytes : List ℕ) → MayWant command bytes → length bytes ≤ 8192
-wanting_short (Plain command) bytes h = (h.1).is_item.short
+wanting_short (Plain command) bytes h = absurd h
 wanting_short (Memory Word) bytes h = (h.1).is_item.short
 wanting_short (Memory Flow) bytes h = (h.1).item.short
 wanting_short (Memory Solve) bytes h = (h.1).item.short

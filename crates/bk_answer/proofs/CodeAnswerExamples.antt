@@ -15,7 +15,6 @@ use Rattle.bk_report.specs.declared.refusal.Refused.TheVariants.{Gap as NoGap, O
 use Rattle.bk_answer.proofs.CheckedLines.{a_reply}
 use Rattle.bk_answer.specs.Answer.{AnswersLine, MayWant}
 use Rattle.bk_answer.specs.Checked.{Accepts}
-use Rattle.bk_answer.specs.CodeCommand.{by_plain}
 use Rattle.bk_answer.specs.CodeAnswer.{AnswersCodeLine, answers, any_command, no_item, refuses}
 use Rattle.bk_answer.specs.Item.{AllowsOrder, AllowsSize, HasItem, HasTiling, IsStatedBy}
 use Rattle.bk_answer.specs.Refusing.{IsLineRefused, not_laid, other_order, other_size, refused_item}
@@ -92,15 +91,15 @@ order_refused = refused_item other_order_stated (Order 4)
 -- ---- answers
 
 -- what `draw` answers to the code
-drawn : AnswersCodeLine (by_plain Draw) (codes "[2,1][1]") (codes "+-++\n" ∷ codes "| ++\n" ∷ codes "+-++\n" ∷ []) false
+drawn : AnswersCodeLine (Plain Draw) (codes "[2,1][1]") (codes "+-++\n" ∷ codes "| ++\n" ∷ codes "+-++\n" ∷ []) false
 drawn = answers rectangle_3x2 _ has_tiling (lit≤ tt, lit≤ tt) refl
 
 -- a line of a comment alone has no answer
-comment_skipped : AnswersCodeLine (by_plain Draw) (codes "; 3x2") [] false
+comment_skipped : AnswersCodeLine (Plain Draw) (codes "; 3x2") [] false
 comment_skipped = no_item (record { short = lit≤ tt; meaning = read_is_line (codes "; 3x2") Skip refl; few = lit≤ tt })
 
 -- a refused line is answered by the cause
-drawing_refused : AnswersCodeLine (by_plain Draw) (codes "[18,15][7,9]") (codes "no gap 2 15 16\n" ∷ []) true
+drawing_refused : AnswersCodeLine (Plain Draw) (codes "[18,15][7,9]") (codes "no gap 2 15 16\n" ∷ []) true
 unfolding digits
 drawing_refused = refuses (NoGap 2 15 16) (any_command (NoGap 2 15 16) gap_refused)
 
@@ -110,7 +109,7 @@ drawn_line = drawn
 
 -- at no line memory is wanting for `check`
 never_wanting : (bytes : List ℕ) → MayWant (Plain Check) bytes → ⊥
-never_wanting bytes h = h.2
+never_wanting bytes h = h
 
 -- ---- what `check` accepts
 
@@ -118,7 +117,7 @@ never_wanting bytes h = h.2
 accepted_3x2 : (pieces : List (List ℕ)) (refused : Bool) → AnswersLine (Plain Check) (codes "[2,1][1]") pieces refused → Accepts pieces
 accepted_3x2 pieces refused an = ((a_reply (Plain Check) (codes "[2,1][1]") pieces refused an).checked refl).any_line.1 (rectangle_3x2, has_tiling)
 
-check_refused : AnswersCodeLine (by_plain Check) (codes "2x3 [2,1][1]") (codes "no size 3x2\n" ∷ []) true
+check_refused : AnswersCodeLine (Plain Check) (codes "2x3 [2,1][1]") (codes "no size 3x2\n" ∷ []) true
 unfolding digits
 check_refused = refuses (Size 3 2) (any_command (Size 3 2) size_refused)
 

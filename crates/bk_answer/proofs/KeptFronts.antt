@@ -9,7 +9,6 @@ use Rattle.bk_report.specs.declared.refusal.Refused.{Refused}
 use Rattle.bk_report.specs.declared.refusal.Refused.TheVariants.{Long}
 use Rattle.bk_answer.specs.AnswerLaws.{AFrontHasTheAnswer}
 use Rattle.bk_answer.specs.Refusing.{too_long}
-use Rattle.bk_answer.specs.CodeCommand.{CodeCommand, by_plain, by_word}
 use Rattle.bk_answer.specs.declared.command.Command.{Command}
 use Rattle.bk_answer.specs.declared.command.Command.TheVariants.{Memory, Plain}
 use Rattle.bk_answer.specs.declared.command.MemoryCommand.TheVariants.{Flow, Solve, Word}
@@ -26,11 +25,11 @@ long_cause bytes r long (at_text at h n e) = absurd (omega arith)
 long_cause bytes r long (at_many item h l m e) = absurd (omega arith)
 long_cause bytes r long (at_item item has c) = absurd (omega (arith, has.short))
 
-long_refusal : (command : CodeCommand) (bytes : List ℕ) (r : Refused) → 8192 < length bytes → CommandCause command bytes r → r ≡ Long
+long_refusal : (command : Command) (bytes : List ℕ) (r : Refused) → 8192 < length bytes → CommandCause command bytes r → r ≡ Long
 long_refusal command bytes r long (by_line h) = long_cause bytes r long (cause_of bytes r h)
 long_refusal command bytes r long (by_tiling t has n e) = absurd (omega (arith, has.is_item.short))
 
-long_code_answer : (command : CodeCommand) (bytes others : List ℕ) (pieces : List (List ℕ)) (refused : Bool) → 8192 < length bytes
+long_code_answer : (command : Command) (bytes others : List ℕ) (pieces : List (List ℕ)) (refused : Bool) → 8192 < length bytes
     → 8192 < length others
     → AnswersCodeLine command bytes pieces refused → AnswersCodeLine command others pieces refused
 long_code_answer command bytes others pieces refused long longer (no_item a) = absurd (omega (arith, a.short))
@@ -42,8 +41,8 @@ long_code_answer command bytes others pieces refused long longer (answers t _ ha
 
 long_answer : (command : Command) (bytes others : List ℕ) (pieces : List (List ℕ)) (refused : Bool) → 8192 < length bytes → 8192 < length others
     → AnswersLine command bytes pieces refused → AnswersLine command others pieces refused
-long_answer (Plain command) = long_code_answer (by_plain command)
-long_answer (Memory Word) = long_code_answer by_word
+long_answer (Plain command) = long_code_answer (Plain command)
+long_answer (Memory Word) = long_code_answer (Memory Word)
 long_answer (Memory Flow) = long_net_answer
 long_answer (Memory Solve) = long_word_answer
 

@@ -21,7 +21,7 @@ use Rattle.bk_answer.specs.AnswerLaws.{ALineHasOneAnswer}
 use Rattle.bk_answer.specs.Item.{AllowsOrder, AllowsSize, HasItem, HasTiling, IsLaidBy, IsStatedBy, side_count}
 use Rattle.bk_answer.specs.Refusing.{IsItemRefused, IsLineRefused, IsNotLaid, no_line, not_laid, other_order, other_size, refused_for, refused_item}
 use Rattle.bk_answer.specs.Refusing.{too_long, too_many}
-use Rattle.bk_answer.specs.CodeCommand.{CodeCommand, by_plain, by_word}
+use Rattle.bk_answer.specs.declared.command.Command.{Command}
 use Rattle.bk_answer.specs.declared.plain.PlainCommand.TheVariants.{Canon, Check, Draw, Dual, Images, Net}
 use Rattle.bk_answer.specs.declared.command.Command.TheVariants.{Memory, Plain}
 use Rattle.bk_answer.specs.declared.command.MemoryCommand.TheVariants.{Flow, Solve, Word}
@@ -159,16 +159,19 @@ pub skip_not_stated : (bytes : List ℕ) (item : Line) (t : Tiling) → HasItem 
 skip_not_stated bytes item t skip has st = subst (λ (i : Line). IsLaidBy i t) (one_meaning bytes item Skip has.meaning skip.meaning) st.laid
 
 -- a tiling has one answer
-same_answer : (command : CodeCommand) (t : Tiling) (pieces others : List (List ℕ)) → IsTiling t → IsAnswerTo command t pieces
+same_answer : (command : Command) (t : Tiling) (pieces others : List (List ℕ)) → IsTiling t → IsAnswerTo command t pieces
     → IsAnswerTo command t others → pieces ≡ others
-same_answer (by_plain Check) t pieces others tiling (line, c, e) (other, d, f) = e ∙ ap (λ (l : List ℕ). l ∷ []) (one_check_line t line other tiling c d) ∙ sym f
-same_answer (by_plain Canon) t pieces others tiling (u, c, e) (v, d, f) = e
+same_answer (Plain Check) t pieces others tiling (line, c, e) (other, d, f) =
+    e ∙ ap (λ (l : List ℕ). l ∷ []) (one_check_line t line other tiling c d) ∙ sym f
+same_answer (Plain Canon) t pieces others tiling (u, c, e) (v, d, f) = e
     ∙ ap (λ (z : Tiling). tiling_line z ∷ []) (a_canonical_tiling_is_one t u v tiling c d).1 ∙ sym f
-same_answer (by_plain Images) t pieces others tiling e f = e ∙ sym f
-same_answer (by_plain Net) t pieces others tiling e f = e ∙ sym f
-same_answer (by_plain Dual) t pieces others tiling e f = e ∙ sym f
-same_answer by_word t pieces others tiling (w, p, e) (v, q, f) = e ∙ ap (λ (z : Moves). word_line z ∷ []) (one_word t w v p q) ∙ sym f
-same_answer (by_plain Draw) t pieces others tiling e f = e ∙ sym f
+same_answer (Plain Images) t pieces others tiling e f = e ∙ sym f
+same_answer (Plain Net) t pieces others tiling e f = e ∙ sym f
+same_answer (Plain Dual) t pieces others tiling e f = e ∙ sym f
+same_answer (Memory Word) t pieces others tiling (w, p, e) (v, q, f) = e ∙ ap (λ (z : Moves). word_line z ∷ []) (one_word t w v p q) ∙ sym f
+same_answer (Plain Draw) t pieces others tiling e f = e ∙ sym f
+same_answer (Memory Flow) t pieces others tiling e f = absurd e
+same_answer (Memory Solve) t pieces others tiling e f = absurd e
 
 -- what an item lays is a tiling
 pub is_tiling : (item : Line) (t : Tiling) → IsLaidBy item t → IsTiling t
@@ -184,30 +187,30 @@ same_tiling bytes t u has has' =
     has.stated.laid
 
 -- why a command refuses a line: a cause that counts for any command, or the tiling is too large
-pub data CommandCause (command : CodeCommand) (bytes : List ℕ) (r : Refused) : Type 0 where
+pub data CommandCause (command : Command) (bytes : List ℕ) (r : Refused) : Type 0 where
   by_line : IsLineRefused bytes r → CommandCause command bytes r
   by_tiling : (t : Tiling) → HasTiling bytes t → (Allows command t → ⊥) → r ≡ Large → CommandCause command bytes r
 
 -- a line that a command refuses has a cause for that command
-pub command_cause : (command : CodeCommand) (bytes : List ℕ) (r : Refused) → IsRefusedBy command bytes r → CommandCause command bytes r
+pub command_cause : (command : Command) (bytes : List ℕ) (r : Refused) → IsRefusedBy command bytes r → CommandCause command bytes r
 command_cause command bytes r (any_command _ h) = by_line h
 command_cause command bytes r (too_large t has n) = by_tiling t has n refl
 
-one_refusal : (command : CodeCommand) (bytes : List ℕ) (r s : Refused) → CommandCause command bytes r → CommandCause command bytes s → r ≡ s
+one_refusal : (command : Command) (bytes : List ℕ) (r s : Refused) → CommandCause command bytes r → CommandCause command bytes s → r ≡ s
 one_refusal command bytes r s (by_line h) (by_line k) = one_line_cause bytes r s (cause_of bytes r h) (cause_of bytes s k)
 one_refusal command bytes r s (by_line h) (by_tiling t has n e) = absurd (not_refused bytes has.item t r has.is_item has.stated (cause_of bytes r h))
 one_refusal command bytes r s (by_tiling t has n e) (by_line k) = absurd (not_refused bytes has.item t s has.is_item has.stated (cause_of bytes s k))
 one_refusal command bytes r s (by_tiling t has n e) (by_tiling u has' m d) = e ∙ sym d
 
-skip_kept : (command : CodeCommand) (bytes : List ℕ) (r : Refused) → HasItem bytes Skip → CommandCause command bytes r → ⊥
+skip_kept : (command : Command) (bytes : List ℕ) (r : Refused) → HasItem bytes Skip → CommandCause command bytes r → ⊥
 skip_kept command bytes r skip (by_line h) = skip_not_refused bytes r skip (cause_of bytes r h)
 skip_kept command bytes r skip (by_tiling t has n e) = skip_not_stated bytes has.item t skip has.is_item has.stated
 
-tiling_kept : (command : CodeCommand) (bytes : List ℕ) (t : Tiling) (r : Refused) → HasTiling bytes t → Allows command t → CommandCause command bytes r → ⊥
+tiling_kept : (command : Command) (bytes : List ℕ) (t : Tiling) (r : Refused) → HasTiling bytes t → Allows command t → CommandCause command bytes r → ⊥
 tiling_kept command bytes t r has allowed (by_line h) = not_refused bytes has.item t r has.is_item has.stated (cause_of bytes r h)
 tiling_kept command bytes t r has allowed (by_tiling u has' n e) = n (subst (Allows command) (same_tiling bytes u t has' has) allowed)
 
-one_code_answer : (command : CodeCommand) (bytes : List ℕ) (pieces others : List (List ℕ)) (refused other : Bool) → AnswersCodeLine command bytes pieces refused
+one_code_answer : (command : Command) (bytes : List ℕ) (pieces others : List (List ℕ)) (refused other : Bool) → AnswersCodeLine command bytes pieces refused
     → AnswersCodeLine command bytes others other → (pieces ≡ others) × (refused ≡ other)
 one_code_answer command bytes pieces others refused other (no_item a) (no_item b) = (refl, refl)
 one_code_answer command bytes pieces others refused other (no_item a) (refuses r h) = absurd (skip_kept command bytes r a (command_cause command bytes r h))
@@ -230,7 +233,7 @@ one_code_answer command bytes pieces others refused other (answers t _ has _ an)
 
 -- a line has one answer at most
 pub one_answer : ALineHasOneAnswer
-one_answer (Plain command) = one_code_answer (by_plain command)
-one_answer (Memory Word) = one_code_answer by_word
+one_answer (Plain command) = one_code_answer (Plain command)
+one_answer (Memory Word) = one_code_answer (Memory Word)
 one_answer (Memory Flow) = one_net_answer
 one_answer (Memory Solve) = one_word_answer

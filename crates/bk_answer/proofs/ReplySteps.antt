@@ -18,7 +18,6 @@ use Rattle.bk_answer.specs.CodeAnswer.{AnswersCodeLine, AnswersTiling, answers, 
 use Rattle.bk_answer.specs.Replies.{IsReplyWith}
 use Rattle.bk_answer.specs.Telling.{Allows, TellsPieces, tells}
 use Rattle.bk_answer.specs.Item.{HasTiling}
-use Rattle.bk_answer.specs.CodeCommand.{CodeCommand}
 
 -- an answer of one kind is one of another
 module _ (A B : List (List ℕ) → Bool → Type 0) (V W : Type 0) (more : (pieces : List (List ℕ)) (refused : Bool) → A pieces refused → B pieces refused)
@@ -53,12 +52,12 @@ text_replies A V n k reckoned a b result e h =
     refusal_replies A V (Text (n + reckoned)) a b result (subst (λ (m : ℕ). A (refusal_line (Text (n + m)) ∷ []) true) e h)
 
 -- a tiling is answered by what is told of it
-pub tells_tiling : (command : CodeCommand) (t : Tiling) (pieces : List (List ℕ)) (refused : Bool) → Allows command t → TellsPieces command t pieces refused
+pub tells_tiling : (command : Command) (t : Tiling) (pieces : List (List ℕ)) (refused : Bool) → Allows command t → TellsPieces command t pieces refused
     → AnswersTiling command t pieces refused
 tells_tiling command t pieces refused allowed (tells _ h) = (allowed, h)
 
 -- from the tiling of a line to the line
-pub line_answer : (command : CodeCommand) (bytes : List ℕ) (t : Tiling) (pieces : List (List ℕ)) (refused : Bool) → HasTiling bytes t
+pub line_answer : (command : Command) (bytes : List ℕ) (t : Tiling) (pieces : List (List ℕ)) (refused : Bool) → HasTiling bytes t
     → AnswersTiling command t pieces refused
     → AnswersCodeLine command bytes pieces refused
 line_answer command bytes t pieces true has (not, is) = subst (λ l. AnswersCodeLine command bytes l true) (sym is) (refuses Large (too_large t has not))

@@ -2,6 +2,7 @@
 use Rattle.std.specs.Fmt.{digits}
 use Rattle.std.specs.Prelude.{codes}
 use Rattle.std.proofs.Common.{[], arith, false, inl, inr, lit<, lit≤, refl, true, ℕ, ◌∷◌, ◌≤◌}
+use Rattle.bk_sym.proofs.CanonicalTests.{canonical_by_test}
 use Rattle.bk_grammar.specs.Grammar.{IsBlank}
 use Rattle.bk_tiling.proofs.ExampleTilings.{rectangle_3x2}
 use Rattle.bk_tiling.proofs.TilingTest.{tiling_from_test}
@@ -25,21 +26,7 @@ tiling-3x2 : IsTiling rectangle_3x2
 tiling-3x2 = tiling_from_test rectangle_3x2 refl
 
 primitive-3x2 : IsPrimitiveTiling rectangle_3x2
-primitive-3x2 = canonical_primitive rectangle_3x2 tiling-3x2 (record {
-  turn = Same;
-  image_of = refl;
-  lying = lit≤ tt;
-  greatest = elim [
-    | Same ↦ λ le. refl
-    | FlipX ↦ λ le. refl
-    | FlipY ↦ λ le. refl
-    | Half ↦ λ le. refl
-    | Swap ↦ λ le. absurd (omega arith)
-    | SwapFlipX ↦ λ le. absurd (omega arith)
-    | SwapFlipY ↦ λ le. absurd (omega arith)
-    | SwapHalf ↦ λ le. absurd (omega arith)
-  ];
-})
+primitive-3x2 = canonical_primitive rectangle_3x2 tiling-3x2 (canonical_by_test rectangle_3x2 rectangle_3x2 Same refl (lit≤ tt) refl)
 
 -- two squares under the top, and one under the second of them
 has_word_3x2 : IsWordOf rectangle_3x2 word_3x2

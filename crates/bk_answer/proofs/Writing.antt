@@ -14,11 +14,11 @@ use Rattle.bk_ports.specs.declared.Outcome.TheVariants.{NoMemory}
 use Rattle.bk_tiling.specs.Tiling.{Tiling, order}
 use Rattle.bk_answer.specs.Replies.{IsReplyWith, accepted_if}
 use Rattle.bk_answer.specs.Telling.{IsAnswerTo, TellsPieces, tells}
-use Rattle.bk_answer.specs.CodeCommand.{CodeCommand}
+use Rattle.bk_answer.specs.declared.command.Command.{Command}
 
 -- what is told of a tiling by this command
-pub by_command : (command this : CodeCommand) (t : Tiling) (pieces : List (List ℕ)) → command ≡ this → IsAnswerTo this t pieces → IsAnswerTo command t pieces
-by_command command this t pieces e = subst (λ (c : CodeCommand). IsAnswerTo c t pieces) (sym e)
+pub by_command : (command this : Command) (t : Tiling) (pieces : List (List ℕ)) → command ≡ this → IsAnswerTo this t pieces → IsAnswerTo command t pieces
+by_command command this t pieces e = subst (λ (c : Command). IsAnswerTo c t pieces) (sym e)
 
 -- one piece is written
 module _ {T : Type 0} (A : List (List ℕ) → Bool → Type 0) (V : Type 0) (a b : Option (List ℕ)) where
@@ -33,7 +33,7 @@ module _ {T : Type 0} (A : List (List ℕ) → Bool → Type 0) (V : Type 0) (a 
       → OnErr w (AppendsPrefix a b piece) → r ≡ accepted_if w → IsReplyWith A V a b r
   piece_replies line piece w r an e ok err is = subst (IsReplyWith A V a b) (sym is) (one_written line piece w an e ok err)
 
-module _ {T : Type 0} (command : CodeCommand) (t : Tiling) (V : Type 0) (a b : Option (List ℕ)) where
+module _ {T : Type 0} (command : Command) (t : Tiling) (V : Type 0) (a b : Option (List ℕ)) where
   -- one piece is told
   pub piece_told : (line piece : List ℕ) (w : Result T Failed) (r : Result Outcome Failed) → IsAnswerTo command t (line ∷ []) → piece ≡ line
       → OnOk w (Appends a b piece)
@@ -64,10 +64,10 @@ module _ {T : Type 0} (before now : ℕ) where
   cause_told w r h is = subst (HasCause before now) (sym is) (cause_if w h)
 
 -- memory was wanting, which it may past 16 squares
-pub wants : {T E : Type 0} (A : List (List ℕ) → Bool → Type 0) (t : Tiling) (r : Result T E) (x : E) (a : Option (List ℕ)) → r ≡ Err x
+pub wanting_past_16 : {T E : Type 0} (A : List (List ℕ) → Bool → Type 0) (t : Tiling) (r : Result T E) (x : E) (a : Option (List ℕ)) → r ≡ Err x
     → (order t ≤ 16 → IsOk r)
     → IsReplyWith A (16 < order t) a a (Ok NoMemory)
-wants A t r x a e inline = record { cause = by (le_or_gt (order t) 16); kept = Keeps-refl a }
+wanting_past_16 A t r x a e inline = record { cause = by (le_or_gt (order t) 16); kept = Keeps-refl a }
   where
     by : (order t ≤ 16) ⊎ (16 < order t) → 16 < order t
     by (inl h) = absurd (err-not_ok r x e (inline h))

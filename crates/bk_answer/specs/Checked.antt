@@ -15,13 +15,9 @@ use Rattle.bk_answer.specs.declared.command.Command.{Command}
 use Rattle.bk_answer.specs.declared.command.Command.TheVariants.{Plain}
 use Rattle.bk_answer.specs.declared.plain.PlainCommand.TheVariants.{Check}
 
--- the text begins so
-abbrev pub TextBeginsWith : List ℕ → List ℕ → Type 0
-TextBeginsWith front text = (rest : List ℕ) × (text ≡ front ++ rest)
-
 -- the answer accepts: it begins with `ok`
 abbrev pub Accepts : List (List ℕ) → Type 0
-Accepts pieces = TextBeginsWith (ok_word) (concat pieces)
+Accepts pieces = (rest : List ℕ) × (concat pieces ≡ ok_word ++ rest)
 
 -- `check` answers a line by these pieces: they begin with `ok` exactly where the squares of the line tile the stated
 -- rectangle in code order

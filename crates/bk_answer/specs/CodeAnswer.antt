@@ -9,18 +9,18 @@ use Rattle.bk_report.specs.declared.refusal.Refused.TheVariants.{Large}
 use Rattle.bk_text.specs.CodeLine.{Skip}
 use Rattle.bk_answer.specs.Item.{HasItem, HasTiling}
 use Rattle.bk_answer.specs.Refusing.{IsLineRefused}
-use Rattle.bk_answer.specs.Telling.{Allows, IsAnswerTo, WantsMemory}
-use Rattle.bk_answer.specs.CodeCommand.{CodeCommand}
+use Rattle.bk_answer.specs.Telling.{Allows, IsAnswerTo}
+use Rattle.bk_answer.specs.declared.command.Command.{Command}
 
 -- why a command refuses a line. The first cause counts
-pub data IsRefusedBy (command : CodeCommand) (bytes : List ℕ) : Refused → Type 0 where
+pub data IsRefusedBy (command : Command) (bytes : List ℕ) : Refused → Type 0 where
   -- the line is refused, whatever the command
   any_command : (refused : Refused) → IsLineRefused bytes refused → IsRefusedBy command bytes refused
   -- its item speaks of a tiling that is too large for the command
   too_large : (t : Tiling) → HasTiling bytes t → (Allows command t → ⊥) → IsRefusedBy command bytes Large
 
 -- the answer to a line of a code
-pub data AnswersCodeLine (command : CodeCommand) (bytes : List ℕ) : List (List ℕ) → Bool → Type 0 where
+pub data AnswersCodeLine (command : Command) (bytes : List ℕ) : List (List ℕ) → Bool → Type 0 where
   -- a line without an item has no answer
   no_item : HasItem bytes Skip → AnswersCodeLine command bytes [] false
   -- a line that the command refuses is answered by the cause
@@ -31,10 +31,6 @@ pub data AnswersCodeLine (command : CodeCommand) (bytes : List ℕ) : List (List
       → AnswersCodeLine command bytes pieces false
 
 -- the answer to the tiling of a line
-abbrev pub AnswersTiling : CodeCommand → Tiling → List (List ℕ) → Bool → Type 0
+abbrev pub AnswersTiling : Command → Tiling → List (List ℕ) → Bool → Type 0
 AnswersTiling command t pieces true = (Allows command t → ⊥) × (pieces ≡ refusal_line Large ∷ [])
 AnswersTiling command t pieces false = Allows command t × IsAnswerTo command t pieces
-
--- the lines at which memory may be wanting: those whose item speaks of a tiling at which it may
-abbrev pub MayWantForCode : CodeCommand → List ℕ → Type 0
-MayWantForCode command bytes = (t : Tiling) × HasTiling bytes t × WantsMemory command t

@@ -2,7 +2,9 @@
 -- Example (CodeAnswerExamples): the lines `[2,1][1]` and `3 3 2 2 1 1` speak of the rectangle 3x2 of the squares 2, 1,
 -- 1; the item of `2x3 [2,1][1]` doesn't.
 use Rattle.std.specs.Prelude.{IfSome, List, None, Option, Some, length, ℕ, ◌≡◌, ◌≤◌}
+use Rattle.bk_ports.specs.declared.line.TheConstants.{LONGEST_LINE}
 use Rattle.bk_tiling.specs.Tiling.{Tiling, order}
+use Rattle.bk_tiling.specs.declared.TheConstants.{MOST_SQUARES}
 use Rattle.bk_profile.specs.Refused.{HasCode, HasFlat}
 use Rattle.bk_text.specs.CodeLine.{Flat, IsLine, Item, Line, Skip}
 use Rattle.bk_text.specs.ReadLine.{sides_of_line}
@@ -13,9 +15,9 @@ side_count item = length (sides_of_line item)
 
 -- the bytes are a line that is not too long, and stand for an item of not too many sides
 pub record HasItem (bytes : List ℕ) (item : Line) : Type 0 where
-  pub short : length bytes ≤ 8192
+  pub short : length bytes ≤ LONGEST_LINE
   pub meaning : IsLine item bytes
-  pub few : side_count item ≤ 200
+  pub few : side_count item ≤ MOST_SQUARES
 
 -- the item allows this order: it states no other
 abbrev pub AllowsOrder : Line → ℕ → Type 0

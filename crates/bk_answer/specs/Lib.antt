@@ -3,7 +3,6 @@ pub mod Answer
 pub mod AnswerLaws
 pub mod Checked
 pub mod CodeAnswer
-pub mod CodeCommand
 pub mod Item
 pub mod NetAnswer
 pub mod Plain

@@ -1,6 +1,7 @@
 -- What `flow` answers to a line.
 -- Example (NetAnswerExamples): `2 1-0` is answered by `1 -1`, `2` by `no loose 0`, and `2 1-1` by `no wire 1`.
 use Rattle.std.specs.Prelude.{Bool, List, [], false, length, true, ℕ, ◌<◌, ◌∷◌, ◌≤◌}
+use Rattle.bk_ports.specs.declared.line.TheConstants.{LONGEST_LINE}
 use Rattle.bk_net.specs.Flow.{IsPrimitiveFlow}
 use Rattle.bk_net.specs.KeptNet.{IsKeptNet}
 use Rattle.bk_net.specs.Net.{HasNoLoose, IsLeastLoose, Net}
@@ -27,7 +28,7 @@ pub data AnswersNet (net : Net) : List (List ℕ) → Bool → Type 0 where
 
 -- the bytes are a network line that is not too long, and stand for this
 pub record HasNetItem (bytes : List ℕ) (item : NetLine) : Type 0 where
-  pub short : length bytes ≤ 8192
+  pub short : length bytes ≤ LONGEST_LINE
   pub meaning : IsNetLine item bytes
 
 -- they stand for this net, which is not too large
@@ -45,20 +46,12 @@ refused_net (fault.Wire place) = Wire place
 -- the answer to a network line
 pub data AnswersNetLine (bytes : List ℕ) : List (List ℕ) → Bool → Type 0 where
   -- more than 8,192 bytes
-  net_too_long : 8192 < length bytes → AnswersNetLine bytes (refusal_line Long ∷ []) true
+  net_too_long : LONGEST_LINE < length bytes → AnswersNetLine bytes (refusal_line Long ∷ []) true
   -- no network line, or none of a net that is not too large
-  no_net : (cause : NetFault) → length bytes ≤ 8192 → IsNetFaultOf cause bytes
+  no_net : (cause : NetFault) → length bytes ≤ LONGEST_LINE → IsNetFaultOf cause bytes
       → AnswersNetLine bytes (refusal_line (refused_net cause) ∷ []) true
   -- a line without a net has no answer
   no_net_item : HasNetItem bytes Skip → AnswersNetLine bytes [] false
   -- a net
   of_net : (net : Net) (pieces : List (List ℕ)) (refused : Bool) → HasNet bytes net → AnswersNet net pieces refused
       → AnswersNetLine bytes pieces refused
-
--- the nets at which memory may be wanting: those of more than 16 wires without a loose node
-abbrev pub NetWants : Net → Type 0
-NetWants net = HasNoLoose net × (16 < length net.wires)
-
--- the lines at which memory may be wanting
-abbrev pub MayWantForNet : List ℕ → Type 0
-MayWantForNet bytes = (net : Net) × HasNet bytes net × NetWants net

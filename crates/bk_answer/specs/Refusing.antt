@@ -2,7 +2,9 @@
 -- Example (CodeAnswerExamples): `2x3 [2,1][1]` is refused for its size, which is 3x2; `[18,15][7,9]` for its second
 -- group, whose sum 16 doesn't fit into a gap of 15 columns; and `3 [18,15][7,9]` for its order, which is 4.
 use Rattle.std.specs.Prelude.{List, length, ℕ, ◌<◌, ◌≤◌}
+use Rattle.bk_ports.specs.declared.line.TheConstants.{LONGEST_LINE}
 use Rattle.bk_tiling.specs.Tiling.{Tiling}
+use Rattle.bk_tiling.specs.declared.TheConstants.{MOST_SQUARES}
 use Rattle.bk_profile.specs.Refused.{IsFlatRefused, IsRefused, first_sum}
 use Rattle.bk_profile.specs.declared.laying.Refusal.{Refusal}
 use Rattle.bk_profile.specs.declared.laying.Refusal.TheVariants.{Gap, Open}
@@ -45,11 +47,11 @@ pub data IsItemRefused (item : Line) : Refused → Type 0 where
 -- why a line is refused. The first cause counts
 pub data IsLineRefused (bytes : List ℕ) : Refused → Type 0 where
   -- more than 8,192 bytes
-  too_long : 8192 < length bytes → IsLineRefused bytes Long
+  too_long : LONGEST_LINE < length bytes → IsLineRefused bytes Long
   -- outside the grammar
-  no_line : (at : ℕ) → length bytes ≤ 8192 → IsNoLine bytes at → IsLineRefused bytes (Text at)
+  no_line : (at : ℕ) → length bytes ≤ LONGEST_LINE → IsNoLine bytes at → IsLineRefused bytes (Text at)
   -- more than 200 sides
-  too_many : (item : Line) → length bytes ≤ 8192 → IsLine item bytes → 200 < side_count item
+  too_many : (item : Line) → length bytes ≤ LONGEST_LINE → IsLine item bytes → MOST_SQUARES < side_count item
       → IsLineRefused bytes Many
   -- its item is refused
   refused_item : (item : Line) (refused : Refused) → HasItem bytes item → IsItemRefused item refused

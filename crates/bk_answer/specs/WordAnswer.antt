@@ -3,7 +3,9 @@
 -- 2u.2e by `illegal 2`, and a line of blanks by nothing.
 use Rattle.std.specs.Prelude.{Bool, List, [], false, length, slice_range, true, ℕ, ◌+◌, ◌<◌, ◌∷◌, ◌≡◌, ◌≤◌}
 use Rattle.bk_grammar.specs.Grammar.{LineEnd}
+use Rattle.bk_ports.specs.declared.line.TheConstants.{LONGEST_LINE}
 use Rattle.bk_tiling.specs.Tiling.{IsTiling, Tiling}
+use Rattle.bk_tiling.specs.declared.TheConstants.{MOST_SQUARES}
 use Rattle.bk_word.specs.Play.{IsComplete, IsLegal, outline_of}
 use Rattle.bk_word.specs.Word.{Word, order_of}
 use Rattle.bk_word.specs.WordItem.{IsItemAt}
@@ -33,7 +35,7 @@ pub data AnswersWord (w : Word) : List (List ℕ) → Bool → Type 0 where
 
 -- the bytes are a line that is not too long, and this text is its item, behind so many bytes
 pub record HasText (bytes : List ℕ) (start : ℕ) (text : List ℕ) : Type 0 where
-  pub short : length bytes ≤ 8192
+  pub short : length bytes ≤ LONGEST_LINE
   pub stop : ℕ
   pub item : IsItemAt bytes start stop
   pub text_is : text ≡ slice_range bytes start stop
@@ -44,24 +46,20 @@ pub record HasWord (bytes : List ℕ) (w : Word) : Type 0 where
   pub text : List ℕ
   pub item : HasText bytes start text
   pub word : IsTextOf text w
-  pub few : order_of w ≤ 200
+  pub few : order_of w ≤ MOST_SQUARES
 
 -- the answer to a word line
 pub data AnswersWordLine (bytes : List ℕ) : List (List ℕ) → Bool → Type 0 where
   -- more than 8,192 bytes
-  word_too_long : 8192 < length bytes → AnswersWordLine bytes (refusal_line Long ∷ []) true
+  word_too_long : LONGEST_LINE < length bytes → AnswersWordLine bytes (refusal_line Long ∷ []) true
   -- the item is no text of a word, and leaves the grammar behind so many bytes of the line
   no_word : (start at : ℕ) (text : List ℕ) → HasText bytes start text → IsNoWordText text at
       → AnswersWordLine bytes (refusal_line (Text (start + at)) ∷ []) true
   -- a word of more than 200 squares
   large_word : (start : ℕ) (text : List ℕ) (w : Word) → HasText bytes start text → IsTextOf text w
-      → 200 < order_of w → AnswersWordLine bytes (refusal_line Many ∷ []) true
+      → MOST_SQUARES < order_of w → AnswersWordLine bytes (refusal_line Many ∷ []) true
   -- a line without an item has no answer
-  no_word_item : length bytes ≤ 8192 → LineEnd bytes → AnswersWordLine bytes [] false
+  no_word_item : length bytes ≤ LONGEST_LINE → LineEnd bytes → AnswersWordLine bytes [] false
   -- a word
   of_word : (w : Word) (pieces : List (List ℕ)) (refused : Bool) → HasWord bytes w → AnswersWord w pieces refused
       → AnswersWordLine bytes pieces refused
-
--- the lines at which memory may be wanting: those of words of more than 16 squares
-abbrev pub MayWantForWord : List ℕ → Type 0
-MayWantForWord bytes = (w : Word) × HasWord bytes w × (16 < order_of w)

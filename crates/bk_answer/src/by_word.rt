@@ -3,10 +3,12 @@
 ghost use Rattle.std.specs.Prelude.{◌<◌};
 ghost use Rattle.bk_ports.specs.Causes.{HasCause};
 ghost use Rattle.bk_tiling.specs.Tiling.{IsTiling, order};
-ghost use Rattle.bk_answer.specs.CodeAnswer.{AnswersCodeLine, MayWantForCode};
-ghost use Rattle.bk_answer.specs.CodeCommand.{by_word};
+ghost use Rattle.bk_answer.specs.Answer.{MayWant};
+ghost use Rattle.bk_answer.specs.CodeAnswer.{AnswersCodeLine};
 ghost use Rattle.bk_answer.specs.Replies.{IsReplyWith};
 ghost use Rattle.bk_answer.specs.Telling.{TellsPieces};
+ghost use Rattle.bk_answer.specs.declared.command.Command.TheVariants.{Memory};
+ghost use Rattle.bk_answer.specs.declared.command.MemoryCommand.TheVariants.{Word};
 
 use crate::answer::{accepted, refuse};
 use crate::items::{Desk, lay_line};
@@ -26,7 +28,7 @@ pub(crate) fn answer_by_word<O: Sink>(
     buffer: &mut AnswerBuffer,
     out: &mut O,
 ) -> Result<Outcome, Failed>
-    ensures reply { IsReplyWith (AnswersCodeLine by_word line.now) (MayWantForCode by_word line.now)
+    ensures reply { IsReplyWith (AnswersCodeLine (Memory Word) line.now) (MayWant (Memory Word) line.now)
         (O.written out.old) (O.written out.new) result }
     ensures cause { HasCause (O.faults out.old) (O.faults out.new) result }
 {
@@ -45,7 +47,7 @@ fn tell_word<O: Sink>(
     out: &mut O,
 ) -> Result<Outcome, Failed>
     requires { IsTiling tiling.now }
-    ensures reply { IsReplyWith (TellsPieces by_word tiling.now) (16 < order tiling.now) (O.written out.old)
+    ensures reply { IsReplyWith (TellsPieces (Memory Word) tiling.now) (16 < order tiling.now) (O.written out.old)
         (O.written out.new) result }
     ensures cause { HasCause (O.faults out.old) (O.faults out.new) result }
 {

@@ -1,9 +1,13 @@
 //! The answer to a network line.
 
-ghost use Rattle.std.specs.Prelude.{◌≡◌};
+ghost use Rattle.std.specs.Prelude.{length, ◌<◌, ◌≡◌};
 ghost use Rattle.bk_ports.specs.Causes.{HasCause};
-ghost use Rattle.bk_answer.specs.NetAnswer.{AnswersNet, AnswersNetLine, MayWantForNet, NetWants, refused_net};
+ghost use Rattle.bk_net.specs.Net.{HasNoLoose};
+ghost use Rattle.bk_answer.specs.Answer.{MayWant};
+ghost use Rattle.bk_answer.specs.NetAnswer.{AnswersNet, AnswersNetLine, refused_net};
 ghost use Rattle.bk_answer.specs.Replies.{IsReplyWith};
+ghost use Rattle.bk_answer.specs.declared.command.Command.TheVariants.{Memory};
+ghost use Rattle.bk_answer.specs.declared.command.MemoryCommand.TheVariants.{Flow};
 
 use crate::answer::{accepted, refuse};
 use bk_flow::{FlowFault, solve};
@@ -20,7 +24,7 @@ pub(crate) fn answer_net_line<O: Sink>(
     buffer: &mut AnswerBuffer,
     out: &mut O,
 ) -> Result<Outcome, Failed>
-    ensures reply { IsReplyWith (AnswersNetLine line.now) (MayWantForNet line.now) (O.written out.old)
+    ensures reply { IsReplyWith (AnswersNetLine line.now) (MayWant (Memory Flow) line.now) (O.written out.old)
         (O.written out.new) result }
     ensures cause { HasCause (O.faults out.old) (O.faults out.new) result }
 {
@@ -41,7 +45,8 @@ fn answer_net<O: Sink>(
     buffer: &mut AnswerBuffer,
     out: &mut O,
 ) -> Result<Outcome, Failed>
-    ensures reply { IsReplyWith (AnswersNet net.now) (NetWants net.now) (O.written out.old) (O.written out.new) result }
+    ensures reply { IsReplyWith (AnswersNet net.now) (HasNoLoose net.now × (16 < length net.now.wires))
+        (O.written out.old) (O.written out.new) result }
     ensures cause { HasCause (O.faults out.old) (O.faults out.new) result }
 {
     match solve(alloc, net) {

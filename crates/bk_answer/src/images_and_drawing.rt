@@ -3,6 +3,7 @@
 ghost use Rattle.std.specs.List.{concat};
 ghost use Rattle.std.specs.Prelude.{OnErr, OnOk, ◌≤◌};
 ghost use Rattle.std.specs.Io.KnownBytes.{Appends};
+ghost use Rattle.bk_draw.specs.declared.TheConstants.{LARGEST_DRAWN};
 ghost use Rattle.bk_ports.specs.Causes.{AppendsPrefix, HasCause};
 ghost use Rattle.bk_answer.specs.Telling.{drawing_lines, image_lines};
 
@@ -34,8 +35,8 @@ pub(crate) fn write_images<O: Sink>(
 
 // Writes the rows of the drawing of a tiling that is not too large, each by one call.
 pub(crate) fn write_drawing<O: Sink>(tiling: &Tiling, out: &mut O) -> Result<(), Failed>
-    requires width { tiling.now.width ≤ 400 }
-    requires height { tiling.now.height ≤ 400 }
+    requires width { tiling.now.width ≤ LARGEST_DRAWN }
+    requires height { tiling.now.height ≤ LARGEST_DRAWN }
     ensures written { OnOk result
         (Appends (O.written out.old) (O.written out.new) (concat (drawing_lines tiling.now))) }
     ensures failed { OnErr result

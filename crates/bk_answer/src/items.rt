@@ -6,6 +6,7 @@ ghost use Rattle.bk_text.specs.CodeLine.{Flat, Item};
 ghost use Rattle.bk_code.specs.Code.{flat};
 ghost use Rattle.bk_text.specs.GatheredSides.{line_gathered};
 ghost use Rattle.bk_text.specs.ReadLine.{IsInRange};
+ghost use Rattle.bk_tiling.specs.declared.TheConstants.{MOST_SQUARES};
 ghost use Rattle.bk_answer.specs.Item.{IsLaidItem, IsLaidLine, IsSize, IsStatedBy, side_count};
 ghost use Rattle.bk_answer.specs.Refusing.{IsItemRefused, IsLineRefused, refused_for, refused_text};
 
@@ -59,7 +60,7 @@ fn lay_item(ending: Ending, desk: &mut Desk) -> Result<Option<&Tiling>, Refused>
     requires { IsInRange (line_gathered ending desk.old.gatherer) }
     ensures laid { IfOk result (λ laid. IsLaidItem (line_gathered ending desk.old.gatherer) (option_copied laid)) }
     ensures refused { IfErr result (IsItemRefused (line_gathered ending desk.old.gatherer)) }
-    ensures few { side_count (line_gathered ending desk.old.gatherer) ≤ 200 }
+    ensures few { side_count (line_gathered ending desk.old.gatherer) ≤ MOST_SQUARES }
 {
     match ending {
         Ending::Empty => Ok(None),
@@ -97,7 +98,7 @@ fn lay_groups(
     requires { 0 < length code.now }
     ensures laid { OnOk result (IsStatedBy (Item order size code.now) tiling.new) }
     ensures refused { IfErr result (IsItemRefused (Item order size code.now)) }
-    ensures few { length (flat code.now) ≤ 200 }
+    ensures few { length (flat code.now) ≤ MOST_SQUARES }
 {
     let sides = flat(code).len();
     if !allows_order(order, sides) {
@@ -168,18 +169,12 @@ fn refused_for(refusal: Refusal) -> Refused
 fn allows_order(order: Option<u64>, sides: usize) -> bool
     ensures { IsTrue result ↔ IfSome order (λ stated. stated ≡ sides) }
 {
-    match order {
-        Some(stated) => stated == sides as u64,
-        None => true,
-    }
+    order.is_none_or(|stated| stated == sides as u64)
 }
 
 // Whether no other size is stated.
 fn allows_size(size: Option<(u64, u64)>, width: u64, height: u64) -> bool
     ensures { IsTrue result ↔ IsSize size width height }
 {
-    match size {
-        Some(stated) => stated == (width, height),
-        None => true,
-    }
+    size.is_none_or(|stated| stated == (width, height))
 }

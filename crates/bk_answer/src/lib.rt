@@ -1,14 +1,13 @@
 //! What a command answers to a line.
 #![tactic(auto)]
 
-ghost use Rattle.bk_answer.specs.AnswerLaws.{AFrontHasTheAnswer, ALineHasOneAnswer, CheckAcceptsTilings};
-
 mod answer;
 mod by_word;
 mod command;
 mod flow;
 mod images_and_drawing;
 mod items;
+mod laws;
 mod plain;
 mod solve;
 
@@ -16,21 +15,5 @@ pub use answer::MemoryAnswerer;
 pub use bk_ports::LONGEST_LINE;
 pub use command::{Command, MemoryCommand};
 pub use items::{Desk, lay_line};
+pub use laws::{a_front_has_the_answer, a_line_has_one_answer, check_accepts_tilings};
 pub use plain::{PlainAnswerer, PlainCommand};
-
-/// A line has at most one answer.
-pub fn a_line_has_one_answer()
-    ensures { ALineHasOneAnswer }
-{}
-
-/// A line is answered as its first 8,193 bytes are, which are all that is kept of it.
-pub fn a_front_has_the_answer()
-    ensures { AFrontHasTheAnswer }
-{}
-
-/// `check` accepts a code exactly when its squares tile the stated rectangle in code order: the answer to a line of at
-/// most 8,192 bytes and 200 sides begins with `ok` exactly where some tiling has the code, the order and the size that
-/// the line states; of a table row, the order, the size and the flat list of sides.
-pub fn check_accepts_tilings()
-    ensures { CheckAcceptsTilings }
-{}

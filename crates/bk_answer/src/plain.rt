@@ -5,10 +5,10 @@ ghost use Rattle.bk_ports.specs.Causes.{HasCause};
 ghost use Rattle.bk_tiling.specs.Tiling.{IsTiling, Tiling as Seen};
 ghost use Rattle.bk_sym.specs.Canonical.{IsCanonicalOf};
 ghost use Rattle.bk_report.specs.Answers.{tiling_line};
-ghost use Rattle.bk_answer.specs.CodeAnswer.{AnswersCodeLine, AnswersTiling, MayWantForCode};
-ghost use Rattle.bk_answer.specs.CodeCommand.{by_plain};
+ghost use Rattle.bk_answer.specs.CodeAnswer.{AnswersCodeLine, AnswersTiling};
+ghost use Rattle.bk_answer.specs.declared.command.Command.TheVariants.{Plain};
 ghost use Rattle.bk_answer.specs.Replies.{IsReplyWith};
-ghost use Rattle.bk_answer.specs.Telling.{Allows, TellsPieces, WantsMemory};
+ghost use Rattle.bk_answer.specs.Telling.{Allows, TellsPieces};
 
 use crate::answer::{accepted, refuse};
 use crate::images_and_drawing::{write_drawing, write_images};
@@ -81,7 +81,7 @@ impl PlainCommand {
         buffer: &mut AnswerBuffer,
         out: &mut O,
     ) -> Result<Outcome, Failed>
-        ensures reply { IsReplyWith (AnswersCodeLine (by_plain self) line.now) (MayWantForCode (by_plain self) line.now)
+        ensures reply { IsReplyWith (AnswersCodeLine (Plain self) line.now) ⊥
             (O.written out.old) (O.written out.new) result }
         ensures cause { HasCause (O.faults out.old) (O.faults out.new) result }
     {
@@ -100,7 +100,7 @@ impl PlainCommand {
         out: &mut O,
     ) -> Result<Outcome, Failed>
         requires { IsTiling tiling.now }
-        ensures reply { IsReplyWith (AnswersTiling (by_plain self) tiling.now) (WantsMemory (by_plain self) tiling.now)
+        ensures reply { IsReplyWith (AnswersTiling (Plain self) tiling.now) ⊥
             (O.written out.old) (O.written out.new) result }
         ensures cause { HasCause (O.faults out.old) (O.faults out.new) result }
     {
@@ -112,7 +112,7 @@ impl PlainCommand {
 
     // Whether the command answers this tiling.
     fn allows(self, tiling: &Tiling) -> bool
-        ensures { IsTrue result ↔ Allows (by_plain self) tiling.now }
+        ensures { IsTrue result ↔ Allows (Plain self) tiling.now }
     {
         match self {
             PlainCommand::Draw => tiling.width() <= LARGEST_DRAWN
@@ -129,8 +129,8 @@ impl PlainCommand {
         out: &mut O,
     ) -> Result<Outcome, Failed>
         requires tiling { IsTiling tiling.now }
-        requires allowed { Allows (by_plain self) tiling.now }
-        ensures reply { IsReplyWith (TellsPieces (by_plain self) tiling.now) (WantsMemory (by_plain self) tiling.now)
+        requires allowed { Allows (Plain self) tiling.now }
+        ensures reply { IsReplyWith (TellsPieces (Plain self) tiling.now) ⊥
             (O.written out.old) (O.written out.new) result }
         ensures cause { HasCause (O.faults out.old) (O.faults out.new) result }
     {

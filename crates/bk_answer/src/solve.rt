@@ -3,8 +3,11 @@
 ghost use Rattle.std.specs.Prelude.{length, ◌<◌};
 ghost use Rattle.bk_ports.specs.Causes.{HasCause};
 ghost use Rattle.bk_word.specs.Word.{order_of};
+ghost use Rattle.bk_answer.specs.Answer.{MayWant};
 ghost use Rattle.bk_answer.specs.Replies.{IsReplyWith};
-ghost use Rattle.bk_answer.specs.WordAnswer.{AnswersWord, AnswersWordLine, MayWantForWord};
+ghost use Rattle.bk_answer.specs.declared.command.Command.TheVariants.{Memory};
+ghost use Rattle.bk_answer.specs.declared.command.MemoryCommand.TheVariants.{Solve};
+ghost use Rattle.bk_answer.specs.WordAnswer.{AnswersWord, AnswersWordLine};
 
 use crate::answer::{accepted, refuse};
 use crate::items::Desk;
@@ -23,7 +26,7 @@ pub(crate) fn answer_word_line<O: Sink>(
     buffer: &mut AnswerBuffer,
     out: &mut O,
 ) -> Result<Outcome, Failed>
-    ensures reply { IsReplyWith (AnswersWordLine line.now) (MayWantForWord line.now) (O.written out.old)
+    ensures reply { IsReplyWith (AnswersWordLine line.now) (MayWant (Memory Solve) line.now) (O.written out.old)
         (O.written out.new) result }
     ensures cause { HasCause (O.faults out.old) (O.faults out.new) result }
 {

@@ -1,12 +1,12 @@
 -- Options and their values, command lines that ask something, some that ask nothing, and the line of usage.
 use Rattle.std.specs.Fmt.{digits}
 use Rattle.std.specs.Prelude.{None, Some, codes}
-use Rattle.std.proofs.Common.{List, [], ap, arith, false, length, lit<, lit≤, nat_eq, refl, slice_index, ℕ, ◌∷◌, ◌≡◌}
+use Rattle.std.proofs.Common.{List, [], ap, arith, false, inr, length, lit<, lit≤, nat_eq, refl, slice_index, ℕ, ◌∷◌, ◌≡◌}
 use Rattle.std.proofs.lemmas.Bool.Decides.{nat_tests}
 use Rattle.bk_laws.proofs.Membership.{contains-none}
 use Rattle.bk_word.proofs.WordExamples.{staircase}
 use Rattle.bk_word.specs.declared.Class.TheVariants.{Imperfect, Perfect}
-use Rattle.bk_ask.specs.Asked.{Asks, AsksNothing, verify_names}
+use Rattle.bk_ask.specs.Asked.{Asks, AsksNothing}
 use Rattle.bk_ask.specs.Help.{usage}
 use Rattle.bk_ask.specs.OptionValues.{IsClassName, IsCursor, IsNumberWithin}
 use Rattle.bk_ask.specs.Options.{AreOptions, options_in}
@@ -29,11 +29,11 @@ two_of_three : options_in (codes "--order" ∷ codes "9" ∷ codes "--class" ∷
 two_of_three = refl
 
 -- so these words are no options
-name_without_value : AreOptions verify_names (codes "--order" ∷ []) → ⊥
+name_without_value : AreOptions (codes "--order" ∷ []) (codes "--order" ∷ []) → ⊥
 name_without_value are = let none : codes "--order" ∷ [] ≡ [] = are.whole in cc
 
 -- nor are those in which a name stands twice
-name_twice : AreOptions verify_names (codes "--order" ∷ codes "9" ∷ codes "--order" ∷ codes "9" ∷ []) → ⊥
+name_twice : AreOptions (codes "--order" ∷ []) (codes "--order" ∷ codes "9" ∷ codes "--order" ∷ codes "9" ∷ []) → ⊥
 name_twice are = are.once.0.0 refl
 
 order_16 : IsNumberWithin 2 16 (codes "16") 16
@@ -93,11 +93,7 @@ list_nine = record {
       once = ((differ (codes "--order") (codes "--limit") 2 refl, tt), (tt, tt));
     };
     has_order = record { value = codes "9"; stands = (1, omega arith, refl); means = record { at_least = omega arith; at_most = omega arith; text = refl } };
-    has_class = record {
-      named = None;
-      has = (differ (codes "--limit") (codes "--class") 2 refl, (differ (codes "--order") (codes "--class") 2 refl, tt));
-      is = refl;
-    };
+    has_class = inr ((differ (codes "--limit") (codes "--class") 2 refl, (differ (codes "--order") (codes "--class") 2 refl, tt)), refl);
     has_from = (differ (codes "--limit") (codes "--from") 2 refl, (differ (codes "--order") (codes "--from") 2 refl, tt));
     has_limit = record { value = codes "1"; stands = (0, omega arith, refl); means = record { at_least = omega arith; at_most = omega arith; text = refl } };
   };
@@ -125,6 +121,6 @@ pair_alone = record {
   line = refl;
   say = record {
     options = record { whole = refl; known = tt; once = tt };
-    has_kind = record { named = None; has = tt; is = refl };
+    has_kind = inr (tt, refl);
   };
 }

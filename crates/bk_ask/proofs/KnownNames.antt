@@ -17,24 +17,24 @@ abbrev pub is_among : List (Bor (List ℕ)) → List ℕ → Bool
 is_among names name = list_any (λ known. bytes_eq known.now name) names
 
 -- a name that is found stands there
-pub found : (names : List (Bor (List ℕ))) (name : List ℕ) → is_among names name ≡ true → Contains (texts_of names) name
-found [] name e = absurd cc
-found (known ∷ names) name e = elim (cases_Bool (bytes_eq known.now name)) [
+pub known_from_test : (names : List (Bor (List ℕ))) (name : List ℕ) → is_among names name ≡ true → Contains (texts_of names) name
+known_from_test [] name e = absurd cc
+known_from_test (known ∷ names) name e = elim (cases_Bool (bytes_eq known.now name)) [
   | inl same ↦ (0, omega arith, (bytes_eq-Decides known.now name).0 same)
-  | inr other ↦ contains-later known.now (texts_of names) name (found names name (sym (ap (λ (v : Bool). v || is_among names name) other) ∙ e))
+  | inr other ↦ contains-later known.now (texts_of names) name (known_from_test names name (sym (ap (λ (v : Bool). v || is_among names name) other) ∙ e))
 ]
 
--- and one that stands there is found
-pub finds : (names : List (Bor (List ℕ))) (name : List ℕ) → Contains (texts_of names) name → is_among names name ≡ true
-finds [] name has = absurd (contains-none name has)
-finds (known ∷ names) name has = elim (cases_Bool (bytes_eq known.now name)) [
+-- a name that stands among the known ones is found
+pub test_of_known : (names : List (Bor (List ℕ))) (name : List ℕ) → Contains (texts_of names) name → is_among names name ≡ true
+test_of_known [] name has = absurd (contains-none name has)
+test_of_known (known ∷ names) name has = elim (cases_Bool (bytes_eq known.now name)) [
   | inl same ↦ ap (λ (v : Bool). v || is_among names name) same
   | inr other ↦ elim (contains-first_or_later known.now (texts_of names) name has) [
     | inl is ↦ ap (λ (v : Bool). v || is_among names name) ((bytes_eq-Decides known.now name).1 is)
-    | inr later ↦ ap (λ (v : Bool). v || is_among names name) other ∙ finds names name later
+    | inr later ↦ ap (λ (v : Bool). v || is_among names name) other ∙ test_of_known names name later
   ]
 ]
 
 -- so the test decides whether the name is one of them
-pub told : (names : List (Bor (List ℕ))) (name : List ℕ) (r : Bool) → r ≡ is_among names name → Decides r (Contains (texts_of names) name)
-told names name r is = (λ e. found names name (sym is ∙ e), λ has. is ∙ finds names name has)
+pub test_decides_known : (names : List (Bor (List ℕ))) (name : List ℕ) (r : Bool) → r ≡ is_among names name → Decides r (Contains (texts_of names) name)
+test_decides_known names name r is = (λ e. known_from_test names name (sym is ∙ e), λ has. is ∙ test_of_known names name has)

@@ -6,12 +6,12 @@ use Rattle.bk_word.specs.declared.Class.{Class}
 use Rattle.bk_word.specs.declared.Class.TheVariants.{Perfect}
 use Rattle.bk_ask.specs.Asked.{Asks, AsksListing, AsksPair, AsksTrial, AsksVerify, OptionsSay, command_name}
 use Rattle.bk_ask.specs.OptionValues.{IsClassName, IsCursor, IsKindName, IsNumberWithin}
-use Rattle.bk_ask.specs.Options.{NamesDiffer, options_in, or_else}
+use Rattle.bk_ask.specs.Options.{NamesDiffer, options_in}
 use Rattle.bk_ask.specs.declared.Ask.{Ask}
 use Rattle.bk_ask.specs.declared.Ask.TheVariants as asks
 use Rattle.bk_pair.specs.declared.Kind.{Kind}
 use Rattle.bk_pair.specs.declared.Kind.TheVariants as kinds
-use Rattle.bk_ask.proofs.OptionLaws.{given_once, may_have_once}
+use Rattle.bk_ask.proofs.OptionLaws.{given_once, given_or_once, may_have_once}
 use Rattle.bk_ask.proofs.ValueLaws.{one_class, one_cursor, one_kind, one_number}
 
 -- the commands counted: those that stand alone come first
@@ -75,9 +75,8 @@ listing_once words order order' class class' from from' limit limit' a b =
     let once : NamesDiffer (options_in words) = a.options.once in
     let orders : order ≡ order' =
     given_once (options_in words) (codes "--order") (IsNumberWithin 2 16) (one_number 2 16 (lit< tt)) order order' once a.has_order b.has_order in
-    let names : a.has_class.named ≡ b.has_class.named =
-    may_have_once (options_in words) (codes "--class") IsClassName one_class a.has_class.named b.has_class.named once a.has_class.has b.has_class.has in
-    let classes : class ≡ class' = a.has_class.is ∙ ap (λ (named : Option Class). or_else named Perfect) names ∙ sym b.has_class.is in
+    let classes : class ≡ class' =
+    given_or_once (options_in words) (codes "--class") IsClassName Perfect one_class class class' once a.has_class b.has_class in
     let cursors : from ≡ from' = may_have_once (options_in words) (codes "--from") IsCursor one_cursor from from' once a.has_from b.has_from in
     let limits : limit ≡ limit' =
     may_have_once (options_in words) (codes "--limit") (IsNumberWithin 0 1_000_000_000) (one_number 0 1_000_000_000 (lit< tt)) limit limit' once
@@ -102,9 +101,8 @@ verify_once words order order' a b =
 
 pair_once : (words : List (List ℕ)) (kind kind' : Kind) → AsksPair words kind → AsksPair words kind' → asks.Pair kind ≡ asks.Pair kind'
 pair_once words kind kind' a b =
-    let names : a.has_kind.named ≡ b.has_kind.named =
-    may_have_once (options_in words) (codes "--kind") IsKindName one_kind a.has_kind.named b.has_kind.named a.options.once a.has_kind.has b.has_kind.has in
-    ap asks.Pair (a.has_kind.is ∙ ap (λ (named : Option Kind). or_else named kinds.Perfect) names ∙ sym b.has_kind.is)
+    ap asks.Pair
+    (given_or_once (options_in words) (codes "--kind") IsKindName kinds.Perfect one_kind kind kind' a.options.once a.has_kind b.has_kind)
 
 -- what another ask says at the place of a command with options
 same_listing : (words : List (List ℕ)) (order : ℕ) (class : Class) (from : Option Word) (limit : Option ℕ) → AsksListing words order class from limit

@@ -3,7 +3,7 @@ use Rattle.std.specs.Prelude.{Contains, List, None, Option, Some, [], refl, ℕ}
 use Rattle.std.specs.Prelude.{◌∷◌, ◌≡◌}
 use Rattle.std.proofs.Common.{ap, inl, inr, subst, sym, ◌∙◌}
 use Rattle.bk_laws.proofs.Membership.{contains-first_or_later, contains-none}
-use Rattle.bk_ask.specs.Options.{Given, IsLeftOut, MayHave, NamedValue, NamesDiffer}
+use Rattle.bk_ask.specs.Options.{Given, IsGivenOr, IsLeftOut, MayHave, NamedValue, NamesDiffer}
 
 -- the option of a name and its value
 abbrev pub option_of : List ℕ → List ℕ → NamedValue
@@ -57,6 +57,22 @@ may_have_once options name Means one None None once first second = refl
 may_have_once options name Means one None (Some b) once first second = absurd (not_both options name second.value first second.stands)
 may_have_once options name Means one (Some a) None once first second = absurd (not_both options name first.value second first.stands)
 may_have_once options name Means one (Some a) (Some b) once first second = ap Some (given_once options name Means one a b once first second)
+
+-- if values mean one thing, an option means one thing that has a value of its own where it is left out
+pub given_or_once : {A : Type 0} (options : List NamedValue) (name : List ℕ) (Means : List ℕ → A → Type 0) (taken : A) → MeansOneThing Means → (a b : A)
+    → NamesDiffer options
+    → IsGivenOr options name Means taken a → IsGivenOr options name Means taken b → a ≡ b
+given_or_once options name Means taken one a b once (inl first) (inl second) = given_once options name Means one a b once first second
+given_or_once options name Means taken one a b once (inl first) (inr out) = absurd (not_both options name first.value out.0 first.stands)
+given_or_once options name Means taken one a b once (inr out) (inl second) = absurd (not_both options name second.value out.0 second.stands)
+given_or_once options name Means taken one a b once (inr first) (inr second) = first.1 ∙ sym second.1
+
+-- where the value is known and has no meaning, the option says nothing, and isn't left out
+pub no_meaning_or : {A : Type 0} (options : List NamedValue) (name value : List ℕ) (Means : List ℕ → A → Type 0) (taken : A) → NamesDiffer options
+    → Contains options (option_of name value)
+    → ((a : A) → Means value a → ⊥) → (a : A) → IsGivenOr options name Means taken a → ⊥
+no_meaning_or options name value Means taken once has none a (inl given) = none a (means_of options name value Means a once has given)
+no_meaning_or options name value Means taken once has none a (inr out) = not_both options name value out.0 has
 
 -- where the value is known and has no meaning, the option says nothing
 pub no_meaning : {A : Type 0} (options : List NamedValue) (name value : List ℕ) (Means : List ℕ → A → Type 0) → NamesDiffer options

@@ -65,7 +65,7 @@ say_none name all words few so =
     so.out (subst (λ (options : List NamedValue). IsLeftOut options name)
     (sym (none_left (map string_bytes words) (omega (arith, length-map words string_bytes)))) tt)
 
--- and all words are options just where no word is left
+-- all words are options just where no word is left
 pub stand_end : (names all : List (List ℕ)) (words : List (String Global)) (empty : Bool) → length words < 2 → empty ≡ nat_eq (length words) 0
     → StandOrFall names all (map string_bytes words)
     → (empty ≡ true → AreOptions names all) × (AreOptions names all → empty ≡ true)

@@ -5,7 +5,7 @@ use Rattle.std.specs.Prelude.{List, Option, [], codes, ℕ, ◌∷◌, ◌≡◌
 use Rattle.bk_word.specs.Word.{Word}
 use Rattle.bk_word.specs.declared.Class.{Class}
 use Rattle.bk_word.specs.declared.Class.TheVariants.{Perfect}
-use Rattle.bk_ask.specs.Options.{AreOptions, Given, MayHave, NamedValue, options_in, or_else}
+use Rattle.bk_ask.specs.Options.{AreOptions, Given, IsGivenOr, MayHave, options_in}
 use Rattle.bk_ask.specs.OptionValues.{IsClassName, IsCursor, IsKindName, IsNumberWithin}
 use Rattle.bk_ask.specs.declared.Ask.{Ask}
 use Rattle.bk_ask.specs.declared.Ask.TheVariants as asks
@@ -30,55 +30,30 @@ command_name asks.Alike = codes "alike"
 command_name (asks.Pair kind) = codes "pair"
 command_name asks.Help = codes "help"
 
--- the names of the options of `list`, of those of `trial`, of those of `verify` and of those of `pair`
-abbrev pub listing_names : List (List ℕ)
-listing_names = codes "--order" ∷ codes "--class" ∷ codes "--from" ∷ codes "--limit" ∷ []
-
-abbrev pub trial_names : List (List ℕ)
-trial_names = codes "--seed" ∷ codes "--count" ∷ []
-
-abbrev pub verify_names : List (List ℕ)
-verify_names = codes "--order" ∷ []
-
-abbrev pub pair_names : List (List ℕ)
-pair_names = codes "--kind" ∷ []
-
--- the class: the one that is named, else perfect
-pub record MayHaveClass (options : List NamedValue) (class : Class) : Type 0 where
-  pub named : Option Class
-  pub has : MayHave options (codes "--class") IsClassName named
-  pub is : class ≡ or_else named Perfect
-
--- list: an order from 2 to 16; and it may have a class, a word after which to start, and a limit
+-- list: an order from 2 to 16; and it may have a class, which is else perfect, a word after which to start, and a limit
 pub record AsksListing (words : List (List ℕ)) (order : ℕ) (class : Class) (from : Option Word)
     (limit : Option ℕ) : Type 0 where
-  pub options : AreOptions listing_names words
+  pub options : AreOptions (codes "--order" ∷ codes "--class" ∷ codes "--from" ∷ codes "--limit" ∷ []) words
   pub has_order : Given (options_in words) (codes "--order") (IsNumberWithin 2 16) order
-  pub has_class : MayHaveClass (options_in words) class
+  pub has_class : IsGivenOr (options_in words) (codes "--class") IsClassName Perfect class
   pub has_from : MayHave (options_in words) (codes "--from") IsCursor from
   pub has_limit : MayHave (options_in words) (codes "--limit") (IsNumberWithin 0 1_000_000_000) limit
 
 -- trial: a seed and a count
 pub record AsksTrial (words : List (List ℕ)) (seed count : ℕ) : Type 0 where
-  pub options : AreOptions trial_names words
+  pub options : AreOptions (codes "--seed" ∷ codes "--count" ∷ []) words
   pub has_seed : Given (options_in words) (codes "--seed") (IsNumberWithin 0 18_446_744_073_709_551_615) seed
   pub has_count : Given (options_in words) (codes "--count") (IsNumberWithin 0 100_000) count
 
 -- verify: an order from 2 to 16
 pub record AsksVerify (words : List (List ℕ)) (order : ℕ) : Type 0 where
-  pub options : AreOptions verify_names words
+  pub options : AreOptions (codes "--order" ∷ []) words
   pub has_order : Given (options_in words) (codes "--order") (IsNumberWithin 2 16) order
 
--- the kind of pairs: the one that is named, else perfect
-pub record MayHaveKind (options : List NamedValue) (kind : Kind) : Type 0 where
-  pub named : Option Kind
-  pub has : MayHave options (codes "--kind") IsKindName named
-  pub is : kind ≡ or_else named kinds.Perfect
-
--- pair: it may have a kind
+-- pair: it may have a kind, which is else perfect
 pub record AsksPair (words : List (List ℕ)) (kind : Kind) : Type 0 where
-  pub options : AreOptions pair_names words
-  pub has_kind : MayHaveKind (options_in words) kind
+  pub options : AreOptions (codes "--kind" ∷ []) words
+  pub has_kind : IsGivenOr (options_in words) (codes "--kind") IsKindName kinds.Perfect kind
 
 -- what the words behind the command's name say. All commands but `list`, `trial`, `verify` and `pair` stand alone
 abbrev pub OptionsSay : List (List ℕ) → Ask → Type 0

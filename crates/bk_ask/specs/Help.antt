@@ -6,9 +6,9 @@ use Rattle.std.specs.Prelude.{List, [], codes, flat_map, ℕ, ◌++◌, ◌∷�
 abbrev pub usage : List ℕ
 usage = codes "usage: bouwkamp COMMAND [--NAME VALUE]...\n"
 
--- each command with what it does
-abbrev pub help_lines : List (List ℕ)
-help_lines =
+-- the usage, and then each command with what it does, each with a line feed
+abbrev pub help_text : List ℕ
+help_text = usage ++ flat_map (λ line. line ++ 10 ∷ []) (
     codes "check: test each code"
     ∷ codes "canon: canonical code of each code"
     ∷ codes "images: the eight images of each code"
@@ -24,8 +24,4 @@ help_lines =
     ∷ codes "alike: group codes by size"
     ∷ codes "pair [--kind KIND]: join rectangles to squares"
     ∷ codes "help: this text"
-    ∷ []
-
--- the usage, and then the commands, each with a line feed
-abbrev pub help_text : List ℕ
-help_text = usage ++ flat_map (λ line. line ++ 10 ∷ []) help_lines
+    ∷ [])

@@ -2,7 +2,7 @@
 -- Example (AskExamples): in `--order 9 --class` stands one option, since the last name has no value. `--order` alone is
 -- no option of `verify`, and neither is `--order 9 --order 9`, in which the name stands twice.
 use Rattle.std.specs.List.{AllByRecursion}
-use Rattle.std.specs.Prelude.{Contains, List, None, Option, Some, [], flat_map, ℕ, ⊤, ◌∷◌, ◌≡◌, ◌≢◌}
+use Rattle.std.specs.Prelude.{Contains, List, None, Option, Some, [], flat_map, ℕ, ⊤, ◌∷◌, ◌≡◌, ◌≢◌, ◌⊎◌}
 
 -- an option: a name and a value
 pub record NamedValue : Type 0 where
@@ -46,7 +46,6 @@ abbrev pub MayHave : {A : Type 0} → List NamedValue → List ℕ → (List ℕ
 MayHave options name Means None = IsLeftOut options name
 MayHave options name Means (Some a) = Given options name Means a
 
--- what an option says, or what is taken where it is left out
-abbrev pub or_else : {A : Type 0} → Option A → A → A
-or_else None a = a
-or_else (Some b) a = b
+-- the value of the option of this name means a; or the option is left out, and a is what is taken then
+abbrev pub IsGivenOr : {A : Type 0} → List NamedValue → List ℕ → (List ℕ → A → Type 0) → A → A → Type 0
+IsGivenOr options name Means taken a = Given options name Means a ⊎ (IsLeftOut options name × (a ≡ taken))

@@ -4,9 +4,10 @@ ghost use Rattle.std.specs.Prelude.{IfErr, IfNone, IfOk, IfSome, [], codes, map,
 ghost use Rattle.bk_word.specs.Word.{Word as Moves};
 ghost use Rattle.bk_word.specs.declared.Class.{Class as ClassOf};
 ghost use Rattle.bk_pair.specs.declared.Kind.{Kind as KindOf};
-ghost use Rattle.bk_ask.specs.Asked.{Asks, AsksNothing, MayHaveClass, MayHaveKind};
-ghost use Rattle.bk_ask.specs.Options.{Given, MayHave, NamesDiffer, options_in};
-ghost use Rattle.bk_ask.specs.OptionValues.{IsCursor, IsNumberWithin};
+ghost use Rattle.bk_ask.specs.Asked.{Asks, AsksNothing};
+ghost use Rattle.bk_ask.specs.Options.{Given, IsGivenOr, MayHave, NamesDiffer, options_in};
+ghost use Rattle.bk_ask.specs.declared.commands.TheConstants.{GREATEST_ORDER, LEAST_ORDER, MOST_ENTRIES};
+ghost use Rattle.bk_ask.specs.OptionValues.{IsClassName, IsCursor, IsKindName, IsNumberWithin};
 
 use crate::options::{are_options, value_of};
 use crate::values::{class_named, cursor_in, kind_named, number_within};
@@ -111,8 +112,10 @@ pub(crate) fn pair(options: &[String]) -> Option<Ask>
 // The order of a catalogue, 2 to 16.
 fn order_given(options: &[String]) -> Option<u8>
     requires { NamesDiffer (options_in (map string_bytes options.now)) }
-    ensures some { IfSome result (Given (options_in (map string_bytes options.now)) (codes "--order") (IsNumberWithin 2 16)) }
-    ensures none { IfNone result ((n : ℕ) → Given (options_in (map string_bytes options.now)) (codes "--order") (IsNumberWithin 2 16) n → ⊥) }
+    ensures some { let read = options_in (map string_bytes options.now) in
+        IfSome result (Given read (codes "--order") (IsNumberWithin LEAST_ORDER GREATEST_ORDER)) }
+    ensures none { let read = options_in (map string_bytes options.now) in
+        IfNone result ((n : ℕ) → Given read (codes "--order") (IsNumberWithin LEAST_ORDER GREATEST_ORDER) n → ⊥) }
 {
     Some(number_given(options, "--order", LEAST_ORDER, GREATEST_ORDER)? as u8)
 }
@@ -131,9 +134,10 @@ fn number_given(options: &[String], name: &str, least: u64, most: u64) -> Option
 // The class, which is perfect where none is named.
 fn class_in(options: &[String]) -> Result<Class, Unasked>
     requires { NamesDiffer (options_in (map string_bytes options.now)) }
-    ensures ok { IfOk result (MayHaveClass (options_in (map string_bytes options.now))) }
-    ensures err { IfErr result (λ _. (class : ClassOf) → MayHaveClass (options_in (map string_bytes options.now)) class
-        → ⊥) }
+    ensures ok { let read = options_in (map string_bytes options.now) in
+        IfOk result (IsGivenOr read (codes "--class") IsClassName Class.Perfect) }
+    ensures err { let read = options_in (map string_bytes options.now) in
+        IfErr result (λ _. (class : ClassOf) → IsGivenOr read (codes "--class") IsClassName Class.Perfect class → ⊥) }
 {
     match value_of(options, "--class") {
         Some(name) => class_named(name).ok_or(Unasked),
@@ -144,9 +148,10 @@ fn class_in(options: &[String]) -> Result<Class, Unasked>
 // The kind of pairs, which is the perfect one where none is named.
 fn kind_in(options: &[String]) -> Result<Kind, Unasked>
     requires { NamesDiffer (options_in (map string_bytes options.now)) }
-    ensures ok { IfOk result (MayHaveKind (options_in (map string_bytes options.now))) }
-    ensures err { IfErr result (λ _. (kind : KindOf) → MayHaveKind (options_in (map string_bytes options.now)) kind
-        → ⊥) }
+    ensures ok { let read = options_in (map string_bytes options.now) in
+        IfOk result (IsGivenOr read (codes "--kind") IsKindName Kind.Perfect) }
+    ensures err { let read = options_in (map string_bytes options.now) in
+        IfErr result (λ _. (kind : KindOf) → IsGivenOr read (codes "--kind") IsKindName Kind.Perfect kind → ⊥) }
 {
     match value_of(options, "--kind") {
         Some(name) => kind_named(name).ok_or(Unasked),
@@ -158,7 +163,8 @@ fn kind_in(options: &[String]) -> Result<Kind, Unasked>
 fn cursor_given(alloc: Global, options: &[String]) -> Result<Option<Word>, Unasked>
     requires { NamesDiffer (options_in (map string_bytes options.now)) }
     ensures ok { IfOk result (MayHave (options_in (map string_bytes options.now)) (codes "--from") IsCursor) }
-    ensures err { IfErr result (λ _. (from : Option Moves) → MayHave (options_in (map string_bytes options.now)) (codes "--from") IsCursor from → ⊥) }
+    ensures err { let read = options_in (map string_bytes options.now) in
+        IfErr result (λ _. (from : Option Moves) → MayHave read (codes "--from") IsCursor from → ⊥) }
 {
     match value_of(options, "--from") {
         Some(text) => match cursor_in(alloc, text) {
@@ -172,9 +178,11 @@ fn cursor_given(alloc: Global, options: &[String]) -> Result<Option<Word>, Unask
 // How many entries to list at most, if that is said.
 fn limit_in(options: &[String]) -> Result<Option<u64>, Unasked>
     requires { NamesDiffer (options_in (map string_bytes options.now)) }
-    ensures ok { IfOk result (MayHave (options_in (map string_bytes options.now)) (codes "--limit") (IsNumberWithin 0 1_000_000_000)) }
-    ensures err { IfErr result (λ _. (limit : Option ℕ) → MayHave (options_in (map string_bytes options.now)) (codes "--limit")
-        (IsNumberWithin 0 1_000_000_000) limit → ⊥) }
+    ensures ok { let read = options_in (map string_bytes options.now) in
+        IfOk result (MayHave read (codes "--limit") (IsNumberWithin 0 MOST_ENTRIES)) }
+    ensures err { let read = options_in (map string_bytes options.now) in
+        IfErr result (λ _. (limit : Option ℕ)
+        → MayHave read (codes "--limit") (IsNumberWithin 0 MOST_ENTRIES) limit → ⊥) }
 {
     match value_of(options, "--limit") {
         Some(text) => match number_within(0, MOST_ENTRIES, text) {

@@ -2,11 +2,11 @@
 #![tactic(auto)]
 
 ghost use Rattle.std.specs.Prelude.{IfNone, IfSome, map, string_bytes, ◌≡◌};
-ghost use Rattle.bk_ask.specs.AskLaws.{WordsAskOneThing};
 ghost use Rattle.bk_ask.specs.Asked.{Asks, AsksNothing};
 ghost use Rattle.bk_ask.specs.Help.{help_text, usage};
 
 mod commands;
+mod laws;
 mod options;
 mod values;
 mod words;
@@ -15,6 +15,7 @@ use bk_grammar::{AnswerBuffer, push_bytes};
 pub use bk_pair::Kind;
 use bk_word::{Class, Word};
 use commands::{command_alone, listing, pair, trial, verify};
+pub use laws::words_ask_one_thing;
 use std::alloc::Global;
 pub use words::words_of;
 
@@ -131,8 +132,3 @@ pub fn write_help(out: &mut AnswerBuffer)
     write_usage(out);
     push_bytes(COMMANDS, out);
 }
-
-/// Words ask one thing only.
-pub fn words_ask_one_thing()
-    ensures { WordsAskOneThing }
-{}

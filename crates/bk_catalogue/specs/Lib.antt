@@ -1,4 +1,5 @@
 -- What the crate says.
+pub mod Ascending
 pub mod BoundCuts
 pub mod CanonicalCorners
 pub mod Catalogue
@@ -7,7 +8,6 @@ pub mod Cuts
 pub mod Following
 pub mod NextMove
 pub mod Once
-pub mod Qualifying
 pub mod Repeated
 pub mod SingleValleys
 pub mod Tree

@@ -5,12 +5,14 @@ ghost use Rattle.std.specs.List.{AllByRecursion};
 ghost use Rattle.std.specs.Prelude.{[], length, slice_index_or, slice_range, ◌+◌, ◌++◌, ◌<◌, ◌≡◌, ◌≤◌, ◌∷◌};
 ghost use Rattle.bk_tiling.specs.KeptTiling.{IsSide};
 ghost use Rattle.bk_code.specs.Code.{code_cmp, code_of, flat, with_side};
-ghost use Rattle.bk_code.specs.CodeLaws.{AFlatListFixesATiling, CodesAreOrdered};
 ghost use Rattle.bk_code.specs.KeptCode.{IsKeptCode};
 ghost use Rattle.bk_code.specs.StoredCode.{AreStarts, groups_at};
 
+mod laws;
+
 use arrayvec::ArrayVec;
 use bk_tiling::{MOST_SQUARES, Tiling};
+pub use laws::{a_flat_list_fixes_a_tiling, codes_are_ordered};
 use std::cmp::Ordering;
 use std::marker::Model;
 
@@ -180,13 +182,3 @@ pub fn cmp_codes(a: &Code, b: &Code) -> Ordering
 {
     flat(a).cmp(flat(b))
 }
-
-/// A width and a flat list of sides fix a tiling.
-pub fn a_flat_list_fixes_a_tiling()
-    ensures { AFlatListFixesATiling }
-{}
-
-/// Codes are totally ordered by their flat lists, as `cmp_codes` compares them.
-pub fn codes_are_ordered()
-    ensures { CodesAreOrdered }
-{}

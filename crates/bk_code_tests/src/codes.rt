@@ -1,7 +1,8 @@
 //! Codes for the rows.
 
 use bk_code::*;
-use bk_tiling::{LONGEST_SIDE, MOST_SQUARES};
+use bk_profile::lay_code;
+use bk_tiling::{LONGEST_SIDE, MOST_SQUARES, Tiling};
 use std::process::Abort;
 
 /// The sides of the groups of a code.
@@ -28,4 +29,14 @@ pub(crate) fn code_with(rt: &impl Abort, groups: &[&[u64]]) -> Code {
         }
     }
     code
+}
+
+/// The tiling that has the code with these groups.
+pub(crate) fn laid(rt: &impl Abort, groups: &[&[u64]]) -> Tiling {
+    let code = code_with(rt, groups);
+    assert!(rt; code.groups() > 0);
+    match lay_code(&code) {
+        Ok(tiling) => tiling,
+        Err(_) => panic!(rt; "it is laid"),
+    }
 }

@@ -87,22 +87,23 @@ pub mark-within : (q : Square) (x y : ℕ) → is_at_edge q y ≡ false → x �
 mark-within q x y a b c = mark-none q x y (and_right _ _ a) (and_right _ _ a) (and_left _ _ (or_from _ _ (ne_eqb x q.x b) (ne_eqb x (q.x + q.s) c)))
 
 -- what was drawn between two columns, at a point between them and at another
-pub at_between : (q : Square) (y from to : ℕ) (before after : List ℕ) → IsDrawnBetween q y from to before after → (x : ℕ) → x < length before
+pub at_between : (q : Square) (y from to : ℕ) (before after : List ℕ) → IsDrawnBetween (λ x. mark_of q x y) from to before after → (x : ℕ) → x < length before
     → from ≤ x → x < to
     → slice_index after x ≡ seen (slice_index before x) (mark_of q x y)
 at_between q y from to before after drawn x below low high = drawn x below ∙ cond-true _ _ _ (and_from _ _ (le-leb from x low) (lt-ltb x to high))
 
 -- and at another point stands what stood there
-pub at_other : (q : Square) (y from to : ℕ) (before after : List ℕ) → IsDrawnBetween q y from to before after → (x : ℕ) → x < length before
+pub at_other : (q : Square) (y from to : ℕ) (before after : List ℕ) → IsDrawnBetween (λ x. mark_of q x y) from to before after → (x : ℕ) → x < length before
     → (x < from) ⊎ (to ≤ x)
     → slice_index after x ≡ slice_index before x
 at_other q y from to before after drawn x below (inl h) = drawn x below ∙ cond-false _ _ _ (and_left _ _ (lt-leb from x h))
 at_other q y from to before after drawn x below (inr h) = drawn x below ∙ cond-false _ _ _ (and_right _ _ (le-ltb x to h))
 
 -- one more point was drawn
-pub between-more : (q : Square) (y from k : ℕ) (before now : List ℕ) (v : ℕ) → IsDrawnBetween q y from k before now → from ≤ k → k < length before
+pub between-more : (q : Square) (y from k : ℕ) (before now : List ℕ) (v : ℕ) → IsDrawnBetween (λ x. mark_of q x y) from k before now → from ≤ k
+    → k < length before
     → length now ≡ length before
-    → v ≡ seen (slice_index now k) (mark_of q k y) → IsDrawnBetween q y from (k + 1) before (set now k v)
+    → v ≡ seen (slice_index now k) (mark_of q k y) → IsDrawnBetween (λ x. mark_of q x y) from (k + 1) before (set now k v)
 between-more q y from k before now v drawn order within same is x below = cases (lt_or_eq_or_gt x k)
   where
     unchanged : (b : Bool) → nat_lt x k ≡ b → nat_lt x (k + 1) ≡ b
@@ -135,7 +136,8 @@ drawn_over-more squares k d y before after below same drawn over x within =
     over x fits ∙ ap (λ n. seen n (mark_of (get_or squares k d) x y)) (drawn x fits) ∙ sym (drawn-more squares k d x y below)
 
 -- all points from the left to the right side were drawn: so the square was
-pub over_from_edge : (q : Square) (y : ℕ) (before after : List ℕ) → IsDrawnBetween q y q.x (q.x + q.s + 1) before after → IsDrawnOver q y before after
+pub over_from_edge : (q : Square) (y : ℕ) (before after : List ℕ) → IsDrawnBetween (λ x. mark_of q x y) q.x (q.x + q.s + 1) before after
+    → IsDrawnOver q y before after
 over_from_edge q y before after drawn x below = cases (lt_or_eq_or_gt x q.x) (lt_or_eq_or_gt x (q.x + q.s))
   where
     outside : (x < q.x) ⊎ (q.x + q.s < x) → (x < q.x) ⊎ (q.x + q.s + 1 ≤ x) → slice_index after x ≡ seen (slice_index before x) (mark_of q x y)
@@ -156,7 +158,8 @@ over_from_edge q y before after drawn x below = cases (lt_or_eq_or_gt x q.x) (lt
 
 -- a square that the row meets between its edges is drawn by the points of its two sides
 pub over_from_sides : (q : Square) (y : ℕ) (before mid after : List ℕ) → is_along q y ≡ true → is_at_edge q y ≡ false → length mid ≡ length before
-    → IsDrawnBetween q y q.x (q.x + 1) before mid → IsDrawnBetween q y (q.x + q.s) (q.x + q.s + 1) mid after → IsDrawnOver q y before after
+    → IsDrawnBetween (λ x. mark_of q x y) q.x (q.x + 1) before mid → IsDrawnBetween (λ x. mark_of q x y) (q.x + q.s) (q.x + q.s + 1) mid after
+    → IsDrawnOver q y before after
 over_from_sides q y before mid after along edge same left right x below = cases (lt_or_eq_or_gt x q.x) (lt_or_eq_or_gt x (q.x + q.s))
   where
     some : 0 < q.s

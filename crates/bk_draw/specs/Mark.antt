@@ -24,9 +24,9 @@ abbrev pub IsDrawnOver : Square → ℕ → List ℕ → List ℕ → Type 0
 IsDrawnOver q y before after =
     (x : ℕ) → x < length before → slice_index after x ≡ seen (slice_index before x) (mark_of q x y)
 
--- the square was drawn over the points of a row from one column on to before another, and no other point was changed
-abbrev pub IsDrawnBetween : Square → ℕ → ℕ → ℕ → List ℕ → List ℕ → Type 0
-IsDrawnBetween q y from to before after =
+-- these marks were drawn over the points of a row from one column on to before another, and no other point was changed
+abbrev pub IsDrawnBetween : (ℕ → ℕ) → ℕ → ℕ → List ℕ → List ℕ → Type 0
+IsDrawnBetween mark from to before after =
     (x : ℕ) → x < length before
     → slice_index after x
-    ≡ (if nat_le from x && nat_lt x to then seen (slice_index before x) (mark_of q x y) else slice_index before x)
+    ≡ (if nat_le from x && nat_lt x to then seen (slice_index before x) (mark x) else slice_index before x)

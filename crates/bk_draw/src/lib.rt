@@ -3,12 +3,14 @@
 
 ghost use Rattle.std.specs.Prelude.{[], length, slice_index, ℕ, ◌&&◌, ◌+◌, ◌++◌, ◌<◌, ◌==◌, ◌^◌, ◌||◌, ◌≡◌, ◌≤◌, ◌∷◌};
 ghost use Rattle.bk_draw.specs.Drawing.{character, drawing_row, is_across, is_along};
-ghost use Rattle.bk_draw.specs.DrawingLaws.{NoRowEndsWithASpace};
 ghost use Rattle.bk_draw.specs.Mark.{IsDrawnBetween, IsDrawnOver, mark_of, seen};
 ghost use Rattle.bk_tiling.specs.Point.{is_at_edge, is_at_side};
 
+mod laws;
+
 use arrayvec::ArrayVec;
 use bk_tiling::{Square, Tiling};
+pub use laws::no_row_ends_with_a_space;
 
 /// No rectangle that is wider or higher is drawn.
 pub const LARGEST_DRAWN: u64 = 400;
@@ -70,7 +72,7 @@ fn draw_points(points: &mut [u8], q: Square, y: u64, from: usize, to: usize)
     requires within { to ≤ length points.old }
     requires right { q.x + q.s < 2 ^ 64 }
     requires bottom { q.y + q.s < 2 ^ 64 }
-    ensures { IsDrawnBetween q y from to points.old points.new }
+    ensures { IsDrawnBetween (λ x. mark_of q x y) from to points.old points.new }
 {
     for x in from..to {
         points[x] = seen(points[x], mark_of(q, x as u64, y));
@@ -140,8 +142,3 @@ fn is_along(q: Square, y: u64) -> bool
 {
     q.y <= y && y <= q.y + q.s
 }
-
-/// No row ends with a space, since its last point lies on a right side.
-pub fn no_row_ends_with_a_space()
-    ensures { NoRowEndsWithASpace }
-{}

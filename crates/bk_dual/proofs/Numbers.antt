@@ -66,9 +66,9 @@ module _ (squares : List Square) (ordered : InCodeOrder squares) (q : Square) (o
       }
 
   -- so many come no later
-  pub counted : (k : ℕ) → k ≤ length squares → IsPartitionPoint (λ r. is_no_later q.x q.y r ≡ true) (λ r. is_no_later q.x q.y r ≡ false) squares k
+  pub count_no_later : (k : ℕ) → k ≤ length squares → IsPartitionPoint (λ r. is_no_later q.x q.y r ≡ true) (λ r. is_no_later q.x q.y r ≡ false) squares k
       → k ≡ position_or_len (stands_at q.x q.y) squares + 1
-  counted k within parts = omega (arith, has_place.is, last)
+  count_no_later k within parts = omega (arith, has_place.is, last)
     where
       last : k ≡ has_place.place + 1
       last = by (cases_lt has_place.place k)

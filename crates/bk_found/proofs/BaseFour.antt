@@ -54,3 +54,9 @@ sum_from ds i number unit d within few digits e u is = record {
     sum = ap (λ n. d * unit + n) quarter ∙ ap (λ z. d * z + begun_by 63 (drop (i + 1) ds)) u
         ∙ ap (λ z. z * 4 ^ 63 + begun_by 63 (drop (i + 1) ds)) is ∙ sym (begun-cons 63 (get_or ds i 0) (drop (i + 1) ds))
         ∙ sym (ap (begun_by 64) (drop_more ds i 0 within))
+
+-- one digit more stands in front of a number's digits
+pub digit_before : (d n unit : ℕ) (ds : List ℕ) → length ds ≤ 63 → unit ≡ 4 ^ 63 → n ≡ begun_by 64 ds → d * unit + n / 4 ≡ begun_by 64 (d ∷ ds)
+digit_before d n unit ds few u e =
+    let quarter : n / 4 ≡ begun_by 63 ds = omega (arith, e, begun_roomier 63 ds few) in
+    ap (λ z. d * z + n / 4) u ∙ ap (λ z. d * 4 ^ 63 + z) quarter ∙ sym (begun-cons 63 d ds)

@@ -31,8 +31,8 @@ use Rattle.bk_found.proofs.PrimitiveFlow.{same_levels, signed_flow_is_primitive}
 use Rattle.bk_found.specs.Candidate.{IsCandidateOf, TheCandidateIsTheTiling, candidate_square, candidate_squares, level_in, line_place}
 use Rattle.bk_found.specs.Candidate.{placed_square, right_edges, right_edges_from}
 use Rattle.bk_layout.proofs.FreeCuts.KnownLines.{known_lines}
-use Rattle.bk_layout.proofs.SignedWords.SignedWires.{ends_below, square_apart, square_below}
-use Rattle.bk_layout.proofs.SignedWords.SignedFlows.{hangs_by_flow, potential_is, signed_sides_are_the_one_flow, top_potential}
+use Rattle.bk_layout.proofs.SignedWords.SignedFlows.{ends_below, hangs_by_flow, potential_is, signed_sides_are_the_one_flow, square_apart, square_below}
+use Rattle.bk_layout.proofs.SignedWords.SignedFlows.{top_potential}
 use Rattle.bk_layout.proofs.Lists.NumberedLists.{numbers_all, numbers_each, numbers_index, numbers_length}
 use Rattle.bk_layout.specs.SignedFlow.{signed_flow, signed_side, upper_end}
 use Rattle.bk_layout.specs.SignedWord.{IsSignedWordOf, left_edge, line_column, right_edge}

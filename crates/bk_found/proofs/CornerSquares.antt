@@ -22,7 +22,7 @@ use Rattle.bk_layout.proofs.TilingLayouts.TilingSquares.{in_square}
 use Rattle.bk_layout.specs.TilingLayout.{node_above, square_of}
 use Rattle.bk_layout.proofs.FreeCuts.CutByNodes.{as_many_sides}
 use Rattle.bk_layout.specs.LineNumbers.{lefts_of, square_lines}
-use Rattle.bk_layout.proofs.SignedWords.SignedWires.{ends_below, pair_is, square_below}
+use Rattle.bk_layout.proofs.SignedWords.SignedFlows.{ends_below, pair_is, square_below}
 use Rattle.bk_layout.proofs.Lists.SignedTotals.{finish_of, start_of}
 use Rattle.bk_layout.specs.SignedWord.{IsSignedWordOf}
 use Rattle.bk_layout.proofs.NormalImages.LayoutSides.{at_top, on_bottom}

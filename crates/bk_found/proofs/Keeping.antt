@@ -1,6 +1,6 @@
 -- Numbers that are kept: one put behind them, and the upper half of those that ascend dropped.
 use Rattle.std.proofs.Common.{Contains, IsSome, IsSomeAnd, List, None, Option, Some, [], arith, drop, inl, inr, length, refl, slice_index, subst}
-use Rattle.std.proofs.Common.{suc, sym, take, zero, ℕ, ◌++◌, ◌+◌, ◌/◌, ◌<◌, ◌∙◌, ◌∷◌, ◌≡◌, ◌≤◌, ◌⊎◌}
+use Rattle.std.proofs.Common.{suc, sym, take, zero, ℕ, ◌++◌, ◌/◌, ◌<◌, ◌∙◌, ◌∷◌, ◌≡◌, ◌≤◌, ◌⊎◌}
 use Rattle.std.proofs.lemmas.List.{take-append-drop}
 use Rattle.std.proofs.lemmas.List.Elements.{All-contains, All-from_recursion, Contains-append_cases, Contains-append_left}
 use Rattle.std.proofs.lemmas.List.Elements.{Contains-push, Contains-push_cases}

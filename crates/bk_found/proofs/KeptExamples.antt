@@ -1,5 +1,5 @@
 -- A table that keeps 3, 5 and 8, and dropped 9.
-use Rattle.std.proofs.Common.{List, Some, [], arith, inl, inr, lit<, lit≤, refl, suc, zero, ℕ, ◌∷◌, ◌≡◌, ◌≤◌, ◌<◌}
+use Rattle.std.proofs.Common.{List, Some, [], arith, inl, inr, lit<, lit≤, refl, suc, zero, ℕ, ◌∷◌, ◌≡◌}
 use Rattle.bk_found.specs.KeptNumbers.{HasMoreDifferent, Holds, IsFirstFrom, IsKeptTable, IsPlaceOf, Numbers}
 
 abbrev kept : List ℕ

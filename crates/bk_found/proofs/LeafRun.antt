@@ -18,7 +18,7 @@ use Rattle.bk_word_net.specs.WordNet.{net_of_word}
 use Rattle.bk_layout.specs.SignedWord.{IsSignedWordOf}
 use Rattle.bk_found.proofs.Leaves.{accepted_found, currents_many, currents_small, ends_within, height_found, in_order_found, joined, lines_known}
 use Rattle.bk_found.proofs.Leaves.{no_zero_found, nodes_few, sides_found, total_small, width_found, wires_are}
-use Rattle.bk_found.proofs.LevelSteps.{fits_small}
+use Rattle.bk_found.proofs.LevelSteps.{fits_small, told_lines}
 use Rattle.bk_layout.specs.LineNumbers.{lefts_of}
 use Rattle.bk_layout.proofs.FreeCuts.CutByNodes.{as_many_lefts}
 use Rattle.bk_found.specs.Placing.{AreKnownLines, AreLevels, AreSmallNumbers, EndWithin, HasLevels, IsPlacedAt, IsSmallNumber, edges_by_lefts}
@@ -117,22 +117,24 @@ module _ (w : Word) (complete : IsComplete w) (few : order_of w ≤ 16) (net : N
 
           module _ (lefts : List ℕ) (lefts_is : lefts ≡ lefts_of w) (held : ℤ) (held_is : held ≡ total) (rights : List ℤ)
               (edges : rights ≡ edges_by_lefts held lefts shown) (squares : List Square) (many : length squares ≡ length lefts)
-              (each : (k : ℕ) → k < length lefts → IsPlacedAt lefts wires shown levels rights held k
+              (each : (k : ℕ) → k < length lefts → IsPlacedAt (told_lines lefts wires shown rights held) levels k
               (slice_index_or squares k (record { x = 0; y = 0; s = 0 }))) where
             word_edges : rights ≡ edges_by_lefts total (lefts_of w) currents
             word_edges = edges ∙ (λ i. edges_by_lefts (held_is i) (lefts_is i) (shown_is i))
 
             word_each : (k : ℕ) → k < length (lefts_of w)
-                → IsPlacedAt (lefts_of w) (net_of_word w).wires currents levels rights total k (slice_index_or squares k (record { x = 0; y = 0; s = 0 }))
+                → IsPlacedAt (told_lines (lefts_of w) (net_of_word w).wires currents rights total) levels k
+                (slice_index_or squares k (record { x = 0; y = 0; s = 0 }))
             word_each = subst (λ (ls : List ℕ). (k : ℕ) → k < length ls
-                → IsPlacedAt ls (net_of_word w).wires currents levels rights total k (slice_index_or squares k (record { x = 0; y = 0; s = 0 }))) lefts_is
+                → IsPlacedAt (told_lines ls (net_of_word w).wires currents rights total) levels k
+                (slice_index_or squares k (record { x = 0; y = 0; s = 0 }))) lefts_is
                 (subst (λ (ws : List (ℕ × ℕ)). (k : ℕ) → k < length lefts
-                → IsPlacedAt lefts ws currents levels rights total k (slice_index_or squares k (record { x = 0; y = 0; s = 0 })))
+                → IsPlacedAt (told_lines lefts ws currents rights total) levels k (slice_index_or squares k (record { x = 0; y = 0; s = 0 })))
                 (all_wires wires wires_is)
                 (subst (λ (cs : List ℤ). (k : ℕ) → k < length lefts
-                → IsPlacedAt lefts wires cs levels rights total k (slice_index_or squares k (record { x = 0; y = 0; s = 0 }))) shown_is
+                → IsPlacedAt (told_lines lefts wires cs rights total) levels k (slice_index_or squares k (record { x = 0; y = 0; s = 0 }))) shown_is
                 (subst (λ (z : ℤ). (k : ℕ) → k < length lefts
-                → IsPlacedAt lefts wires shown levels rights z k (slice_index_or squares k (record { x = 0; y = 0; s = 0 }))) held_is each)))
+                → IsPlacedAt (told_lines lefts wires shown rights z) levels k (slice_index_or squares k (record { x = 0; y = 0; s = 0 }))) held_is each)))
 
             pub leaf_run : IsLeafRun w width height squares
             leaf_run = record {

@@ -31,6 +31,7 @@ use Rattle.bk_layout.specs.LineNumbers.{lefts_of, square_lines}
 use Rattle.bk_layout.proofs.FreeCuts.CutByNodes.{as_many_lefts}
 use Rattle.bk_layout.proofs.FreeCuts.KnownLines.{known_lines}
 use Rattle.bk_layout.specs.SignedWord.{IsSignedWordOf}
+use Rattle.bk_found.proofs.LevelSteps.{told_lines}
 use Rattle.bk_found.proofs.Candidates.{the_candidate_is_the_tiling}
 use Rattle.bk_found.specs.Candidate.{IsCandidateOf, candidate_square, candidate_squares, level_in, line_place, placed_square, right_edges_from}
 use Rattle.bk_found.proofs.FoundSides.{magnitudes_are_sides}
@@ -137,7 +138,8 @@ module _ (w : Word) (complete : IsComplete w) (few : order_of w ≤ 16) where
       module _ (rights : List ℤ) (squares : List Square) (edges : rights ≡ edges_by_lefts total (lefts_of w) currents)
           (many : length squares ≡ length (lefts_of w))
           (each : (k : ℕ) → k < length (lefts_of w)
-          → IsPlacedAt (lefts_of w) (net_of_word w).wires currents levels rights total k (slice_index_or squares k (record { x = 0; y = 0; s = 0 }))) where
+          → IsPlacedAt (told_lines (lefts_of w) (net_of_word w).wires currents rights total) levels k
+          (slice_index_or squares k (record { x = 0; y = 0; s = 0 }))) where
         edges_are : rights ≡ right_edges_from total [] (square_lines w) currents
         edges_are = edges ∙ edges_told total [] (square_lines w) currents
 

@@ -10,6 +10,7 @@ use Rattle.std.proofs.lemmas.List.{get_or-map, get_or-set_other, get_or-set_same
 use Rattle.bk_laws.proofs.ListPlaces.{get_back, get_front}
 use Rattle.bk_tiling.specs.declared.Square.{Square}
 use Rattle.bk_found.specs.Candidate.{line_place, right_edges_from}
+use Rattle.bk_found.specs.ToldCorners.{Lines}
 use Rattle.bk_found.specs.Placing.{AreKnownLines, AreLevels, AreSmallNumbers, EndWithin, HasLevels, IsPlacedAt, IsSmallNumber, by_lefts, edges_by_lefts}
 
 -- a sum of two small numbers is as small as both bounds together
@@ -173,23 +174,28 @@ edges_more lefts currents rights total i right edges within long known small tot
 
 -- ---- squares
 
+-- lines of which the last node isn't told
+abbrev pub told_lines : List ℕ → List (ℕ × ℕ) → List ℤ → List ℤ → ℤ → Lines
+told_lines lefts wires currents rights total =
+    record { wires = wires; currents = currents; lefts = lefts; rights = rights; total = total; last = 0 }
+
 -- so many squares stand as they should
 pub record ArePlaced (lefts : List ℕ) (wires : List (ℕ × ℕ)) (currents levels rights : List ℤ) (total : ℤ) (squares : List Square) (n : ℕ) : Type 0 where
   pub many : length squares ≡ n
-  pub each : (k : ℕ) → k < n → IsPlacedAt lefts wires currents levels rights total k (slice_index_or squares k (record { x = 0; y = 0; s = 0 }))
+  pub each : (k : ℕ) → k < n → IsPlacedAt (told_lines lefts wires currents rights total) levels k (slice_index_or squares k (record { x = 0; y = 0; s = 0 }))
 
 -- one square more, at its level and its line
 pub placed_more : (lefts : List ℕ) (wires : List (ℕ × ℕ)) (currents levels rights : List ℤ) (total : ℤ) (squares : List Square) (n : ℕ) (q : Square)
     → ArePlaced lefts wires currents levels rights total squares n
-    → IsPlacedAt lefts wires currents levels rights total n q → ArePlaced lefts wires currents levels rights total (squares ++ q ∷ []) (n + 1)
+    → IsPlacedAt (told_lines lefts wires currents rights total) levels n q → ArePlaced lefts wires currents levels rights total (squares ++ q ∷ []) (n + 1)
 placed_more lefts wires currents levels rights total squares n q placed new =
     record { many = omega (arith, placed.many, length-append squares (q ∷ [])); each = λ k h. each k h (cases_lt k n) }
   where
     each : (k : ℕ) → k < n + 1 → (k < n) ⊎ (n ≤ k)
-        → IsPlacedAt lefts wires currents levels rights total k (slice_index_or (squares ++ q ∷ []) k (record { x = 0; y = 0; s = 0 }))
+        → IsPlacedAt (told_lines lefts wires currents rights total) levels k (slice_index_or (squares ++ q ∷ []) k (record { x = 0; y = 0; s = 0 }))
     each k h (inl l) = get_front squares (q ∷ []) k (record { x = 0; y = 0; s = 0 }) (omega (arith, l, placed.many)) ∙ placed.each k l
     each k h (inr l) = get_back squares (q ∷ []) 0 k (record { x = 0; y = 0; s = 0 }) (omega (arith, l, h, placed.many))
-        ∙ subst (λ (i : ℕ). IsPlacedAt lefts wires currents levels rights total i q) same new
+        ∙ subst (λ (i : ℕ). IsPlacedAt (told_lines lefts wires currents rights total) levels i q) same new
       where
         same : n ≡ k
         same = omega (arith, l, h)

@@ -19,7 +19,7 @@ use Rattle.bk_layout.specs.TilingLayout.{square_of}
 use Rattle.bk_found.proofs.OtherOrder.{in_other, number_in}
 use Rattle.bk_found.specs.Candidate.{level_in}
 use Rattle.bk_layout.proofs.Lists.NumberedLists.{at_number}
-use Rattle.bk_layout.proofs.SignedWords.SignedWires.{square_apart, square_below}
+use Rattle.bk_layout.proofs.SignedWords.SignedFlows.{square_apart, square_below}
 use Rattle.bk_layout.specs.SignedFlow.{signed_flow, signed_side}
 use Rattle.bk_layout.specs.SignedWord.{IsSignedWordOf}
 

@@ -1,5 +1,5 @@
 -- The digits of a number, and words that begin alike.
-use Rattle.std.proofs.Common.{[], ap, arith, refl, suc, zero, ℕ, ◌+◌, ◌∷◌, ◌≡◌, ◌++◌}
+use Rattle.std.proofs.Common.{[], ap, arith, refl, suc, zero, ℕ, ◌∷◌, ◌≡◌, ◌++◌}
 use Rattle.bk_word.specs.Word.{Word}
 use Rattle.bk_word.specs.declared.Sign.TheVariants.{Above, Under}
 use Rattle.bk_found.specs.Packed.{packed}

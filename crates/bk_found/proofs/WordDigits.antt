@@ -1,9 +1,9 @@
 -- The digits of a word: two for the count of each move and one for each of its signs, at most four for each square.
 use Rattle.std.specs.List.{AllByRecursion}
-use Rattle.std.proofs.Common.{List, Some, [], ap, append-nil, append_assoc, arith, length, length-append, map, refl, slice_get, suc, sym, take, zero}
+use Rattle.std.proofs.Common.{List, Some, [], ap, append-nil, append_assoc, arith, drop, length, length-append, map, refl, slice_get, suc, sym, take, zero}
 use Rattle.std.proofs.Common.{ℕ, ◌%◌, ◌*◌}
 use Rattle.std.proofs.Common.{◌++◌, ◌+◌, ◌-◌, ◌/◌, ◌<◌, ◌^◌, ◌∙◌, ◌∷◌, ◌≡◌, ◌≤◌}
-use Rattle.std.proofs.lemmas.List.{length-map}
+use Rattle.std.proofs.lemmas.List.{length-map, take-append-drop}
 use Rattle.bk_laws.proofs.AllOfLists.{all_append}
 use Rattle.bk_laws.proofs.Multiples.{pow_four-suc}
 use Rattle.bk_word.specs.Outline.{Outline}
@@ -15,7 +15,7 @@ use Rattle.bk_word.proofs.StoredBytes.{order_more}
 use Rattle.bk_play.specs.Skeleton.{signs_of}
 use Rattle.bk_found.specs.Packed.{AreDigits, begun_by, move_digits, word_digits}
 use Rattle.bk_word.proofs.PlayLaws.{few_signs}
-use Rattle.bk_found.proofs.BaseFour.{begun-cons}
+use Rattle.bk_found.proofs.BaseFour.{begun-cons, begun_roomier}
 
 sign_small : (s : Sign) → sign_place s < 4
 sign_small Above = omega arith
@@ -41,6 +41,13 @@ count_digits room count rest =
   where
     parts : (a b c p : ℕ) → 4 * a + b ≡ c → a * (4 * p) + b * p ≡ c * p
     parts a b c p e = let f = ap (λ z. z * p) e in omega (arith, f)
+
+-- the two digits of a count stand in front of a number's digits
+pub count_before : (count n unit : ℕ) (ds : List ℕ) → length ds ≤ 62 → unit ≡ 4 ^ 62 → n ≡ begun_by 64 ds
+    → (count - 1) * unit + n / 16 ≡ begun_by 64 ((count - 1) / 4 ∷ (count - 1) % 4 ∷ ds)
+count_before count n unit ds few u e =
+    let sixteenth : n / 16 ≡ begun_by 62 ds = omega (arith, e, begun_roomier 63 ds (omega (arith, few)), begun_roomier 62 ds few) in
+    ap (λ z. (count - 1) * z + n / 16) u ∙ ap (λ z. (count - 1) * 4 ^ 62 + z) sixteenth ∙ sym (count_digits 62 count ds)
 
 -- a legal word has at most four digits for each of its squares
 pub few_digits : (o : Outline) (w : Word) → AreLegalFrom o w → length (word_digits w) ≤ 4 * order_of w
@@ -101,6 +108,23 @@ digits_room (k ∷ w) (suc i) m is = omega (
 pub digits_join : (v w : Word) → word_digits (v ++ w) ≡ word_digits v ++ word_digits w
 digits_join [] w = refl
 digits_join (m ∷ v) w = ap (λ z. move_digits m ++ z) (digits_join v w) ∙ sym (append_assoc (move_digits m) (word_digits v) (word_digits w))
+
+-- a move's digits, those behind it and those of one move more have the room of all
+pub digits_behind : (w : Word) (m : Move) (i : ℕ) (n : Move) → slice_get w i ≡ Some n
+    → length n.signs + length (word_digits (drop (i + 1) w ++ m ∷ [])) + 2 ≤ length (word_digits w) + length m.signs + 2
+digits_behind w m i n is = omega (
+  arith,
+  ap (λ (z : List ℕ). length z) (digits_join (drop (i + 1) w) (m ∷ [])),
+  length-append (word_digits (drop (i + 1) w)) (word_digits (m ∷ [])),
+  ap (λ (z : List ℕ). length z) (append-nil (move_digits m)),
+  length-map m.signs sign_place,
+  ap (λ v. length (word_digits v)) (take-append-drop (i + 1) w),
+  ap (λ (z : List ℕ). length z) (digits_join (take (i + 1) w) (drop (i + 1) w)),
+  length-append (word_digits (take (i + 1) w)) (word_digits (drop (i + 1) w)),
+  ap (λ (z : List ℕ). length z) (digits_next w i n is),
+  length-append (word_digits (take i w)) (move_digits n),
+  length-map n.signs sign_place,
+)
 
 -- a word has two digits for each move, and one for each sign
 pub digits_count : (w : Word) → 2 * length w + length (signs_of w) ≡ length (word_digits w)

@@ -4,7 +4,8 @@
 -- not 4. There the place of 5 is 1, and the first from 4 on is 5. Of 3, 5, 3 and 8 there are more different ones than
 -- two, and not more than three.
 use Rattle.std.specs.List.{AllByRecursion}
-use Rattle.std.specs.Prelude.{Contains, List, Option, Some, [], drop, length, take, ℕ, ⊤, ◌<◌, ◌∷◌, ◌≡◌, ◌≤◌, ◌⊎◌}
+use Rattle.std.specs.Prelude.{Contains, List, Option, Some, drop, length, take, ℕ, ◌<◌, ◌≡◌, ◌≤◌, ◌⊎◌}
+use Rattle.bk_catalogue.specs.Ascending.{Ascends}
 
 -- the numbers, and the least that was dropped, if one was
 pub record Numbers : Type 0 where
@@ -12,8 +13,7 @@ pub record Numbers : Type 0 where
   pub limit : Option ℕ
 
 abbrev pub AreAscendingNumbers : List ℕ → Type 0
-AreAscendingNumbers [] = ⊤
-AreAscendingNumbers (x ∷ xs) = AllByRecursion (λ y. x < y) xs × AreAscendingNumbers xs
+AreAscendingNumbers numbers = Ascends (λ (x y : ℕ). x < y) numbers
 
 -- dropped, or from there on: so greater than all that are kept
 pub record IsBeyond (t : Numbers) (x : ℕ) : Type 0 where

@@ -1,6 +1,7 @@
 -- What the code of a leaf works with: levels and places as whole numbers.
 use Rattle.std.specs.Prelude.{List, [], length, map, neg_ℤ, pos, slice_index_or, ℕ, ℤ, ◌+ℤ◌, ◌+◌, ◌<◌, ◌≡◌, ◌≤ℤ◌, ◌⊎◌}
 use Rattle.bk_tiling.specs.declared.Square.{Square}
+use Rattle.bk_found.specs.ToldCorners.{Lines}
 use Rattle.bk_found.specs.Candidate.{line_place, placed_square, right_edges_from}
 
 -- the magnitude is at most so much; that of each number is
@@ -42,10 +43,9 @@ HasLevels wires at levels = (k : ℕ) → k < length wires
     × (slice_index_or levels (slice_index_or wires k (0, 0)).1 (pos 0) ≡ at (slice_index_or wires k (0, 0)).1)
 
 -- the square at a place stands between its lines and the levels of its nodes
-abbrev pub IsPlacedAt : List ℕ → List (ℕ × ℕ) → List ℤ → List ℤ → List ℤ → ℤ → ℕ → Square → Type 0
-IsPlacedAt lefts wires currents levels rights total k q = q ≡ placed_square
-    (line_place total rights (slice_index_or lefts k 0))
-    (slice_index_or rights k (pos 0))
-    (slice_index_or levels (slice_index_or wires k (0, 0)).0 (pos 0))
-    (slice_index_or levels (slice_index_or wires k (0, 0)).1 (pos 0))
-    (slice_index_or currents k (pos 0))
+abbrev pub IsPlacedAt : Lines → List ℤ → ℕ → Square → Type 0
+IsPlacedAt l levels k q = q ≡ placed_square (line_place l.total l.rights (slice_index_or l.lefts k 0))
+    (slice_index_or l.rights k (pos 0))
+    (slice_index_or levels (slice_index_or l.wires k (0, 0)).0 (pos 0))
+    (slice_index_or levels (slice_index_or l.wires k (0, 0)).1 (pos 0))
+    (slice_index_or l.currents k (pos 0))

@@ -1,7 +1,7 @@
 //! Digits of base 4, from the top of 128 bits.
 #![tactic(auto)]
 
-ghost use Rattle.std.specs.Prelude.{[], length, map, ◌%◌, ◌++◌, ◌+◌, ◌-◌, ◌/◌, ◌<◌, ◌∷◌, ◌≡◌, ◌≤◌};
+ghost use Rattle.std.specs.Prelude.{List, [], length, map, ℕ, ◌%◌, ◌++◌, ◌+◌, ◌-◌, ◌/◌, ◌<◌, ◌∷◌, ◌≡◌, ◌≤◌};
 ghost use Rattle.bk_word.specs.Word.{sign_place};
 ghost use Rattle.bk_found.specs.Packed.{AreDigits, begun_by, digit_at, move_digits};
 
@@ -13,6 +13,9 @@ pub(crate) const MOST_DIGITS: usize = 64;
 
 // The unit of the first of them, the power 63 of 4.
 const FIRST_UNIT: u128 = 0x4000_0000_0000_0000_0000_0000_0000_0000;
+
+// The unit of the second, the power 62 of 4.
+const SECOND_UNIT: u128 = 0x1000_0000_0000_0000_0000_0000_0000_0000;
 
 // Appends the digits of a move.
 pub(crate) fn push_digits(digits: &mut ArrayVec<u8, MOST_DIGITS>, m: &Move)
@@ -78,6 +81,30 @@ pub(crate) fn number_of(digits: &[u8]) -> u128
     'digits: while i > 0 {
         i -= 1;
         number = u128::from(digits[i]) * FIRST_UNIT + number / 4;
+    }
+    number
+}
+
+// The number of 64 digits that begins with those of a move's count and signs and goes on with those of a number.
+pub(crate) fn move_before(count: u8, signs: &[Sign], behind: u128) -> u128
+    requires some { 0 < count }
+    requires few { count ≤ 16 }
+    ensures { (ds : List ℕ) → length signs.now + length ds + 2 ≤ 64 → behind ≡ begun_by 64 ds
+        → result ≡ begun_by 64 ((count - 1) / 4 ∷ (count - 1) % 4 ∷ map sign_place signs.now ++ ds) }
+{
+    u128::from(count - 1) * SECOND_UNIT + signs_before(signs, behind) / 16
+}
+
+// The number of 64 digits that begins with those of signs and goes on with those of a number.
+fn signs_before(signs: &[Sign], behind: u128) -> u128
+    ensures { (ds : List ℕ) → length signs.now + length ds ≤ 64 → behind ≡ begun_by 64 ds
+        → result ≡ begun_by 64 (map sign_place signs.now ++ ds) }
+{
+    let mut number = behind;
+    let mut i = signs.len();
+    'signs: while i > 0 {
+        i -= 1;
+        number = u128::from(sign_place(signs[i])) * FIRST_UNIT + number / 4;
     }
     number
 }

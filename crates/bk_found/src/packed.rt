@@ -1,7 +1,7 @@
 //! Words packed into numbers that compare as the words do.
 #![tactic(auto)]
 
-ghost use Rattle.std.specs.Prelude.{[], ◌++◌, ◌+◌, ◌<◌, ◌^◌, ◌∷◌, ◌≡◌, ◌≤◌};
+ghost use Rattle.std.specs.Prelude.{[], length, ◌++◌, ◌+◌, ◌<◌, ◌^◌, ◌∷◌, ◌≡◌, ◌≤◌};
 ghost use Rattle.bk_word.specs.Outline.{IsLegalMove};
 ghost use Rattle.bk_word.specs.Play.{IsLegal, outline_of};
 ghost use Rattle.bk_tiling.specs.Tiling.{order};
@@ -10,7 +10,7 @@ ghost use Rattle.bk_lay.specs.TilingWord.{IsWordOf};
 ghost use Rattle.bk_found.specs.Packed.{packed, word_digits};
 ghost use Rattle.bk_found.specs.TilingDigits.{HasDigitsOf};
 
-use crate::digits::{MOST_DIGITS, number_of, push_count, push_digits, push_signs};
+use crate::digits::{MOST_DIGITS, move_before, number_of, push_digits};
 use arrayvec::ArrayVec;
 use bk_lay::Turns;
 use bk_play::Skel;
@@ -76,9 +76,23 @@ pub fn number_with(skel: &Skel, m: &Move) -> u128
     requires few { order_of skel.now + m.now.count ≤ 16 }
     ensures { result ≡ packed (skel.now ++ m.now ∷ []) }
 {
-    let mut digits = played_digits(skel);
-    push_digits(&mut digits, m);
-    number_of(digits.as_slice())
+    let mut number = number_of_move(m);
+    let mut i = skel.moves();
+    'moves: while i > 0 {
+        i -= 1;
+        number = move_before(skel.count_at(i), skel.signs_at(i), number);
+    }
+    number
+}
+
+// The packed number of one move.
+fn number_of_move(m: &Move) -> u128
+    requires some { 0 < m.now.count }
+    requires few { m.now.count ≤ 16 }
+    requires room { length m.now.signs + 2 ≤ 64 }
+    ensures { result ≡ packed (m.now ∷ []) }
+{
+    move_before(m.count, m.signs.as_slice(), 0)
 }
 
 // The digits of a word.
@@ -104,20 +118,6 @@ fn digits_of_tiling(turns: &mut Turns, tiling: &Tiling) -> ArrayVec<u8, MOST_DIG
     turns.begin(tiling);
     'moves: while turns.next_in(tiling, &mut m) {
         push_digits(&mut digits, &m);
-    }
-    digits
-}
-
-// The digits of the skeleton's moves.
-fn played_digits(skel: &Skel) -> ArrayVec<u8, MOST_DIGITS>
-    requires legal { IsLegal skel.now }
-    requires few { order_of skel.now ≤ 16 }
-    ensures { result.items ≡ word_digits skel.now }
-{
-    let mut digits = ArrayVec::new();
-    'moves: for i in 0..skel.moves() {
-        push_count(&mut digits, skel.count_at(i));
-        push_signs(&mut digits, skel.signs_at(i));
     }
     digits
 }

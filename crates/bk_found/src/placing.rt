@@ -115,8 +115,8 @@ fn has_zero(currents: &[i64]) -> bool
 fn squares_at(candidate: &Candidate) -> ArrayVec<Square, INLINE_ORDER>
     ensures many { length result.items ≡ length candidate.now.lefts.now }
     ensures each { (k : ℕ) → k < length candidate.now.lefts.now
-        → IsPlacedAt candidate.now.lefts.now candidate.now.wires.now candidate.now.currents.now candidate.now.levels.now
-        candidate.now.rights.now candidate.now.total k (slice_index_or result.items k (record { x = 0; y = 0; s = 0 })) }
+        → IsPlacedAt (lines_of candidate.now) candidate.now.levels.now k
+        (slice_index_or result.items k (record { x = 0; y = 0; s = 0 })) }
 {
     let (lefts, wires, currents) = (candidate.lefts, candidate.wires, candidate.currents);
     let (levels, rights, total) = (candidate.levels, candidate.rights, candidate.total);

@@ -8,6 +8,7 @@ pub mod LeftLines
 pub mod LinesBeside
 pub mod LowLines
 pub mod OpenSegments
+pub mod OpenSquares
 pub mod RightLines
 pub mod SegmentsBehind
 pub mod TopLineExamples

@@ -12,6 +12,7 @@ use Rattle.bk_layout.specs.NormalCuts.{touched_or_wide}
 use Rattle.bk_layout.specs.StrongBound.{strong_bound_of, strong_from, weight_from, weight_of}
 use Rattle.bk_layout.specs.StrongPass.{Passed, pass_along}
 use Rattle.bk_layout.specs.WordNumbers.{first_count}
+use Rattle.bk_free_search.specs.declared.behind.Asks.{Asks}
 
 -- the marks of a word's open segments
 abbrev pub marks_of_word : Word → List Bool
@@ -69,13 +70,12 @@ joined_marks w = cond (has_right_wall (outline_of w)) (false ∷ [])
 
 -- numbers that some segments ask for, where the first of them is low at the left or not: how many moves those before
 -- them are asked for besides, how many at most one of them is, and how many squares more
-pub record AreAsks (low : Bool) (signs : List Sign) (sizes : List ℕ) (marks : List Bool)
-    (add most more : ℕ) : Type 0 where
-  pub add_is : add ≡ count_by is_under signs + weight_from low signs sizes
-  pub most_is : most ≤ strong_from low signs sizes marks
-  pub more_is : more ≡ weight_from low signs sizes
+pub record AreAsks (low : Bool) (signs : List Sign) (sizes : List ℕ) (marks : List Bool) (asks : Asks) : Type 0 where
+  pub add_is : asks.add ≡ count_by is_under signs + weight_from low signs sizes
+  pub most_is : asks.most ≤ strong_from low signs sizes marks
+  pub more_is : asks.more ≡ weight_from low signs sizes
 
 -- the numbers that the segments behind the leftmost valley ask for, with these marks
-abbrev pub AreAskedBehind : Bool → List Bool → Word → ℕ → ℕ → ℕ → Type 0
-AreAskedBehind low marks front add most more = AreAsks low (behind_signs (outline_of front))
-    (behind_sizes (outline_of front)) marks add most more
+abbrev pub AreAskedBehind : Bool → List Bool → Word → Asks → Type 0
+AreAskedBehind low marks front asks = AreAsks low (behind_signs (outline_of front)) (behind_sizes (outline_of front))
+    marks asks

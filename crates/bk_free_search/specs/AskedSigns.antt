@@ -20,7 +20,10 @@ use Rattle.bk_free_search.specs.declared.asking.Needs.{Needs}
 use Rattle.bk_free_search.specs.declared.asking.Next.{Next}
 use Rattle.bk_free_search.specs.declared.behind.Asks.{Asks}
 use Rattle.bk_free_search.specs.declared.behind.Behind.{Behind}
+use Rattle.bk_free_search.specs.declared.counts.TheConstants.{FEW, MANY}
 use Rattle.bk_free_search.specs.declared.line_set.LineSet.{LineSet}
+use Rattle.bk_free_search.specs.declared.state.Begun.{Begun}
+use Rattle.bk_free_search.specs.declared.state.Search.{Search}
 use Rattle.bk_free_search.specs.declared.strong.Passed.{Passed}
 
 -- these are places of marked segments
@@ -34,7 +37,7 @@ pub record IsAsked (front : Word) (signs : List Sign) (asked : Asked) : Type 0 w
       → IsCountedTo front m (valley_place (outline_of front).signs - 1 + length signs) (seen_passed asked.passed)
   pub low_is : 0 < length signs → asked.passed.low ≡ is_under (slice_index_or signs (length signs - 1) Above)
   pub evens_are : asked.evens ≡ count_by is_even signs
-  pub few : IsFewPassed asked.passed (450 + length signs)
+  pub few : IsFewPassed asked.passed (FEW + length signs)
 
 -- what is asked for before a next move's first sign, and with the sign even or under at a left neighbour
 pub record AreAskedBefore (front : Word) (b : Before) : Type 0 where
@@ -44,9 +47,9 @@ pub record AreAskedBefore (front : Word) (b : Before) : Type 0 where
 
 -- their numbers are small
 pub record AreFewBefore (b : Before) : Type 0 where
-  pub none : IsFewPassed b.none.passed 500
-  pub even : IsFewPassed b.even.passed 500
-  pub under : IsFewPassed b.under.passed 500
+  pub none : IsFewPassed b.none.passed (FEW + 1)
+  pub even : IsFewPassed b.even.passed (FEW + 1)
+  pub under : IsFewPassed b.under.passed (FEW + 1)
 
 -- the numbers that segments ask for are small
 pub record AreFewAsks (asks : Asks) (k : ℕ) : Type 0 where
@@ -57,12 +60,12 @@ pub record AreFewAsks (asks : Asks) (k : ℕ) : Type 0 where
 -- what the segments behind the valley ask for, by the sign before the first of them, where even joins it to the last
 -- new square
 pub record AreBehind (front : Word) (b : Behind) : Type 0 where
-  pub above : AreAskedBehind false (behind_marks front) front b.above.add b.above.most b.above.more
-  pub even : AreAskedBehind false (joined_marks front) front b.even.add b.even.most b.even.more
-  pub under : AreAskedBehind true (behind_marks front) front b.under.add b.under.most b.under.more
-  pub few_above : AreFewAsks b.above 450
-  pub few_even : AreFewAsks b.even 450
-  pub few_under : AreFewAsks b.under 450
+  pub above : AreAskedBehind false (behind_marks front) front b.above
+  pub even : AreAskedBehind false (joined_marks front) front b.even
+  pub under : AreAskedBehind true (behind_marks front) front b.under
+  pub few_above : AreFewAsks b.above (FEW + 1)
+  pub few_even : AreFewAsks b.even (FEW + 1)
+  pub few_under : AreFewAsks b.under (FEW + 1)
 
 -- how many moves are left after the next one, of the most that a word has that goes on so
 pub record AreMovesLeft (n : ℕ) (front : Word) (left : ℕ) : Type 0 where
@@ -79,9 +82,9 @@ abbrev pub IsOver : Passed → Asks → ℕ → ℕ → Type 0
 IsOver passed asks moves left = (moves < max (passed.most + asks.add) (passed.aboves + asks.most))
     ⊎ (left < max (passed.most + asks.add) (passed.aboves + asks.most) + passed.more + asks.more)
 
--- they are where fewer squares are left than this number (of up to 1000, which are more than there ever are)
+-- they are where fewer squares are left than this number, and no more than there ever are
 abbrev pub NeedsLeft : Passed → Asks → ℕ → ℕ → Type 0
-NeedsLeft passed asks moves need = (left : ℕ) → left < need → left < 1000 → IsOver passed asks moves left
+NeedsLeft passed asks moves need = (left : ℕ) → left < need → left < MANY → IsOver passed asks moves left
 
 -- such numbers of what is asked for before a next move's first sign, and with the sign even or under at a left
 -- neighbour
@@ -115,26 +118,35 @@ pub record IsNextCount (n : ℕ) (front : Word) (count : ℕ) (next : Next) : Ty
 abbrev pub asks_then : Behind → Bool → Asks
 asks_then b low = cond low b.under b.above
 
--- a next move of the order is being made, after which squares are left: so many of its squares hang, and this is known
--- of it and of what stands beside the valley
-pub record IsMoveBegun (n : ℕ) (front : Word) (m : Move) (next : Next) (around : Beside) : Type 0 where
-  pub least : 3 ≤ n
-  pub most : n ≤ 16
-  pub some : 0 < m.count
-  pub fits : order_of front + m.count < n
-  pub signs : length m.signs ≤ next.wanted
-  pub next_is : IsNextCount n front m.count next
-  pub around_is : StandBeside n front around
+-- a next move of a search is begun, after which squares are left, and this stands beside the valley
+pub record IsMoveBegun (s : Search) (b : Begun) (around : Beside) : Type 0 where
+  pub least : 3 ≤ s.order
+  pub most : s.order ≤ 16
+  pub some : 0 < b.m.count
+  pub fits : order_of s.board + b.m.count < s.order
+  pub signs : length b.m.signs ≤ b.next.wanted
+  pub next_is : IsNextCount s.order s.board b.m.count b.next
+  pub around_is : StandBeside s.order s.board around
 
 -- its signs so far are followed by those between its own squares, or by one at a right neighbour, and this is asked for
 -- with them
-pub record IsWithOwn (n : ℕ) (front : Word) (m : Move) (next : Next) (around : Beside) (asked : Asked) : Type 0 where
-  pub begun : IsMoveBegun n front m next around
-  pub asked_is : IsAsked front m.signs asked
-  pub from : open_side (has_left_wall (outline_of front)) ≤ length m.signs
-  pub own : length m.signs ≤ next.own
+pub record IsWithOwn (s : Search) (b : Begun) (around : Beside) (asked : Asked) : Type 0 where
+  pub begun : IsMoveBegun s b around
+  pub asked_is : IsAsked s.board b.m.signs asked
+  pub from : open_side (has_left_wall (outline_of s.board)) ≤ length b.m.signs
+  pub own : length b.m.signs ≤ b.next.own
+
+-- this may be its next sign: behind it stands one of its own squares, and this is asked for with it
+pub record IsOwnSign (s : Search) (b : Begun) (around : Beside) (asked : Asked) (sign : Sign) : Type 0 where
+  pub begun : IsMoveBegun s b around
+  pub asked_is : IsAsked s.board (b.m.signs ++ sign ∷ []) asked
+  pub own : length b.m.signs + 1 ≤ b.next.own
 
 -- no word of a normal layout goes on by a move of this count whose signs begin with these
 pub record BarsSigns (n : ℕ) (front : Word) (count : ℕ) (signs : List Sign) : Type 0 where
   pub barren : (other : Move) (more : List Sign) → other.count ≡ count → other.signs ≡ signs ++ more
       → IsNormalBarren n (front ++ other ∷ [])
+
+-- none does by the move that is begun with this sign next
+abbrev pub BarsNext : Search → Begun → Sign → Type 0
+BarsNext s b sign = BarsSigns s.order s.board b.m.count (b.m.signs ++ sign ∷ [])

@@ -12,10 +12,19 @@ use Rattle.bk_free_search.specs.declared.line_set.LineSet.{LineSet}
 
 -- the left and the right lines of the squares, the lines that each closed node touches, how many squares the first move
 -- hangs, and how many lie at the left wall and at the right one
-pub record IsBoardOf (w : Word) (lefts rights : List ℕ) (nodes : List LineSet) (first left right : ℕ) : Type 0 where
-  pub left_word : IsLeftWord w lefts
-  pub rights_are : rights ≡ rights_of w
-  pub node_lines : AreNodeLines w nodes
-  pub first_is : first ≡ first_count w
-  pub left_is : left ≡ left_squares w
-  pub right_is : right ≡ right_squares w
+pub record BoardLists : Type 0 where
+  pub lefts : List ℕ
+  pub rights : List ℕ
+  pub nodes : List LineSet
+  pub first : ℕ
+  pub left : ℕ
+  pub right : ℕ
+
+-- they are those of the word
+pub record IsBoardOf (w : Word) (b : BoardLists) : Type 0 where
+  pub left_word : IsLeftWord w b.lefts
+  pub rights_are : b.rights ≡ rights_of w
+  pub node_lines : AreNodeLines w b.nodes
+  pub first_is : b.first ≡ first_count w
+  pub left_is : b.left ≡ left_squares w
+  pub right_is : b.right ≡ right_squares w

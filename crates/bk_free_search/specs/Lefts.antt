@@ -1,5 +1,5 @@
 -- The line at the left edge of each square of a word, by its number.
-use Rattle.std.specs.Prelude.{List, Some, [], slice_get, slice_index_or, ℕ, ◌-◌, ◌∷◌, ◌≡◌}
+use Rattle.std.specs.Prelude.{List, [], slice_index_or, ℕ, ◌-◌, ◌∷◌, ◌≡◌}
 use Rattle.bk_word.specs.Play.{IsLegal}
 use Rattle.bk_word.specs.Word.{Word}
 use Rattle.bk_layout.specs.LineNumbers.{lefts_of}
@@ -13,10 +13,3 @@ first_left lefts (number ∷ numbers) = slice_index_or lefts (number - 1) 0
 pub record IsLeftWord (w : Word) (lefts : List ℕ) : Type 0 where
   pub legal : IsLegal w
   pub lefts_are : lefts ≡ lefts_of w
-
--- the line is at the left of one of these squares, by the left lines of all
-pub record IsLeftOfOne (lefts squares : List ℕ) (line : ℕ) : Type 0 where
-  pub place : ℕ
-  pub number : ℕ
-  pub at : slice_get squares place ≡ Some number
-  pub is : slice_index_or lefts (number - 1) 0 ≡ line

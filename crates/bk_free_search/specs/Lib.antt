@@ -14,3 +14,4 @@ pub mod Lefts
 pub mod NodeLines
 pub mod Strong
 pub mod TopLines
+pub mod Unchanged

@@ -8,6 +8,7 @@ use Rattle.bk_word.specs.Word.{Word}
 use Rattle.bk_layout.specs.LineNumbers.{square_lines}
 use Rattle.bk_layout.specs.NodeCut.{TouchesClosed}
 use Rattle.bk_free_search.specs.declared.line_set.LineSet.{LineSet}
+use Rattle.bk_free_search.specs.declared.node_lines.NewSquares.{NewSquares}
 
 -- the set has the line
 abbrev pub Has : LineSet → ℕ → Type 0
@@ -17,8 +18,34 @@ Has lines line = bit_at lines.bits line ≡ 1
 abbrev pub AreLow : List ℕ → Type 0
 AreLow lines = (k wall : ℕ) → wall ≤ 1 → slice_index_or lines k wall < 32
 
--- a set has a line of each of two others, which are not the two walls
-pub record HasPairIn (lines lefts rights : LineSet) : Type 0 where
+-- the line is at one side of one of these squares, by the lines of all squares at that side, where the wall stands
+pub record IsLineOfOne (lines squares : List ℕ) (wall line : ℕ) : Type 0 where
+  pub place : ℕ
+  pub number : ℕ
+  pub at : slice_get squares place ≡ Some number
+  pub is : slice_index_or lines (number - 1) wall ≡ line
+
+-- one of these nodes touches the line, and a line of a set
+pub record TouchesWith (nodes : List LineSet) (lines : LineSet) (line : ℕ) : Type 0 where
+  pub node : ℕ
+  pub touched : LineSet
+  pub at : slice_get nodes node ≡ Some touched
+  pub has_line : Has touched line
+  pub other : ℕ
+  pub in_lines : Has lines other
+  pub has_other : Has touched other
+
+-- one of these nodes touches a line of each of two sets
+pub record TouchBoth (nodes : List LineSet) (lefts rights : LineSet) : Type 0 where
+  pub right : ℕ
+  pub in_rights : Has rights right
+  pub touches : TouchesWith nodes lefts right
+
+-- one of these nodes touches a line of each of two sets, which are not the two walls
+pub record HasPair (nodes : List LineSet) (lefts rights : LineSet) : Type 0 where
+  pub node : ℕ
+  pub lines : LineSet
+  pub at : slice_get nodes node ≡ Some lines
   pub left : ℕ
   pub right : ℕ
   pub in_lefts : Has lefts left
@@ -26,13 +53,6 @@ pub record HasPairIn (lines lefts rights : LineSet) : Type 0 where
   pub has_left : Has lines left
   pub has_right : Has lines right
   pub not_walls : left ≡ 0 → right ≡ 1 → ⊥
-
--- so has one of some sets
-pub record HasPair (nodes : List LineSet) (lefts rights : LineSet) : Type 0 where
-  pub node : ℕ
-  pub lines : LineSet
-  pub at : slice_get nodes node ≡ Some lines
-  pub pair : HasPairIn lines lefts rights
 
 -- the line lies at a side of the square of this number, by the left and the right lines of all squares
 abbrev pub IsAtSquare : List ℕ → List ℕ → ℕ → ℕ → Type 0
@@ -52,13 +72,12 @@ pub record IsBesideNew (lefts rights : List ℕ) (hung count line : ℕ) : Type 
   pub low : k < count
   pub beside : IsAtSquare lefts rights (hung + k + 1) line
 
--- so many new squares, where so many were hung before, stand between these two lines, and each two of them at a line of
--- their own
-pub record StandBetween (lefts rights : List ℕ) (hung count first last : ℕ) : Type 0 where
-  pub first_is : slice_index_or lefts hung 0 ≡ first
-  pub last_is : slice_index_or rights (hung + count - 1) 1 ≡ last
-  pub lefts_are : (k : ℕ) → k + 1 < count → slice_index_or lefts (hung + k + 1) 0 ≡ hung + k + 2
-  pub rights_are : (k : ℕ) → k + 1 < count → slice_index_or rights (hung + k) 1 ≡ hung + k + 2
+-- new squares stand between their two lines, and each two of them at a line of their own
+pub record StandBetween (lefts rights : List ℕ) (new : NewSquares) : Type 0 where
+  pub first_is : slice_index_or lefts new.hung 0 ≡ new.first
+  pub last_is : slice_index_or rights (new.hung + new.count - 1) 1 ≡ new.last
+  pub lefts_are : (k : ℕ) → k + 1 < new.count → slice_index_or lefts (new.hung + k + 1) 0 ≡ new.hung + k + 2
+  pub rights_are : (k : ℕ) → k + 1 < new.count → slice_index_or rights (new.hung + k) 1 ≡ new.hung + k + 2
 
 -- for each closed node of the word the set of the lines that touch it; lines with numbers of 32 and more may be left
 -- out

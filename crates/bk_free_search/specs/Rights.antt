@@ -1,5 +1,5 @@
 -- The line at the right edge of each square of a word, by its number.
-use Rattle.std.specs.Prelude.{List, Some, [], map, slice_get, slice_index_or, ℕ, ◌-◌, ◌∷◌, ◌≡◌}
+use Rattle.std.specs.Prelude.{List, [], map, slice_index_or, ℕ, ◌-◌, ◌∷◌}
 use Rattle.bk_word.specs.Word.{Word}
 use Rattle.bk_layout.specs.LineNumbers.{square_lines}
 
@@ -11,10 +11,3 @@ abbrev pub last_right : List ℕ → List ℕ → ℕ
 last_right rights [] = 1
 last_right rights (number ∷ []) = slice_index_or rights (number - 1) 1
 last_right rights (number ∷ next ∷ numbers) = last_right rights (next ∷ numbers)
-
--- the line is at the right of one of these squares, by the right lines of all
-pub record IsRightOfOne (rights squares : List ℕ) (line : ℕ) : Type 0 where
-  pub place : ℕ
-  pub number : ℕ
-  pub at : slice_get squares place ≡ Some number
-  pub is : slice_index_or rights (number - 1) 1 ≡ line

@@ -2,7 +2,7 @@
 -- Example (StrongExamples): over the segments of 2u.2ua, of which the first two are marked, it counts 3 moves and the
 -- weight 1.
 use Rattle.std.specs.List.{list_any}
-use Rattle.std.specs.Prelude.{Bool, List, drop, length, max, nat_le, slice_index_or, take, ℕ, ◌+◌, ◌<◌, ◌||◌, ◌≤◌}
+use Rattle.std.specs.Prelude.{Bool, List, length, max, nat_le, slice_index_or, ℕ, ◌+◌, ◌<◌, ◌||◌, ◌≤◌}
 use Rattle.bk_catalogue.specs.VerticalCut.{begins_on_line, on_line, segments_of}
 use Rattle.bk_layout.specs.NormalCuts.{touched_or_wide}
 use Rattle.bk_layout.specs.StrongPass.{Passed as SeenPassed}
@@ -21,12 +21,11 @@ pub record IsFewPassed (p : Passed) (k : ℕ) : Type 0 where
   pub aboves : p.aboves ≤ k
   pub more : p.more ≤ k
 
--- whether the segment of so many of the open squares from a place on is marked, in front of one of as many as is said
--- next: a line bounds it or ended on it, or it has at least as many squares as the top
-abbrev pub is_marked_segment : ℕ → List Bool → List ℕ → ℕ → ℕ → ℕ → Bool
-is_marked_segment top lines ends start size next =
-    (list_any (on_line lines) (take size (drop start ends)) || begins_on_line lines
-    (take next (drop (start + size) ends))) || nat_le top size
+-- whether a segment of this size is marked, in front of the next one: a line bounds it or ended on it, or it has at
+-- least as many squares as the top
+abbrev pub is_marked_segment : ℕ → List Bool → List ℕ → List ℕ → ℕ → Bool
+is_marked_segment top lines segment next size =
+    (list_any (on_line lines) segment || begins_on_line lines next) || nat_le top size
 
 -- the marks of the segments of these sizes
 abbrev pub marks_by_lists : ℕ → List Bool → List ℕ → List ℕ → List Bool

@@ -1,10 +1,11 @@
 //! How many moves a word has left at most, and how many signs of its next move are even at least.
 
-ghost use Rattle.std.specs.Prelude.{cond, nat_lt, ◌+◌, ◌/◌, ◌<◌, ◌≡◌, ◌≤◌};
+ghost use Rattle.std.specs.Prelude.{IsTrue, cond, nat_lt, ◌*◌, ◌+◌, ◌/◌, ◌<◌, ◌≡◌, ◌≤◌};
 ghost use Rattle.bk_word.specs.Outline.{has_left_wall, has_right_wall};
 ghost use Rattle.bk_word.specs.Play.{outline_of};
 ghost use Rattle.bk_word.specs.Word.{order_of};
 ghost use Rattle.bk_free_search.specs.AskedSigns.{AreEvensNeeded, AreMovesLeft};
+ghost use Rattle.bk_free_search.specs.declared.counts.TheConstants.{MANY};
 
 use crate::board::Board;
 use crate::counts::one_if;
@@ -30,14 +31,14 @@ pub(crate) fn look_ahead(board: &Board, order: u8, left_wall: bool, right_wall: 
     let right = usize::from(counts.right) + one_if(right_wall);
     let most = most_then(order, counts.moves, counts.top, left.max(right));
     let segments = board.skel().signs().len() + 1;
+    let moves_left = most.saturating_sub(moves);
+    // A move takes at most three of the squares and segments that are left, or two at a wall, and with more squares at
+    // the left wall some moves must hang at the right one. What is left over then, an even sign each of the next move
+    // has to take: it joins a segment to the move.
+    let to_take = usize::from(order) + 3 * moves + segments + left.saturating_sub(right);
     Ahead {
-        moves: most.saturating_sub(moves),
-        evens: (usize::from(order)
-            + 3 * moves
-            + segments
-            + left.saturating_sub(right)).saturating_sub(
-            usize::from(counts.squares) + 3 * most + 2,
-        ),
+        moves: moves_left,
+        evens: to_take.saturating_sub(usize::from(counts.squares) + 3 * most + 2),
     }
 }
 
@@ -51,6 +52,16 @@ pub(crate) fn most_moves(order: u8, top: u8, wall: usize) -> usize
     } else {
         (usize::from(order) + 1) / 2
     }
+}
+
+/// Whether a word of the order that has so many moves has as many as any: half of one square more, so that its nodes,
+/// one more than its moves, are half of three squares more.
+#[inline(always)]
+pub(crate) fn are_most_moves(order: u8, moves: usize) -> bool
+    requires { moves ≤ MANY }
+    ensures { IsTrue result → 2 * moves ≡ order + 1 }
+{
+    2 * (moves + 1) == usize::from(order) + 3
 }
 
 // The most moves of one that goes on from so many moves so that then so many squares lie at a wall.

@@ -12,7 +12,7 @@ ghost use Rattle.bk_word.specs.declared.Sign.TheVariants.{Under};
 ghost use Rattle.bk_layout.specs.NormalCuts.{IsNormalBarren};
 ghost use Rattle.bk_free_search.specs.AllUnder.{StandsAfter};
 
-use crate::ahead::most_moves;
+use crate::ahead::{are_most_moves, most_moves};
 use crate::board::Board;
 use crate::counts::one_if;
 use bk_play::SmallMove;
@@ -50,7 +50,7 @@ pub(crate) fn ends_otherwise(board: &Board, m: &SmallMove, order: u8) -> bool
     if after.right + after.signs < after.left {
         return true;
     }
-    2 * (moves + 1) == usize::from(order) + 3 && usize::from(after.top) < after.right + after.signs
+    are_most_moves(order, moves) && usize::from(after.top) < after.right + after.signs
 }
 
 // Whether none of the move's own signs is above, nor one of those behind the leftmost valley: then all are under after

@@ -1,7 +1,7 @@
 //! What a next move's first signs ask for, counted sign by sign.
 
 ghost use Rattle.std.specs.Prelude.{IsTrue, List, [], length, ℕ, ◌++◌, ◌+◌, ◌-◌, ◌<◌, ◌∷◌, ◌≡◌, ◌≤◌};
-ghost use Rattle.bk_word.specs.Outline.{has_left_wall, open_side, valley_place};
+ghost use Rattle.bk_word.specs.Outline.{has_left_wall, has_right_wall, open_side, valley_place};
 ghost use Rattle.bk_word.specs.Play.{IsLegal, outline_of};
 ghost use Rattle.bk_word.specs.Word.{Move as SeenMove, Word as Moves, order_of};
 ghost use Rattle.bk_word.specs.declared.Sign.{Sign as SeenSign};
@@ -11,11 +11,12 @@ ghost use Rattle.bk_free_search.specs.Apart.{IsCountedTo};
 ghost use Rattle.bk_free_search.specs.AskedSigns.{AreAskedBefore, AreFewAsks, AreFewBefore, AreMarks, AreNeeds};
 ghost use Rattle.bk_free_search.specs.AskedSigns.{IsAsked, IsNextCount, IsOver, NeedsLeft, StandBeside};
 ghost use Rattle.bk_free_search.specs.Strong.{IsFewPassed, seen_passed};
+ghost use Rattle.bk_free_search.specs.declared.counts.TheConstants.{FEW};
 
 use crate::ahead::{Ahead, look_ahead};
 use crate::behind::{Asks, Behind, behind_valley};
 use crate::board::Board;
-use crate::counts::one_if;
+use crate::counts::{MANY, one_if};
 use crate::line_set::LineSet;
 use crate::marks::{has_mark, is_left_on_line, is_wide_then, marks_of};
 use crate::strong::{Passed, in_front_of_mark, none_passed, past_one};
@@ -56,9 +57,16 @@ pub(crate) struct Needs {
 /// many squares are left after it.
 #[derive(Clone, Copy, Default, Drop)]
 pub(crate) struct Next {
-    pub(crate) wanted: u8,
-    pub(crate) own: u8,
+    pub(crate) wanted: usize,
+    pub(crate) own: usize,
     pub(crate) left: usize,
+}
+
+/// How many segments stand beside the leftmost valley: one or none at its left, and at its right.
+#[derive(Clone, Copy, Drop)]
+pub(crate) struct OpenSides {
+    pub(crate) left: usize,
+    pub(crate) right: usize,
 }
 
 /// What is counted in front of a segment, and how many of a move's first signs are even.
@@ -96,7 +104,7 @@ pub(crate) fn stand_beside(board: &Board, order: u8) -> Beside
 // How many squares must be left after the next move at least, where so many moves are.
 fn needs_of(before: &Before, behind: &Behind, moves: usize) -> Needs
     requires before { AreFewBefore before.now }
-    requires behind { AreFewAsks behind.now.even 450 }
+    requires behind { AreFewAsks behind.now.even (FEW + 1) }
     ensures { AreNeeds before.now behind.now moves result }
 {
     Needs {
@@ -134,17 +142,30 @@ fn before_valley(board: &Board, marks: LineSet, valley: &ValleyPlace) -> Before
     }
 }
 
-/// Of a next move of the count, after which so many squares are left.
+/// How many segments stand beside it.
+pub(crate) fn open_sides(beside: &Beside) -> OpenSides
+    ensures left { result.left ≡ open_side beside.now.left_wall }
+    ensures right { result.right ≡ open_side beside.now.right_wall }
+{
+    OpenSides {
+        left: open_side(beside.left_wall),
+        right: open_side(beside.right_wall),
+    }
+}
+
+/// Of a next move of the count, after which so many squares are left, where so many segments stand beside the valley.
 #[inline]
-pub(crate) fn next_of(beside: &Beside, count: u8, left: usize) -> Next
+pub(crate) fn next_of(sides: OpenSides, count: u8, left: usize) -> Next
     requires some { 0 < count }
-    requires few { count ≤ 16 }
-    ensures { (order : ℕ) (front : Moves) → StandBeside order front beside.now → left ≡ order - order_of front - count
+    requires left { sides.left ≤ 1 }
+    requires right { sides.right ≤ 1 }
+    ensures { (order : ℕ) (front : Moves) → sides.left ≡ open_side (has_left_wall (outline_of front))
+        → sides.right ≡ open_side (has_right_wall (outline_of front)) → left ≡ order - order_of front - count
         → IsNextCount order front count result }
 {
-    let own = count - 1 + open_side(beside.left_wall) as u8;
+    let own = usize::from(count) - 1 + sides.left;
     Next {
-        wanted: own + open_side(beside.right_wall) as u8,
+        wanted: own + sides.right,
         own,
         left,
     }
@@ -153,8 +174,8 @@ pub(crate) fn next_of(beside: &Beside, count: u8, left: usize) -> Next
 /// What is asked for with one sign more, behind one of the move's own squares.
 #[inline(always)]
 pub(crate) fn asked_with(asked: &Asked, sign: Sign) -> Asked
-    requires few { IsFewPassed asked.now.passed 3000 }
-    requires evens { asked.now.evens ≤ 1000 }
+    requires few { IsFewPassed asked.now.passed MANY }
+    requires evens { asked.now.evens ≤ MANY }
     ensures asked { (front : Moves) (signs : List SeenSign) → IsAsked front signs asked.now
         → open_side (has_left_wall (outline_of front)) ≤ length signs
         → IsAsked front (signs ++ sign ∷ []) result }
@@ -169,8 +190,8 @@ pub(crate) fn asked_with(asked: &Asked, sign: Sign) -> Asked
 /// Whether the segments up to a place and those behind ask for more moves than are left, or for more squares.
 #[inline(always)]
 pub(crate) fn is_over(passed: &Passed, asks: &Asks, moves: usize, left: usize) -> bool
-    requires few { IsFewPassed passed.now 3000 }
-    requires small { AreFewAsks asks.now 3000 }
+    requires few { IsFewPassed passed.now MANY }
+    requires small { AreFewAsks asks.now MANY }
     ensures { IsTrue result → IsOver passed.now asks.now moves left }
 {
     let most = (passed.most + asks.add).max(passed.aboves + asks.most);
@@ -184,13 +205,13 @@ pub(crate) fn is_over(passed: &Passed, asks: &Asks, moves: usize, left: usize) -
 // where they ask for more moves than are left.
 #[inline]
 fn least_left(passed: &Passed, asks: &Asks, moves: usize) -> usize
-    requires few { IsFewPassed passed.now 3000 }
-    requires small { AreFewAsks asks.now 3000 }
+    requires few { IsFewPassed passed.now MANY }
+    requires small { AreFewAsks asks.now MANY }
     ensures { NeedsLeft passed.now asks.now moves result }
 {
     let most = (passed.most + asks.add).max(passed.aboves + asks.most);
     if most > moves {
-        return 1000;
+        return MANY;
     }
     most + passed.more + asks.more
 }
@@ -217,7 +238,7 @@ fn pass_before(board: &Board, marks: LineSet, many: usize) -> Passed
 fn left_even(board: &Board, marks: LineSet, place: usize, passed: Passed) -> Asked
     requires marks { AreMarks board.now marks }
     requires place { place + 1 ≡ valley_place (outline_of board.now).signs }
-    requires few { IsFewPassed passed 402 }
+    requires few { IsFewPassed passed FEW }
     requires counted { (m : SeenMove) → IsLegal (board.now ++ m ∷ [])
         → IsCountedTo board.now m place (seen_passed passed) }
     ensures { IsAsked board.now (Even ∷ []) result }
@@ -233,7 +254,7 @@ fn left_under(board: &Board, marks: LineSet, valley: &ValleyPlace, passed: Passe
     requires marks { AreMarks board.now marks }
     requires valley { IsValleyPlace board.now valley.now }
     requires some { 0 < valley.now.place }
-    requires few { IsFewPassed passed 402 }
+    requires few { IsFewPassed passed FEW }
     requires counted { (m : SeenMove) → IsLegal (board.now ++ m ∷ [])
         → IsCountedTo board.now m (valley.now.place - 1) (seen_passed passed) }
     ensures { IsAsked board.now (Under ∷ []) result }

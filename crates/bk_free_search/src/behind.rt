@@ -12,6 +12,7 @@ ghost use Rattle.bk_word.specs.declared.Sign.TheVariants.{Above};
 ghost use Rattle.bk_free_search.specs.Apart.{AreAsks};
 ghost use Rattle.bk_free_search.specs.AskedSigns.{AreBehind, AreFewAsks, AreMarks};
 ghost use Rattle.bk_free_search.specs.NodeLines.{Has};
+ghost use Rattle.bk_free_search.specs.declared.counts.TheConstants.{FEW, MANY};
 
 use crate::board::Board;
 use crate::line_set::LineSet;
@@ -77,13 +78,13 @@ fn asks_from(signs: &[Sign], sizes: &[u8], marks: LineSet, from: usize) -> Asks
     requires long { length sizes.now ≡ length signs.now + 1 }
     requires some { 0 < from }
     requires within { from ≤ length signs.now }
-    requires few { length signs.now ≤ 400 }
+    requires few { length signs.now < FEW }
     ensures asks { (all : List Bool) → length all ≡ length sizes.now
         → ((i : ℕ) → Has marks i → slice_index_or all i false ≡ true)
         → AreAsks (is_under (slice_index_or signs.now (from - 1) Above)) (drop from signs.now) (drop from sizes.now)
         (drop from all)
-        result.add result.most result.more }
-    ensures few { AreFewAsks result 401 }
+        result }
+    ensures few { AreFewAsks result FEW }
 {
     let last = signs.len();
     let mut asks = at_end(is_single(signs, sizes, last), has_mark(marks, last));
@@ -114,7 +115,7 @@ fn is_single(signs: &[Sign], sizes: &[u8], place: usize) -> bool
 fn at_end(single: bool, mark: bool) -> Asks
     ensures asks { (low : Bool) (size : ℕ) (marked : Bool) → cond {A = ℕ} single 1 0 ≡ single_valley low size
         → (mark ≡ true → marked ≡ true)
-        → AreAsks low [] (size ∷ []) (marked ∷ []) result.add result.most result.more }
+        → AreAsks low [] (size ∷ []) (marked ∷ []) result }
     ensures few { AreFewAsks result 1 }
 {
     let one = usize::from(single);
@@ -127,12 +128,12 @@ fn at_end(single: bool, mark: bool) -> Asks
 
 // What a segment in front of others asks for, with this sign at its right.
 fn in_front(rest: Asks, sign: Sign, single: bool, mark: bool) -> Asks
-    requires { AreFewAsks rest 3000 }
+    requires { AreFewAsks rest MANY }
     ensures asks { (low : Bool) (signs : List SeenSign) (size : ℕ) (sizes : List ℕ) (marked : Bool) (marks : List Bool)
-        → AreAsks (is_under sign) signs sizes marks rest.add rest.most rest.more
+        → AreAsks (is_under sign) signs sizes marks rest
         → cond {A = ℕ} single 1 0 ≡ single_valley low size
         → (mark ≡ true → marked ≡ true)
-        → AreAsks low (sign ∷ signs) (size ∷ sizes) (marked ∷ marks) result.add result.most result.more }
+        → AreAsks low (sign ∷ signs) (size ∷ sizes) (marked ∷ marks) result }
     ensures few { (k : ℕ) → AreFewAsks rest k → AreFewAsks result (k + 1) }
 {
     let one = usize::from(single);

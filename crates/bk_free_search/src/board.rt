@@ -8,18 +8,16 @@ ghost use Rattle.bk_word.specs.Word.{order_of};
 ghost use Rattle.bk_layout.specs.LineNumbers.{left_end, lefts_of, right_end, square_lines};
 ghost use Rattle.bk_free_search.specs.BoardOutlines.{IsBoardOutline};
 ghost use Rattle.bk_free_search.specs.Joining.{TouchOneOf};
-ghost use Rattle.bk_free_search.specs.Lefts.{IsLeftOfOne};
-ghost use Rattle.bk_free_search.specs.NodeLines.{Has};
+ghost use Rattle.bk_free_search.specs.NodeLines.{Has, IsLineOfOne};
 ghost use Rattle.bk_layout.specs.WordNumbers.{counts_of_word, first_count};
-ghost use Rattle.bk_free_search.specs.Rights.{IsRightOfOne, rights_of};
+ghost use Rattle.bk_free_search.specs.Rights.{rights_of};
 ghost use Rattle.bk_free_search.specs.SeenCounts.{seen_counts};
+ghost use Rattle.bk_free_search.specs.TopLines.{AreSquares};
 
 use crate::counts::Counts;
 use crate::line_set::LineSet;
-use crate::node_lines::{has_pair, node_lines};
-use crate::sides::{
-    left_of_first, lines_left_of, lines_right_of, push_lefts, push_rights, right_of_last,
-};
+use crate::node_lines::{NewSquares, has_pair, node_lines};
+use crate::sides::{left_of_first, lines_of, push_lefts, push_rights, right_of_last};
 use bk_play::{SmallMove, SmallOutline, SmallSkel};
 use bk_short::Short;
 use bk_word::INLINE_ORDER;
@@ -57,7 +55,14 @@ impl Model for Board {
 
     ghost view = { λ s. s.skel };
 
-    ghost invariant = { λ s. IsBoardOf s.skel s.lefts.items s.rights.items s.nodes.items s.first s.left s.right };
+    ghost invariant = { λ s. IsBoardOf s.skel (record {
+      lefts = s.lefts.items;
+      rights = s.rights.items;
+      nodes = s.nodes.items;
+      first = s.first;
+      left = s.left;
+      right = s.right;
+    }) };
 }
 
 impl Board {
@@ -144,28 +149,32 @@ impl Board {
 
     /// The lines at the left of the squares of these numbers, from 1.
     pub(crate) fn lines_left_of(&self, squares: &[u8]) -> LineSet
-        ensures { (line : ℕ) → Has result line → IsLeftOfOne (lefts_of self.now) squares.now line }
+        requires { AreSquares squares.now (order_of self.now) }
+        ensures { (line : ℕ) → Has result line → IsLineOfOne (lefts_of self.now) squares.now 0 line }
     {
-        lines_left_of(self.lefts.as_slice(), squares)
+        lines_of(self.lefts.as_slice(), squares)
     }
 
-    /// The lines at their right.
+    /// The lines at the right of the squares of these numbers, from 1.
     pub(crate) fn lines_right_of(&self, squares: &[u8]) -> LineSet
-        ensures { (line : ℕ) → Has result line → IsRightOfOne (rights_of self.now) squares.now line }
+        requires { AreSquares squares.now (order_of self.now) }
+        ensures { (line : ℕ) → Has result line → IsLineOfOne (rights_of self.now) squares.now 1 line }
     {
-        lines_right_of(self.rights.as_slice(), squares)
+        lines_of(self.rights.as_slice(), squares)
     }
 
     /// The line at the left of the first of these squares: the left wall where there are none.
     pub(crate) fn left_end(&self, squares: &[u8]) -> u8
+        requires { AreSquares squares.now (order_of self.now) }
         ensures value { result ≡ left_end (square_lines self.now) squares.now }
         ensures low { result < 32 }
     {
         left_of_first(self.lefts.as_slice(), squares)
     }
 
-    /// The line at the right of the last of them: the right wall where there are none.
+    /// The line at the right of the last of these squares: the right wall where there are none.
     pub(crate) fn right_end(&self, squares: &[u8]) -> u8
+        requires { AreSquares squares.now (order_of self.now) }
         ensures value { result ≡ right_end (square_lines self.now) squares.now }
         ensures low { result < 32 }
     {
@@ -191,15 +200,13 @@ impl Board {
         let behind = self.skel.order() as u8;
         push_lefts(&mut self.lefts, first, behind, m.count);
         push_rights(&mut self.rights, last, behind, m.count);
-        let lines = node_lines(
-            self.lefts.as_slice(),
-            self.rights.as_slice(),
-            squares,
+        let new = NewSquares {
+            hung: behind,
+            count: m.count,
             first,
             last,
-            behind,
-            m.count,
-        );
+        };
+        let lines = node_lines(self.lefts.as_slice(), self.rights.as_slice(), squares, &new);
         self.nodes.push(lines);
         self.first = first_after(self.first, behind, m.count);
         self.left = at_wall_after(self.left, first, 0);

@@ -14,6 +14,12 @@ pub struct Counts {
     pub right: u8,
 }
 
+/// A bound of each number that is counted over the segments of a board of at most 16 squares.
+pub(crate) const FEW: usize = 100;
+
+/// More squares than are ever left, and more than is ever counted with a next move's signs.
+pub(crate) const MANY: usize = 1000;
+
 /// One where it holds, else none.
 #[inline]
 pub(crate) fn one_if(holds: bool) -> usize

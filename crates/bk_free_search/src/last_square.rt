@@ -10,6 +10,7 @@ ghost use Rattle.bk_layout.specs.LastMoves.{even_square};
 ghost use Rattle.bk_layout.specs.NormalCuts.{IsNormalBarren};
 ghost use Rattle.bk_free_search.specs.LastSquare.{neighbours};
 
+use crate::ahead::are_most_moves;
 use crate::board::Board;
 use crate::counts::one_if;
 use crate::joining::joins_parted;
@@ -69,7 +70,7 @@ fn bars_counts(board: &Board, order: u8) -> bool
     if right < left {
         return true;
     }
-    2 * (usize::from(counts.moves) + 2) == usize::from(order) + 3 && usize::from(counts.top) < right
+    are_most_moves(order, usize::from(counts.moves) + 1) && usize::from(counts.top) < right
 }
 
 // How many segments stand beside the leftmost valley.

@@ -13,7 +13,7 @@ ghost use Rattle.bk_free_search.specs.Apart.{marks_of_word};
 ghost use Rattle.bk_free_search.specs.AskedSigns.{AreMarks};
 ghost use Rattle.bk_free_search.specs.NodeLines.{Has};
 ghost use Rattle.bk_free_search.specs.Strong.{AreFilled, marks_by_lists};
-ghost use Rattle.bk_free_search.specs.TopLines.{HasOneFrom, on_top_lines};
+ghost use Rattle.bk_free_search.specs.TopLines.{AreSquares, HasOneFrom, on_top_lines};
 
 use crate::board::Board;
 use crate::line_set::{LineSet, has_line, no_line, with_place};
@@ -35,6 +35,7 @@ fn marks_in(sizes: &[u8], ends: &[u8], lefts: &[u8], top: u8) -> LineSet
     requires whole { sum sizes.now ≡ length ends.now }
     requires many { length ends.now ≤ 16 }
     requires filled { AreFilled sizes.now }
+    requires squares { AreSquares ends.now (length lefts.now) }
     ensures { (i : ℕ) → Has result i
         → slice_index_or (marks_by_lists top (on_top_lines top lefts.now) sizes.now ends.now) i false ≡ true }
 {

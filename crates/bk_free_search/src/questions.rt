@@ -2,18 +2,21 @@
 //! goes on so.
 
 ghost use Rattle.std.specs.Prelude.{IfNone, IfSome, IsTrue, List, [], false, length, true, ℕ, ◌++◌, ◌+◌, ◌<◌, ◌∷◌, ◌≡◌};
-ghost use Rattle.std.specs.Prelude.{◌≤◌};
+ghost use Rattle.std.specs.Prelude.{◌-◌, ◌≤◌};
 ghost use Rattle.bk_word.specs.Outline.{IsLegalMove, has_left_wall, open_side};
 ghost use Rattle.bk_word.specs.Play.{outline_of};
-ghost use Rattle.bk_word.specs.Word.{Move as SeenMove, Word as Moves, order_of};
+ghost use Rattle.bk_word.specs.Word.{Word as Moves, order_of};
 ghost use Rattle.bk_word.specs.declared.Sign.{Sign as SeenSign};
 ghost use Rattle.bk_word.specs.declared.Sign.TheVariants.{Above, Even, Under};
 ghost use Rattle.bk_play.specs.SmallSkeleton.{IsValleyPlace};
 ghost use Rattle.bk_layout.specs.NormalCuts.{IsNormalBarren};
-ghost use Rattle.bk_free_search.specs.AskedSigns.{AreFewAsks, BarsSigns, IsAsked, IsMoveBegun, IsWithOwn, StandBeside};
-ghost use Rattle.bk_free_search.specs.AskedSigns.{asks_then};
+ghost use Rattle.bk_free_search.specs.AskedSigns.{AreFewAsks, BarsNext, BarsSigns, IsAsked, IsMoveBegun, IsWithOwn};
+ghost use Rattle.bk_free_search.specs.AskedSigns.{StandBeside, asks_then};
 ghost use Rattle.bk_free_search.specs.Strong.{IsFewPassed};
-ghost use Rattle.bk_free_search.specs.declared.asking.Next.{Next};
+ghost use Rattle.bk_free_search.specs.declared.asking.Beside.{Beside as SeenBeside};
+ghost use Rattle.bk_free_search.specs.declared.counts.TheConstants.{MANY};
+ghost use Rattle.bk_free_search.specs.declared.state.Begun.{Begun as SeenBegun};
+ghost use Rattle.bk_free_search.specs.declared.state.Search.{Search as SeenSearch};
 
 use crate::all_under::ends_otherwise;
 use crate::asking::{Asked, Beside, asked_with, is_over};
@@ -25,8 +28,8 @@ use bk_play::{ValleyPlace, open_side};
 use bk_word::Sign;
 
 impl Search {
-    // Whether the next move would be the last one, though two squares or more are left, or would need more even signs
-    // than it has neighbours.
+    /// Whether the next move would be the last one, though two squares or more are left, or would need more even signs
+    /// than it has neighbours.
     pub(crate) fn lacks_next(&self, beside: &Beside) -> bool
         requires few { order_of self.now.board < self.now.order }
         requires beside { StandBeside self.now.order self.now.board beside.now }
@@ -58,12 +61,11 @@ impl Search {
 /// behind them, than are left.
 #[inline(always)]
 pub(crate) fn asks_too_much(begun: &Begun, around: &Beside, asked: &Asked) -> bool
-    requires few { IsFewPassed asked.now.passed 3000 }
-    requires small { AreFewAsks around.now.behind.even 3000 }
-    ensures { IsTrue result → (n : ℕ) (front : Moves) (signs : List SeenSign)
-        → IsMoveBegun n front begun.now.m begun.now.next around.now
-        → IsAsked front signs asked.now → open_side (has_left_wall (outline_of front)) ≤ length signs
-        → length signs ≤ begun.now.next.own → BarsSigns n front begun.now.m.count signs }
+    requires few { IsFewPassed asked.now.passed MANY }
+    requires small { AreFewAsks around.now.behind.even MANY }
+    ensures { IsTrue result → (s : SeenSearch) (signs : List SeenSign) → IsMoveBegun s begun.now around.now
+        → IsAsked s.board signs asked.now → open_side (has_left_wall (outline_of s.board)) ≤ length signs
+        → length signs ≤ begun.now.next.own → BarsSigns s.order s.board begun.now.m.count signs }
 {
     is_over(
         &asked.passed,
@@ -76,13 +78,12 @@ pub(crate) fn asks_too_much(begun: &Begun, around: &Beside, asked: &Asked) -> bo
 /// Whether they are with all its signs, where the last one isn't even.
 #[inline(always)]
 pub(crate) fn asks_too_much_then(begun: &Begun, around: &Beside, asked: &Asked) -> bool
-    requires few { IsFewPassed asked.now.passed 3000 }
-    requires small { AreFewAsks around.now.behind.under 3000 }
-    requires small_above { AreFewAsks around.now.behind.above 3000 }
-    ensures { IsTrue result → (n : ℕ) (front : Moves) (signs : List SeenSign)
-        → IsMoveBegun n front begun.now.m begun.now.next around.now
-        → IsAsked front signs asked.now → length signs ≡ begun.now.next.wanted
-        → BarsSigns n front begun.now.m.count signs }
+    requires few { IsFewPassed asked.now.passed MANY }
+    requires small { AreFewAsks around.now.behind.under MANY }
+    requires small_above { AreFewAsks around.now.behind.above MANY }
+    ensures { IsTrue result → (s : SeenSearch) (signs : List SeenSign) → IsMoveBegun s begun.now around.now
+        → IsAsked s.board signs asked.now → length signs ≡ begun.now.next.wanted
+        → BarsSigns s.order s.board begun.now.m.count signs }
 {
     is_over(
         &asked.passed,
@@ -113,10 +114,9 @@ fn needs_left_even(around: &Beside) -> bool
 // Whether one that isn't even at the right neighbour does.
 #[inline(always)]
 fn lacks_even(around: &Beside, asked: &Asked) -> bool
-    ensures { IsTrue result → (n : ℕ) (front : Moves) (m : SeenMove) (next : Next)
-        → IsMoveBegun n front m next around.now → IsAsked front m.signs asked.now
-        → length m.signs + 1 ≡ next.wanted → (sign : SeenSign) → (sign ≡ Even → ⊥)
-        → BarsSigns n front m.count (m.signs ++ sign ∷ []) }
+    ensures { IsTrue result → (s : SeenSearch) (b : SeenBegun) → IsMoveBegun s b around.now
+        → IsAsked s.board b.m.signs asked.now → length b.m.signs + 1 ≡ b.next.wanted
+        → (sign : SeenSign) → (sign ≡ Even → ⊥) → BarsNext s b sign }
 {
     asked.evens < around.ahead.evens
 }
@@ -124,9 +124,9 @@ fn lacks_even(around: &Beside, asked: &Asked) -> bool
 /// Whether fewer squares are left after a next move at the left wall than are asked for before its first sign.
 #[inline(always)]
 pub(crate) fn bars_none(begun: &Begun, around: &Beside) -> bool
-    ensures { IsTrue result → (n : ℕ) (front : Moves) → IsMoveBegun n front begun.now.m begun.now.next around.now
-        → begun.now.m.signs ≡ []
-        → has_left_wall (outline_of front) ≡ true → BarsSigns n front begun.now.m.count begun.now.m.signs }
+    ensures { IsTrue result → (s : SeenSearch) → IsMoveBegun s begun.now around.now → begun.now.m.signs ≡ []
+        → has_left_wall (outline_of s.board) ≡ true
+        → BarsSigns s.order s.board begun.now.m.count begun.now.m.signs }
 {
     begun.next.left < around.needs.none
 }
@@ -134,10 +134,8 @@ pub(crate) fn bars_none(begun: &Begun, around: &Beside) -> bool
 /// Whether no word goes on with the sign even at a left neighbour: fewer squares are left than are asked for with it.
 #[inline(always)]
 pub(crate) fn bars_first_even(begun: &Begun, around: &Beside) -> bool
-    ensures { IsTrue result → (n : ℕ) (front : Moves) → IsMoveBegun n front begun.now.m begun.now.next around.now
-        → begun.now.m.signs ≡ []
-        → has_left_wall (outline_of front) ≡ false
-        → BarsSigns n front begun.now.m.count (begun.now.m.signs ++ Even ∷ []) }
+    ensures { IsTrue result → (s : SeenSearch) → IsMoveBegun s begun.now around.now → begun.now.m.signs ≡ []
+        → has_left_wall (outline_of s.board) ≡ false → BarsNext s begun.now Even }
 {
     begun.next.left < around.needs.even
 }
@@ -145,40 +143,32 @@ pub(crate) fn bars_first_even(begun: &Begun, around: &Beside) -> bool
 /// Whether none does with the sign under there: likewise, or since too few signs then can be even.
 #[inline(always)]
 pub(crate) fn bars_first_under(begun: &Begun, around: &Beside) -> bool
-    ensures { IsTrue result → (n : ℕ) (front : Moves) → IsMoveBegun n front begun.now.m begun.now.next around.now
-        → begun.now.m.signs ≡ []
-        → has_left_wall (outline_of front) ≡ false
-        → BarsSigns n front begun.now.m.count (begun.now.m.signs ++ Under ∷ []) }
+    ensures { IsTrue result → (s : SeenSearch) → IsMoveBegun s begun.now around.now → begun.now.m.signs ≡ []
+        → has_left_wall (outline_of s.board) ≡ false → BarsNext s begun.now Under }
 {
     needs_left_even(around) || begun.next.left < around.needs.under
 }
 
-/// Whether none does with the sign above between two of the move's own squares, with which this is asked for: rule R
-/// bars it behind the sign even alone.
+/// Whether none does with the sign above between two of the move's own squares: rule R bars it behind the sign even
+/// alone.
 #[inline(always)]
-pub(crate) fn bars_own_above(begun: &Begun, around: &Beside, asked: &Asked, above: &Asked) -> bool
-    requires few { IsFewPassed above.now.passed 3000 }
-    requires small { AreFewAsks around.now.behind.even 3000 }
-    ensures { IsTrue result → (n : ℕ) (front : Moves)
-        → IsWithOwn n front begun.now.m begun.now.next around.now asked.now
-        → IsAsked front (begun.now.m.signs ++ Above ∷ []) above.now → length begun.now.m.signs < begun.now.next.own
-        → BarsSigns n front begun.now.m.count (begun.now.m.signs ++ Above ∷ []) }
+pub(crate) fn bars_own_above(begun: &Begun, asked: &Asked) -> bool
+    ensures { IsTrue result → (s : SeenSearch) (around : SeenBeside) → IsWithOwn s begun.now around asked.now
+        → length begun.now.m.signs < begun.now.next.own → BarsNext s begun.now Above }
 {
-    bars_above(&begun.m, asked) || asks_too_much(begun, around, above)
+    bars_above(&begun.m, asked)
 }
 
 /// Whether none does with this sign, which isn't even, at a right neighbour: too few signs then are even, or too much
 /// is asked for.
 #[inline(always)]
 pub(crate) fn bars_last(begun: &Begun, around: &Beside, asked: &Asked, sign: Sign) -> bool
-    requires few { IsFewPassed asked.now.passed 2999 }
-    requires evens { asked.now.evens ≤ 1000 }
-    requires small { AreFewAsks around.now.behind.under 3000 }
-    requires small_above { AreFewAsks around.now.behind.above 3000 }
-    ensures { IsTrue result → (n : ℕ) (front : Moves)
-        → IsWithOwn n front begun.now.m begun.now.next around.now asked.now
-        → length begun.now.m.signs + 1 ≡ begun.now.next.wanted → (sign ≡ Even → ⊥)
-        → BarsSigns n front begun.now.m.count (begun.now.m.signs ++ sign ∷ []) }
+    requires few { IsFewPassed asked.now.passed (MANY - 1) }
+    requires evens { asked.now.evens ≤ MANY }
+    requires small { AreFewAsks around.now.behind.under MANY }
+    requires small_above { AreFewAsks around.now.behind.above MANY }
+    ensures { IsTrue result → (s : SeenSearch) → IsWithOwn s begun.now around.now asked.now
+        → length begun.now.m.signs + 1 ≡ begun.now.next.wanted → (sign ≡ Even → ⊥) → BarsNext s begun.now sign }
 {
     lacks_even(around, asked) || asks_too_much_then(begun, around, &asked_with(asked, sign))
 }

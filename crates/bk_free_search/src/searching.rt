@@ -4,12 +4,14 @@ ghost use Rattle.std.specs.Prelude.{IsTrue, [], length, ◌++◌, ◌+◌, ◌<�
 ghost use Rattle.bk_word.specs.Outline.{IsLegalMove};
 ghost use Rattle.bk_word.specs.Play.{IsComplete, outline_of};
 ghost use Rattle.bk_word.specs.Word.{Word as Moves, order_of};
+ghost use Rattle.bk_word.specs.declared.Sign.TheVariants.{Above};
 ghost use Rattle.bk_layout.specs.NormalImage.{IsNormalSought};
 ghost use Rattle.bk_play.specs.SmallSkeleton.{IsValleyPlace};
-ghost use Rattle.bk_free_search.specs.AskedSigns.{BarsSigns, IsAsked, IsMoveBegun, IsWithOwn};
+ghost use Rattle.bk_free_search.specs.AskedSigns.{BarsNext, IsMoveBegun, IsOwnSign, IsWithOwn};
 ghost use Rattle.bk_free_search.specs.Sought.{GoesOn, GoesOnBy};
+ghost use Rattle.bk_free_search.specs.Unchanged.{IsUnchanged, KeepsMet};
 
-use crate::asking::{Asked, Beside, asked_with, stand_beside};
+use crate::asking::{Asked, Beside, asked_with, open_sides, stand_beside};
 use crate::board::Board;
 use crate::cuts::least_count;
 use crate::questions::{
@@ -17,7 +19,7 @@ use crate::questions::{
     bars_own_above,
 };
 use crate::state::{
-    Begun, Search, begin, meet_closed, meet_with_last, not_begun, pop_sign, push_sign,
+    Begun, NextSign, Search, begin, meet_closed, meet_with_last, not_begun, pop_sign, push_sign,
 };
 use bk_play::ValleyPlace;
 use bk_word::Sign;
@@ -57,19 +59,18 @@ pub fn search<S: Leaves>(leaves: &mut S, order: u8)
         board: Board::new(),
         order,
     };
-    search.go_on(leaves);
+    search.meet_all(leaves);
 }
 
 impl Search {
     // Meets the word of the board where so many squares hang, else those that go on from it.
     #[cycle(search)]
-    fn go_on<S: Leaves>(&mut self, leaves: &mut S)
+    fn meet_all<S: Leaves>(&mut self, leaves: &mut S)
         requires least { 3 ≤ self.old.order }
         requires most { self.old.order ≤ 16 }
         requires few { order_of self.old.board ≤ self.old.order }
         ensures all { (w : Moves) → IsNormalSought self.old.order w → GoesOn self.old.board w → S.has_met leaves.new w }
-        ensures kept { (w : Moves) → S.has_met leaves.old w → S.has_met leaves.new w }
-        ensures fixed { S.fixed leaves.new ≡ S.fixed leaves.old }
+        ensures kept { KeepsMet S.has_met S.fixed leaves.old leaves.new }
         ensures same { self.new ≡ self.old }
     {
         let hung = self.board.skel().order();
@@ -92,8 +93,7 @@ impl Search {
         requires most { self.old.order ≤ 16 }
         requires few { order_of self.old.board + 1 < self.old.order }
         ensures all { (w : Moves) → IsNormalSought self.old.order w → GoesOn self.old.board w → S.has_met leaves.new w }
-        ensures kept { (w : Moves) → S.has_met leaves.old w → S.has_met leaves.new w }
-        ensures fixed { S.fixed leaves.new ≡ S.fixed leaves.old }
+        ensures kept { KeepsMet S.has_met S.fixed leaves.old leaves.new }
         ensures same { self.new ≡ self.old }
     {
         let around = stand_beside(&self.board, self.order);
@@ -101,9 +101,10 @@ impl Search {
             return;
         }
         let left = self.order - self.board.skel().order() as u8;
+        let sides = open_sides(&around);
         let mut begun = not_begun();
         'counts: for count in least_count(self.board.skel(), &around.valley)..left {
-            begin(&mut begun, &around, count, usize::from(left - count));
+            begin(&mut begun, sides, count, usize::from(left - count));
             self.with_left(&mut begun, &around, leaves);
         }
     }
@@ -113,14 +114,12 @@ impl Search {
     #[cycle(search)]
     #[inline(always)]
     fn with_left<S: Leaves>(&mut self, begun: &mut Begun, around: &Beside, leaves: &mut S)
-        requires begun { IsMoveBegun self.old.order self.old.board begun.old.m begun.old.next around.now }
+        requires begun { IsMoveBegun self.old begun.old around.now }
         requires none { begun.old.m.signs ≡ [] }
         ensures all { (w : Moves) → IsNormalSought self.old.order w
             → GoesOnBy self.old.board begun.old.m.count begun.old.m.signs w → S.has_met leaves.new w }
-        ensures kept { (w : Moves) → S.has_met leaves.old w → S.has_met leaves.new w }
-        ensures fixed { S.fixed leaves.new ≡ S.fixed leaves.old }
-        ensures same { self.new ≡ self.old }
-        ensures same_move { begun.new ≡ begun.old }
+        ensures kept { KeepsMet S.has_met S.fixed leaves.old leaves.new }
+        ensures same { IsUnchanged self.old begun.old self.new begun.new }
     {
         if around.left_wall {
             if bars_none(begun, around) {
@@ -130,10 +129,16 @@ impl Search {
             return;
         }
         let before = &around.before;
-        let barred = bars_first_even(begun, around);
-        self.with_sign(begun, around, &before.even, Sign::Even, barred, leaves);
-        let barred = bars_first_under(begun, around);
-        self.with_sign(begun, around, &before.under, Sign::Under, barred, leaves);
+        let even = NextSign {
+            sign: Sign::Even,
+            barred: bars_first_even(begun, around),
+        };
+        self.with_sign(begun, around, &before.even, even, leaves);
+        let under = NextSign {
+            sign: Sign::Under,
+            barred: bars_first_under(begun, around),
+        };
+        self.with_sign(begun, around, &before.under, under, leaves);
     }
 
     // Meets those that go on by a move that begins so, with the sign at a left neighbour. The signs between its own
@@ -146,24 +151,53 @@ impl Search {
         asked: &Asked,
         leaves: &mut S,
     )
-        requires { IsWithOwn self.old.order self.old.board begun.old.m begun.old.next around.now asked.now }
+        requires { IsWithOwn self.old begun.old around.now asked.now }
         ensures all { (w : Moves) → IsNormalSought self.old.order w
             → GoesOnBy self.old.board begun.old.m.count begun.old.m.signs w → S.has_met leaves.new w }
-        ensures kept { (w : Moves) → S.has_met leaves.old w → S.has_met leaves.new w }
-        ensures fixed { S.fixed leaves.new ≡ S.fixed leaves.old }
-        ensures same { self.new ≡ self.old }
-        ensures same_move { begun.new ≡ begun.old }
+        ensures kept { KeepsMet S.has_met S.fixed leaves.old leaves.new }
+        ensures same { IsUnchanged self.old begun.old self.new begun.new }
     {
-        if begun.m.signs.len() == usize::from(begun.next.own) {
+        if begun.m.signs.len() == begun.next.own {
             self.with_right(begun, around, asked, leaves);
             return;
         }
-        let above = asked_with(asked, Sign::Above);
-        let barred = bars_own_above(begun, around, asked, &above);
-        self.with_sign(begun, around, &above, Sign::Above, barred, leaves);
-        let under = asked_with(asked, Sign::Under);
-        let barred = asks_too_much(begun, around, &under);
-        self.with_sign(begun, around, &under, Sign::Under, barred, leaves);
+        self.with_above(begun, around, asked, leaves);
+        let with_under = asked_with(asked, Sign::Under);
+        let under = NextSign {
+            sign: Sign::Under,
+            barred: asks_too_much(begun, around, &with_under),
+        };
+        self.with_sign(begun, around, &with_under, under, leaves);
+    }
+
+    // Meets those whose next sign, between two of the move's own squares, is above. There are none where rule R bars it,
+    // or where too much is asked for with it.
+    #[cycle(search)]
+    #[inline(always)]
+    fn with_above<S: Leaves>(
+        &mut self,
+        begun: &mut Begun,
+        around: &Beside,
+        asked: &Asked,
+        leaves: &mut S,
+    )
+        requires with_own { IsWithOwn self.old begun.old around.now asked.now }
+        requires own { length begun.old.m.signs < begun.old.next.own }
+        ensures all { (w : Moves) → IsNormalSought self.old.order w
+            → GoesOnBy self.old.board begun.old.m.count (begun.old.m.signs ++ Above ∷ []) w
+            → S.has_met leaves.new w }
+        ensures kept { KeepsMet S.has_met S.fixed leaves.old leaves.new }
+        ensures same { IsUnchanged self.old begun.old self.new begun.new }
+    {
+        if bars_own_above(begun, asked) {
+            return;
+        }
+        let with_above = asked_with(asked, Sign::Above);
+        let above = NextSign {
+            sign: Sign::Above,
+            barred: asks_too_much(begun, around, &with_above),
+        };
+        self.with_sign(begun, around, &with_above, above, leaves);
     }
 
     // Meets those whose next sign is this, and which go on to the move's own squares. There are none where it is
@@ -175,26 +209,21 @@ impl Search {
         begun: &mut Begun,
         around: &Beside,
         asked: &Asked,
-        sign: Sign,
-        barred: bool,
+        next: NextSign,
         leaves: &mut S,
     )
-        requires begun { IsMoveBegun self.old.order self.old.board begun.old.m begun.old.next around.now }
-        requires asked { IsAsked self.old.board (begun.old.m.signs ++ sign ∷ []) asked.now }
-        requires own { length begun.old.m.signs + 1 ≤ begun.old.next.own }
-        requires barred { IsTrue barred
-            → BarsSigns self.old.order self.old.board begun.old.m.count (begun.old.m.signs ++ sign ∷ []) }
+        requires own { IsOwnSign self.old begun.old around.now asked.now next.sign }
+        requires barred { IsTrue next.barred → BarsNext self.old begun.old next.sign }
         ensures all { (w : Moves) → IsNormalSought self.old.order w
-            → GoesOnBy self.old.board begun.old.m.count (begun.old.m.signs ++ sign ∷ []) w → S.has_met leaves.new w }
-        ensures kept { (w : Moves) → S.has_met leaves.old w → S.has_met leaves.new w }
-        ensures fixed { S.fixed leaves.new ≡ S.fixed leaves.old }
-        ensures same { self.new ≡ self.old }
-        ensures same_move { begun.new ≡ begun.old }
+            → GoesOnBy self.old.board begun.old.m.count (begun.old.m.signs ++ next.sign ∷ []) w
+            → S.has_met leaves.new w }
+        ensures kept { KeepsMet S.has_met S.fixed leaves.old leaves.new }
+        ensures same { IsUnchanged self.old begun.old self.new begun.new }
     {
-        if barred {
+        if next.barred {
             return;
         }
-        push_sign(&mut begun.m, sign);
+        push_sign(&mut begun.m, next.sign);
         self.with_own(begun, around, asked, leaves);
         pop_sign(&mut begun.m);
     }
@@ -210,14 +239,12 @@ impl Search {
         asked: &Asked,
         leaves: &mut S,
     )
-        requires with_own { IsWithOwn self.old.order self.old.board begun.old.m begun.old.next around.now asked.now }
+        requires with_own { IsWithOwn self.old begun.old around.now asked.now }
         requires own { length begun.old.m.signs ≡ begun.old.next.own }
         ensures all { (w : Moves) → IsNormalSought self.old.order w
             → GoesOnBy self.old.board begun.old.m.count begun.old.m.signs w → S.has_met leaves.new w }
-        ensures kept { (w : Moves) → S.has_met leaves.old w → S.has_met leaves.new w }
-        ensures fixed { S.fixed leaves.new ≡ S.fixed leaves.old }
-        ensures same { self.new ≡ self.old }
-        ensures same_move { begun.new ≡ begun.old }
+        ensures kept { KeepsMet S.has_met S.fixed leaves.old leaves.new }
+        ensures same { IsUnchanged self.old begun.old self.new begun.new }
     {
         if around.right_wall {
             if asks_too_much_then(begun, around, asked) {
@@ -226,11 +253,21 @@ impl Search {
             self.with_move(begun, &around.valley, leaves);
             return;
         }
-        self.with_last(begun, around, Sign::Even, false, leaves);
-        let barred = bars_last(begun, around, asked, Sign::Above);
-        self.with_last(begun, around, Sign::Above, barred, leaves);
-        let barred = bars_last(begun, around, asked, Sign::Under);
-        self.with_last(begun, around, Sign::Under, barred, leaves);
+        let even = NextSign {
+            sign: Sign::Even,
+            barred: false,
+        };
+        self.with_last(begun, around, even, leaves);
+        let above = NextSign {
+            sign: Sign::Above,
+            barred: bars_last(begun, around, asked, Sign::Above),
+        };
+        self.with_last(begun, around, above, leaves);
+        let under = NextSign {
+            sign: Sign::Under,
+            barred: bars_last(begun, around, asked, Sign::Under),
+        };
+        self.with_last(begun, around, under, leaves);
     }
 
     // Meets those whose last sign is this. There are none where it is barred.
@@ -240,25 +277,22 @@ impl Search {
         &mut self,
         begun: &mut Begun,
         around: &Beside,
-        sign: Sign,
-        barred: bool,
+        next: NextSign,
         leaves: &mut S,
     )
-        requires begun { IsMoveBegun self.old.order self.old.board begun.old.m begun.old.next around.now }
+        requires begun { IsMoveBegun self.old begun.old around.now }
         requires last { length begun.old.m.signs + 1 ≡ begun.old.next.wanted }
-        requires barred { IsTrue barred
-            → BarsSigns self.old.order self.old.board begun.old.m.count (begun.old.m.signs ++ sign ∷ []) }
+        requires barred { IsTrue next.barred → BarsNext self.old begun.old next.sign }
         ensures all { (w : Moves) → IsNormalSought self.old.order w
-            → GoesOnBy self.old.board begun.old.m.count (begun.old.m.signs ++ sign ∷ []) w → S.has_met leaves.new w }
-        ensures kept { (w : Moves) → S.has_met leaves.old w → S.has_met leaves.new w }
-        ensures fixed { S.fixed leaves.new ≡ S.fixed leaves.old }
-        ensures same { self.new ≡ self.old }
-        ensures same_move { begun.new ≡ begun.old }
+            → GoesOnBy self.old.board begun.old.m.count (begun.old.m.signs ++ next.sign ∷ []) w
+            → S.has_met leaves.new w }
+        ensures kept { KeepsMet S.has_met S.fixed leaves.old leaves.new }
+        ensures same { IsUnchanged self.old begun.old self.new begun.new }
     {
-        if barred {
+        if next.barred {
             return;
         }
-        push_sign(&mut begun.m, sign);
+        push_sign(&mut begun.m, next.sign);
         self.with_move(begun, &around.valley, leaves);
         pop_sign(&mut begun.m);
     }
@@ -273,8 +307,7 @@ impl Search {
         requires valley { IsValleyPlace self.old.board valley.now }
         ensures all { (w : Moves) → IsNormalSought self.old.order w → GoesOn (self.old.board ++ begun.now.m ∷ []) w
             → S.has_met leaves.new w }
-        ensures kept { (w : Moves) → S.has_met leaves.old w → S.has_met leaves.new w }
-        ensures fixed { S.fixed leaves.new ≡ S.fixed leaves.old }
+        ensures kept { KeepsMet S.has_met S.fixed leaves.old leaves.new }
         ensures same { self.new ≡ self.old }
     {
         if self.bars_move(begun, valley) {
@@ -282,7 +315,7 @@ impl Search {
         }
         let before = self.board.outline();
         self.board.push(&begun.m);
-        self.go_on(leaves);
+        self.meet_all(leaves);
         self.board.take_back(&before);
     }
 }

@@ -7,14 +7,17 @@ ghost use Rattle.bk_word.specs.declared.Sign.{Sign as SeenSign};
 ghost use Rattle.bk_layout.specs.NormalImage.{IsNormalSought};
 ghost use Rattle.bk_free_search.specs.AskedSigns.{IsNextCount, StandBeside};
 ghost use Rattle.bk_free_search.specs.Sought.{GoesOn};
+ghost use Rattle.bk_free_search.specs.declared.asking.Beside.{Beside as BesideSeen};
+ghost use Rattle.bk_word.specs.Outline.{open_side};
+ghost use Rattle.bk_free_search.specs.Unchanged.{KeepsMet};
 
-use crate::asking::{Beside, Next, next_of};
+use crate::asking::{Next, OpenSides, next_of};
 use crate::board::Board;
 use crate::last_square::last_move;
 use crate::searching::Leaves;
 use bk_play::SmallMove;
 use bk_short::Short;
-use bk_word::Sign;
+use bk_word::{INLINE_ORDER, Sign};
 
 /// A search for words of an order: the board on which it plays them.
 #[derive(Drop)]
@@ -30,6 +33,13 @@ pub(crate) struct Begun {
     pub(crate) next: Next,
 }
 
+/// A sign that a begun move may have next, and whether it is barred: whether no word is known to go on by it.
+#[derive(Clone, Copy, Drop)]
+pub(crate) struct NextSign {
+    pub(crate) sign: Sign,
+    pub(crate) barred: bool,
+}
+
 /// A move of no square.
 pub(crate) fn not_begun() -> Begun
     ensures { result.m.signs ≡ [] }
@@ -37,25 +47,28 @@ pub(crate) fn not_begun() -> Begun
     Begun {
         m: SmallMove {
             count: 0,
-            signs: Short::new(),
+            signs: Short::of([Sign::Above; INLINE_ORDER + 1], 0),
         },
         next: Next::default(),
     }
 }
 
-/// Begins a next move of the count, after which so many squares are left.
+/// Begins a next move of the count, after which so many squares are left, where so many segments stand beside the
+/// valley.
 #[inline]
-pub(crate) fn begin(begun: &mut Begun, around: &Beside, count: u8, left: usize)
+pub(crate) fn begin(begun: &mut Begun, sides: OpenSides, count: u8, left: usize)
     requires some { 0 < count }
-    requires few { count ≤ 16 }
-    ensures next { (order : ℕ) (front : Moves) → StandBeside order front around.now
+    requires left { sides.left ≤ 1 }
+    requires right { sides.right ≤ 1 }
+    ensures next { (order : ℕ) (front : Moves) (around : BesideSeen) → StandBeside order front around
+        → sides.left ≡ open_side around.left_wall → sides.right ≡ open_side around.right_wall
         → left ≡ order - order_of front - count
         → IsNextCount order front count begun.new.next }
     ensures count { begun.new.m.count ≡ count }
     ensures signs { begun.new.m.signs ≡ begun.old.m.signs }
 {
     begun.m.count = count;
-    begun.next = next_of(around, count, left);
+    begun.next = next_of(sides, count, left);
 }
 
 /// The move with one sign more.
@@ -68,13 +81,14 @@ pub(crate) fn push_sign(m: &mut SmallMove, sign: Sign)
     m.signs.push(sign);
 }
 
-/// The move without its last sign.
+/// The move without its last sign. There must be one.
 #[inline(always)]
 pub(crate) fn pop_sign(m: &mut SmallMove)
+    requires { 0 < length m.old.signs }
     ensures count { m.new.count ≡ m.old.count }
     ensures signs { (signs : List SeenSign) (sign : SeenSign) → m.old.signs ≡ signs ++ sign ∷ [] → m.new.signs ≡ signs }
 {
-    m.signs.truncate(m.signs.len().saturating_sub(1));
+    m.signs.pop();
 }
 
 /// Meets the word of the board, if it is complete. What that takes stands in no frame of the search, which has one for
@@ -83,8 +97,7 @@ pub(crate) fn pop_sign(m: &mut SmallMove)
 pub(crate) fn meet_closed<S: Leaves>(board: &Board, leaves: &mut S)
     requires few { order_of board.now ≤ 16 }
     ensures met { IsComplete board.now → S.has_met leaves.new board.now }
-    ensures kept { (w : Moves) → S.has_met leaves.old w → S.has_met leaves.new w }
-    ensures fixed { S.fixed leaves.new ≡ S.fixed leaves.old }
+    ensures kept { KeepsMet S.has_met S.fixed leaves.old leaves.new }
 {
     if board.skel().is_closed() {
         leaves.meet(board);
@@ -99,8 +112,7 @@ pub(crate) fn meet_with_last<S: Leaves>(board: &mut Board, order: u8, leaves: &m
     requires most { order ≤ 16 }
     requires one { order_of board.old + 1 ≡ order }
     ensures all { (w : Moves) → IsNormalSought order w → GoesOn board.old w → S.has_met leaves.new w }
-    ensures kept { (w : Moves) → S.has_met leaves.old w → S.has_met leaves.new w }
-    ensures fixed { S.fixed leaves.new ≡ S.fixed leaves.old }
+    ensures kept { KeepsMet S.has_met S.fixed leaves.old leaves.new }
     ensures board { board.new ≡ board.old }
 {
     let last = match last_move(board, order) {

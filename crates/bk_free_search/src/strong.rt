@@ -3,6 +3,7 @@
 ghost use Rattle.std.specs.Prelude.{true, ℕ, ◌+◌, ◌∷◌, ◌≡◌, ◌≤◌};
 ghost use Rattle.bk_layout.specs.StrongPass.{none_passed, pass};
 ghost use Rattle.bk_free_search.specs.Strong.{IsFewPassed, seen_passed, with_mark};
+ghost use Rattle.bk_free_search.specs.declared.counts.TheConstants.{MANY};
 
 use bk_word::Sign;
 
@@ -33,7 +34,7 @@ pub(crate) fn none_passed() -> Passed
 /// What is counted behind a segment of one square, with this sign behind it, which may be marked.
 #[inline(always)]
 pub(crate) fn past_one(passed: Passed, sign: Sign, mark: bool) -> Passed
-    requires { IsFewPassed passed 3000 }
+    requires { IsFewPassed passed MANY }
     ensures passed { seen_passed result ≡ pass (seen_passed passed) sign 1 mark }
     ensures few { (k : ℕ) → IsFewPassed passed k → IsFewPassed result (k + 1) }
 {
@@ -63,7 +64,7 @@ pub(crate) fn past_one(passed: Passed, sign: Sign, mark: bool) -> Passed
 
 /// What is counted in front of a marked segment, where its mark is counted already.
 pub(crate) fn in_front_of_mark(passed: Passed) -> Passed
-    requires { IsFewPassed passed 3000 }
+    requires { IsFewPassed passed MANY }
     ensures passed { seen_passed result ≡ with_mark (seen_passed passed) }
     ensures few { (k : ℕ) → IsFewPassed passed k → IsFewPassed result k }
 {

@@ -3,15 +3,15 @@
 ghost use Rattle.std.specs.Prelude.{length, slice_index_or, true, ℕ, ◌<◌, ◌≡◌, ◌≤◌};
 ghost use Rattle.bk_catalogue.specs.VerticalCut.{on_line};
 ghost use Rattle.bk_free_search.specs.NodeLines.{Has};
-ghost use Rattle.bk_free_search.specs.TopLines.{is_top_line, on_top_lines};
+ghost use Rattle.bk_free_search.specs.TopLines.{AreSquares, is_top_line, on_top_lines};
 
 use crate::line_set::{LineSet, no_line, with_place};
-use crate::sides::left_of;
 
 /// The places of those of these squares whose left edges lie on lines from the top, between two squares of a first move
 /// of so many.
 pub(crate) fn places_on_lines(ends: &[u8], lefts: &[u8], first: u8) -> LineSet
     requires few { length ends.now ≤ 16 }
+    requires squares { AreSquares ends.now (length lefts.now) }
     ensures { (j : ℕ) → Has result j
         → (j < length ends.now) × (on_line (on_top_lines first lefts.now) (slice_index_or ends.now j 0) ≡ true) }
 {
@@ -24,9 +24,11 @@ pub(crate) fn places_on_lines(ends: &[u8], lefts: &[u8], first: u8) -> LineSet
 
 // Whether the left edge of the square of this number, from 1, lies on a line from the top.
 fn on_line(lefts: &[u8], first: u8, square: u8) -> bool
+    requires least { 1 ≤ square }
+    requires most { square ≤ length lefts.now }
     ensures { result ≡ on_line (on_top_lines first lefts.now) square }
 {
-    is_top_line(first, left_of(lefts, square))
+    is_top_line(first, lefts[usize::from(square) - 1])
 }
 
 // Whether the line of this number begins between two squares of a first move of so many. Such lines have the numbers

@@ -1,6 +1,6 @@
 -- A rectangle that grows stays tiled.
 use Rattle.std.specs.List.{AllByRecursion}
-use Rattle.std.proofs.Common.{Bool, List, [], arith, cond, false, inl, inr, length, map, refl, subst, suc, sym, true, zero, zero-add, ℕ, ◌%◌, ◌+◌}
+use Rattle.std.proofs.Common.{Bool, [], arith, cond, false, inl, inr, length, map, refl, subst, suc, sym, true, zero, zero-add, ℕ, ◌%◌, ◌+◌, ◌/◌}
 use Rattle.std.proofs.Common.{◌<◌, ◌^◌, ◌∷◌, ◌≡◌, ◌≤◌, ◌⊎◌}
 use Rattle.std.proofs.lemmas.Bool.{le-leb, cases_lt, lt-leb}
 use Rattle.std.proofs.lemmas.List.Elements.{All-from_recursion}
@@ -18,7 +18,7 @@ use Rattle.bk_tiling.specs.Refusal.{HaveSides, ShareNoCell, sized}
 use Rattle.bk_tiling.specs.Scale.{moved_square}
 use Rattle.bk_tiling.specs.Tiling.{IsOneOf, IsWithin, Rectangle, Tiles, Tiling}
 use Rattle.bk_tiling.specs.declared.Square.{Square}
-use Rattle.bk_gen.specs.Attaching.{attached, goes_up_or_down, is_set, next_side, with_above, with_below, with_left, with_next, with_right}
+use Rattle.bk_gen.specs.Attaching.{attached, goes_up_or_down, is_odd, next_side, with_above, with_below, with_left, with_next, with_right}
 use Rattle.bk_gen.specs.Growing.{IsGrowing}
 
 -- with its squares in order it is what a `Tiling` keeps
@@ -161,7 +161,7 @@ fit_moved right down t g few_right few_down = all_from (λ q. (q.x + right < 2 ^
 
 -- by the bits of a number
 pub grows_next : (v i : ℕ) (t : Tiling) → IsGrowing t → length t.squares < 200 → next_side v i t ≤ 999_999_999_999_999 → IsGrowing (with_next v i t)
-grows_next v i t g few side = cases (goes_up_or_down v i) (is_set v (i % 64)) side
+grows_next v i t g few side = cases (goes_up_or_down v i) (is_odd (v / 2 ^ (i % 64))) side
   where
     cases : (b c : Bool) → cond b t.width t.height ≤ 999_999_999_999_999
         → IsGrowing (cond b (cond c (with_above t) (with_below t)) (cond c (with_left t) (with_right t)))
@@ -172,7 +172,7 @@ grows_next v i t g few side = cases (goes_up_or_down v i) (is_set v (i % 64)) si
 
 -- one square more
 pub next_length : (v i : ℕ) (t : Tiling) → length (with_next v i t).squares ≡ length t.squares + 1
-next_length v i t = cases (goes_up_or_down v i) (is_set v (i % 64))
+next_length v i t = cases (goes_up_or_down v i) (is_odd (v / 2 ^ (i % 64)))
   where
     cases : (b c : Bool) → length (cond b (cond c (with_above t) (with_below t)) (cond c (with_left t) (with_right t))).squares ≡ length t.squares + 1
     cases true true = omega (

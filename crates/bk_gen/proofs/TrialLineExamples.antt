@@ -8,8 +8,7 @@ use Rattle.bk_gen.specs.TrialLine.{IsTrialLine}
 pub no_codes : IsTrialLine 0 0 (codes "trial seed 0 count 0 ok 0 perfect 0 simple 0 squares 0" ++ 10 ∷ [])
 unfolding digits
 no_codes = record {
-  perfect = 0;
-  simple = 0;
+  counts = record { accepted = 0; perfect = 0; simple = 0; squares = 0 };
   tally = record { all_accepted = refl; perfects = refl; simples = refl; together = refl };
   text = refl;
 }

@@ -4,10 +4,6 @@ use Rattle.std.specs.Prelude.{Bool, [], cond, map, nat_eq, nat_le, suc, zero, �
 use Rattle.bk_tiling.specs.Scale.{moved_square}
 use Rattle.bk_tiling.specs.Tiling.{Tiling}
 
--- whether bit i of v is 1, the lowest being bit 0
-abbrev pub is_set : ℕ → ℕ → Bool
-is_set v i = nat_eq ((v / 2 ^ i) % 2) 1
-
 -- whether a number is odd
 abbrev pub is_odd : ℕ → Bool
 is_odd v = nat_eq (v % 2) 1
@@ -55,7 +51,7 @@ next_side v i t = cond (goes_up_or_down v i) t.width t.height
 -- the tiling after turn i: the bit at place i modulo 64 says on which of the two sides the square goes
 abbrev pub with_next : ℕ → ℕ → Tiling → Tiling
 with_next v i t =
-    let b = is_set v (i % 64) in
+    let b = is_odd (v / 2 ^ (i % 64)) in
     cond (goes_up_or_down v i) (cond b (with_above t) (with_below t)) (cond b (with_left t) (with_right t))
 
 -- at most n more squares attached, from turn i on, as long as the next side is not too great

@@ -5,6 +5,7 @@ use Rattle.bk_tiling.specs.Tiling.{Tiling, order}
 use Rattle.bk_simple.specs.Simple.{IsPerfect, IsSimple}
 use Rattle.bk_gen.specs.TrialCodes.{mixed, trial_tiling}
 use Rattle.bk_report.specs.Trial.{trial_line}
+use Rattle.bk_report.specs.declared.trial.TrialCounts.{TrialCounts}
 use Rattle.bk_gen.specs.Counting.{HoldsAtSoMany}
 
 -- the tiling of the trial code of a seed at a place
@@ -17,15 +18,14 @@ squares_below seed zero = 0
 squares_below seed (suc n) = squares_below seed n + order (tiling_at seed n)
 
 -- what is counted of the trial codes at the places below n: all of them are accepted
-pub record IsTally (seed n accepted perfect simple squares : ℕ) : Type 0 where
-  pub all_accepted : accepted ≡ n
-  pub perfects : HoldsAtSoMany (λ k. IsPerfect (tiling_at seed k)) n perfect
-  pub simples : HoldsAtSoMany (λ k. IsSimple (tiling_at seed k)) n simple
-  pub together : squares ≡ squares_below seed n
+pub record IsTally (seed n : ℕ) (counts : TrialCounts) : Type 0 where
+  pub all_accepted : counts.accepted ≡ n
+  pub perfects : HoldsAtSoMany (λ k. IsPerfect (tiling_at seed k)) n counts.perfect
+  pub simples : HoldsAtSoMany (λ k. IsSimple (tiling_at seed k)) n counts.simple
+  pub together : counts.squares ≡ squares_below seed n
 
 -- trial: the line about the trial codes of a seed at the places below n
 pub record IsTrialLine (seed n : ℕ) (bytes : List ℕ) : Type 0 where
-  pub perfect : ℕ
-  pub simple : ℕ
-  pub tally : IsTally seed n n perfect simple (squares_below seed n)
-  pub text : bytes ≡ trial_line seed n n perfect simple (squares_below seed n)
+  pub counts : TrialCounts
+  pub tally : IsTally seed n counts
+  pub text : bytes ≡ trial_line seed n counts

@@ -1,9 +1,10 @@
 //! A rectangle that grows square by square.
 
 ghost use Rattle.std.specs.List.{AllByRecursion};
-ghost use Rattle.std.specs.Prelude.{length, map, ◌+◌, ◌<◌, ◌^◌, ◌≡◌, ◌≤◌};
+ghost use Rattle.std.specs.Prelude.{length, map, ◌+◌, ◌/◌, ◌<◌, ◌^◌, ◌≡◌, ◌≤◌};
 ghost use Rattle.bk_tiling.specs.Scale.{moved_square};
-ghost use Rattle.bk_gen.specs.Attaching.{goes_up_or_down, is_set};
+ghost use Rattle.bk_tiling.specs.declared.TheConstants.{LONGEST_SIDE, MOST_SQUARES};
+ghost use Rattle.bk_gen.specs.Attaching.{goes_up_or_down, is_odd};
 
 use arrayvec::ArrayVec;
 use bk_tiling::{MOST_SQUARES, Square, Tiling, put_in_order};
@@ -69,8 +70,8 @@ impl Growing {
 
     // Attaches the square of this turn.
     pub(crate) fn attach(&mut self, v: u64, turn: usize)
-        requires few { length self.old.squares < 200 }
-        requires side { next_side v turn self.old ≤ 999_999_999_999_999 }
+        requires few { length self.old.squares < MOST_SQUARES }
+        requires side { next_side v turn self.old ≤ LONGEST_SIDE }
         ensures { self.new ≡ with_next v turn self.old }
     {
         match (goes_up_or_down(v, turn), is_set(v, turn % 64)) {
@@ -82,8 +83,8 @@ impl Growing {
     }
 
     fn attach_right(&mut self)
-        requires few { length self.old.squares < 200 }
-        requires side { self.old.height ≤ 999_999_999_999_999 }
+        requires few { length self.old.squares < MOST_SQUARES }
+        requires side { self.old.height ≤ LONGEST_SIDE }
         ensures { self.new ≡ with_right self.old }
     {
         self.squares.push(Square {
@@ -95,8 +96,8 @@ impl Growing {
     }
 
     fn attach_left(&mut self)
-        requires few { length self.old.squares < 200 }
-        requires side { self.old.height ≤ 999_999_999_999_999 }
+        requires few { length self.old.squares < MOST_SQUARES }
+        requires side { self.old.height ≤ LONGEST_SIDE }
         ensures { self.new ≡ with_left self.old }
     {
         move_all(self.squares.as_mut_slice(), self.height, 0);
@@ -109,8 +110,8 @@ impl Growing {
     }
 
     fn attach_below(&mut self)
-        requires few { length self.old.squares < 200 }
-        requires side { self.old.width ≤ 999_999_999_999_999 }
+        requires few { length self.old.squares < MOST_SQUARES }
+        requires side { self.old.width ≤ LONGEST_SIDE }
         ensures { self.new ≡ with_below self.old }
     {
         self.squares.push(Square {
@@ -122,8 +123,8 @@ impl Growing {
     }
 
     fn attach_above(&mut self)
-        requires few { length self.old.squares < 200 }
-        requires side { self.old.width ≤ 999_999_999_999_999 }
+        requires few { length self.old.squares < MOST_SQUARES }
+        requires side { self.old.width ≤ LONGEST_SIDE }
         ensures { self.new ≡ with_above self.old }
     {
         move_all(self.squares.as_mut_slice(), 0, self.width);
@@ -173,7 +174,7 @@ fn goes_up_or_down(v: u64, turn: usize) -> bool
 // Whether a bit of the number is 1, the lowest being bit 0.
 fn is_set(v: u64, place: usize) -> bool
     requires { place < 64 }
-    ensures { result ≡ is_set v place }
+    ensures { result ≡ is_odd (v / 2 ^ place) }
 {
     (v >> place) % 2 == 1
 }

@@ -3,12 +3,13 @@
 #![tactic(auto)]
 
 ghost use Rattle.std.specs.Prelude.{length, ◌-◌, ◌≡◌};
+ghost use Rattle.bk_tiling.specs.declared.TheConstants.{MOST_SQUARES};
 ghost use Rattle.bk_gen.specs.Attaching.{attached};
 ghost use Rattle.bk_gen.specs.TrialCodes.{first_rectangle, mixed, sample, trial_tiling};
-ghost use Rattle.bk_gen.specs.TrialLaws.{EachSampleHasATiling};
 
 mod first;
 mod growing;
+mod laws;
 mod laying;
 mod tally;
 mod trial_line;
@@ -17,7 +18,8 @@ use bk_code::{Code, code_of};
 use bk_tiling::{LONGEST_SIDE, MOST_SQUARES, Tiling};
 use first::first_rectangle;
 use growing::Growing;
-pub use trial_line::{a_sample_is_laid, a_seed_has_one_line, trial};
+pub use laws::{a_sample_is_laid, a_seed_has_one_line, each_sample_has_a_tiling};
+pub use trial_line::trial;
 
 /// The trial code of a seed and a place: the code (Bouwkamp 1946-47) of a large rectangle that is made from the two.
 /// Let v be (seed + k) times 0x9E3779B97F4A7C15, both modulo 2^64.
@@ -51,7 +53,7 @@ fn trial_tiling(v: u64) -> Tiling
 
 // The rectangle of a number, to which all squares are attached.
 fn grown(v: u64) -> Growing
-    ensures { result ≡ attached (200 - length (first_rectangle v).squares) v 0 (first_rectangle v) }
+    ensures { result ≡ attached (MOST_SQUARES - length (first_rectangle v).squares) v 0 (first_rectangle v) }
 {
     let mut growing = first_rectangle(v);
     for turn in 0..MOST_SQUARES - growing.order() {
@@ -62,8 +64,3 @@ fn grown(v: u64) -> Growing
     }
     growing
 }
-
-/// Each trial code is the code of a tiling of at most 200 squares, none above 999,999,999,999,999.
-pub fn each_sample_has_a_tiling()
-    ensures { EachSampleHasATiling }
-{}

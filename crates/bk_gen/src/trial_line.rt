@@ -1,7 +1,6 @@
 //! Trial codes are made, written, read again, laid and counted.
 
 ghost use Rattle.bk_gen.specs.TrialLine.{IsTrialLine};
-ghost use Rattle.bk_gen.specs.TrialLineLaws.{ASampleIsLaid, ASeedHasOneLine};
 
 use crate::tally::tally_of;
 use bk_grammar::AnswerBuffer;
@@ -14,25 +13,14 @@ use bk_report::write_trial;
 pub fn trial(seed: u64, count: u32, out: &mut AnswerBuffer)
     ensures { IsTrialLine seed count out.new.items }
 {
-    let tally = tally_of(seed, count, out);
+    let counts = tally_of(seed, count, out);
     write_trial(
         seed,
         count,
-        tally.accepted,
-        tally.perfect,
-        tally.simple,
-        tally.squares,
+        counts.accepted,
+        counts.perfect,
+        counts.simple,
+        counts.squares,
         out,
     );
 }
-
-/// A seed and a count have one line.
-pub fn a_seed_has_one_line()
-    ensures { ASeedHasOneLine }
-{}
-
-/// Laying accepts each trial code (`bk_gen::sample`): its tiling has the code, and no group of it misfits, nor is its
-/// end open (`bk_profile::lay_code`).
-pub fn a_sample_is_laid()
-    ensures { ASampleIsLaid }
-{}

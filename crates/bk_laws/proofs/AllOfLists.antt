@@ -6,7 +6,7 @@ use Rattle.std.specs.Prelude.{All, Any, Bool, IsTrue, cond, filter, int_div, nat
 use Rattle.std.proofs.lemmas.Bool.{and_from, and_parts, both_ways, cases_Bool, or_left, or_right}
 use Prim.Native.Nat.{◌∣◌}
 use Rattle.std.proofs.Math.IntN.{*ℤ_comm}
-use Rattle.std.proofs.Math.Nat.{dvd-mul_left, mul-dvd-mul_left, mul_comm}
+use Rattle.std.proofs.Math.Nat.{div-le_self, dvd-mul_left, mul-dvd-mul_left, mul_comm}
 use Rattle.std.proofs.lemmas.Int.{ints, unsigned_abs-mul}
 use Rattle.std.proofs.lemmas.List.{take_all, take_more}
 use Rattle.std.proofs.lemmas.List.Elements.{All-from_recursion}
@@ -14,7 +14,7 @@ use Rattle.bk_laws.proofs.ListPlaces.{head_same, tail_same}
 use Rattle.bk_laws.proofs.Magnitudes.{quotient_by_zero_or_one}
 use Rattle.bk_laws.proofs.Outcomes.{some-injective}
 use Rattle.bk_laws.proofs.Truth.{or-monotone}
-use Rattle.bk_laws.proofs.WholeNumbers.{abs-mul, divisor_times_quotient, one-*ℤ}
+use Rattle.bk_laws.proofs.WholeNumbers.{abs-mul, abs-quotient, divisor_times_quotient, one-*ℤ}
 
 -- what holds of all of two lists holds of all of both, end to end
 pub all_append : {A : Type 0} (P : A → Type 0) (xs ys : List A) → AllByRecursion P xs → AllByRecursion P ys → AllByRecursion P (xs ++ ys)
@@ -228,3 +228,20 @@ all_positive-magnitudes [] long = (tt, refl)
 all_positive-magnitudes (pos n ∷ cs) long =
     let rest = all_positive-magnitudes cs long.1 in ((omega (arith, ints, long.0), rest.0), ap (λ (ds : List ℤ). pos n ∷ ds) rest.1)
 all_positive-magnitudes (negsuc n ∷ cs) long = absurd (omega (arith, ints, long.0))
+
+-- what holds of the first k items of a list holds of the item at each place before k
+pub all-get_or_of_take : {X : Type 0} (P : X → Type 0) (xs : List X) (k j : ℕ) (d : X) → AllByRecursion P (take k xs) → j < k → j < length xs
+    → P (get_or xs j d)
+all-get_or_of_take P [] k j d all hk hl = absurd (omega arith)
+all-get_or_of_take P (x ∷ xs) zero j d all hk hl = absurd (omega arith)
+all-get_or_of_take P (x ∷ xs) (suc k) zero d all hk hl = all.0
+all-get_or_of_take P (x ∷ xs) (suc k) (suc j) d all hk hl = all-get_or_of_take P xs k j d all.1 (omega arith) (omega arith)
+
+-- the numbers are at most b in magnitude
+abbrev pub AreUpTo : ℕ → List ℤ → Type 0
+AreUpTo b zs = AllByRecursion (λ z. nat_abs z ≤ b) zs
+
+-- the quotients of numbers that are at most b in magnitude are so, too
+pub divided_up_to : (b g : ℕ) (zs : List ℤ) → AreUpTo b zs → AreUpTo b (map (λ n. int_div n (pos g)) zs)
+divided_up_to b g [] all = tt
+divided_up_to b g (z ∷ zs) all = (omega (arith, abs-quotient g z, div-le_self (nat_abs z) g, all.0), divided_up_to b g zs all.1)

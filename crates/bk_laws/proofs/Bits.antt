@@ -52,20 +52,6 @@ bit_at-and_right a b i has = omega (arith, bit_at-lt a i, bit_at-lt b i, sym (bi
 pub some_bit-of_positive : (n : ℕ) → n < 2 ^ 32 → 0 < n → (i : ℕ) × (bit_at n i ≡ 1)
 some_bit-of_positive n below some = let t = bit_at-trailing_zeros w32 n some below in (trailing_zeros w32 n, t.1)
 
--- a number that is neither 0 nor 1 has a bit that is set, other than the first
-pub some_bit-but_first : (n : ℕ) → n < 2 ^ 32 → n ≢ 0 → n ≢ 1 → (i : ℕ) × (0 < i) × (bit_at n i ≡ 1)
-some_bit-but_first n below some other = let s = some_bit-of_positive (n / 2) (omega (arith, below)) (omega (arith, some, other)) in
-    (suc s.0, omega arith, bit_at-suc n s.0 ∙ s.1)
-
--- a number that is neither 0 nor 2 has a bit that is set, other than the second
-pub some_bit-but_second : (n : ℕ) → n < 2 ^ 32 → n ≢ 0 → n ≢ 2 → (i : ℕ) × (i ≢ 1) × (bit_at n i ≡ 1)
-some_bit-but_second n below some other = cases (cases_eq (n % 2) 1)
-  where
-    cases : (n % 2 ≡ 1) ⊎ (n % 2 ≢ 1) → (i : ℕ) × (i ≢ 1) × (bit_at n i ≡ 1)
-    cases (inl e) = (0, (λ f. absurd (omega (arith, f))), bit_at_lowest n ∙ e)
-    cases (inr e) = let s = some_bit-of_positive (n / 2 / 2) (omega (arith, below)) (omega (arith, some, other, e)) in
-        (suc (suc s.0), (λ f. absurd (omega (arith, f))), bit_at-suc n (suc s.0) ∙ bit_at-suc (n / 2) s.0 ∙ s.1)
-
 -- the bits of the difference of two powers of 2 lie between their exponents
 pub bit_at-between : (from end i : ℕ) → from ≤ end → end < 32 → bit_at (1 * 2 ^ end % 2 ^ 32 - 1 * 2 ^ from % 2 ^ 32) i ≡ 1 → (from ≤ i) × (i < end)
 bit_at-between from end i order few has = (by_low (two from i), by_high (two i end))

@@ -1,7 +1,7 @@
 -- Whole numbers as a machine holds them, in 64 and in 128 bits with a sign.
 use Rattle.std.specs.Int.{w128, w64}
-use Rattle.std.specs.Prelude.{FitsSigned, int_div, nat_abs, neg_ℤ, negsuc, pos, ℤ, ◌*ℤ◌, ◌+ℤ◌, ◌-ℤ◌, ◌<ℤ◌, ◌≤◌}
-use Rattle.std.proofs.Common.{ap, arith, of_z, refl, subst, sym, to_z, ℕ, ◌-◌, ◌<◌, ◌^◌, ◌∙◌, ◌≡◌}
+use Rattle.std.specs.Prelude.{FitsSigned, int_div, nat_abs, neg_ℤ, negsuc, pos, ℤ, ◌*ℤ◌, ◌+ℤ◌, ◌-ℤ◌, ◌<ℤ◌, ◌≤ℤ◌, ◌≤◌}
+use Rattle.std.proofs.Common.{Fits, ap, arith, of_z, refl, subst, sym, to_z, ℕ, ◌-◌, ◌<◌, ◌^◌, ◌∙◌, ◌≡◌}
 use Rattle.std.proofs.lemmas.Int.{ints, quot_fits, quot_is, to_z-of_z, to_z_pos, unsigned_abs-mul}
 use Rattle.std.proofs.lemmas.Nat.{mul-le}
 use Rattle.bk_laws.proofs.Magnitudes.{abs_difference-below_pow_127, abs_product-below_pow_126, abs_successor-below_pow_63}
@@ -150,3 +150,20 @@ held_product-w128 x y v w fx fy ex ey = λ i. (to_z-of_z w128 x fx ∙ ex) i *�
 -- the difference of two numbers of 128 bits, as the machine holds them
 pub held_difference-w128 : (x y v w : ℤ) → FitsSigned w128 x → FitsSigned w128 y → x ≡ v → y ≡ w → to_z w128 (of_z w128 x) -ℤ to_z w128 (of_z w128 y) ≡ v -ℤ w
 held_difference-w128 x y v w fx fy ex ey = λ i. (to_z-of_z w128 x fx ∙ ex) i -ℤ (to_z-of_z w128 y fy ∙ ey) i
+
+-- a number between the limits of 64 bits
+abbrev pub IsShort : ℤ → Type 0
+IsShort z = (neg_ℤ (pos (2 ^ 63)) ≤ℤ z) × (z <ℤ pos (2 ^ 63))
+
+-- a number between the limits of 64 bits fits them
+pub fits_w64-of_short : (z : ℤ) → IsShort z → FitsSigned w64 z
+fits_w64-of_short (pos n) (least, most) = record { sfits = omega (arith, ints) }
+fits_w64-of_short (negsuc n) (least, most) = record { sfits = omega (arith, ints) }
+
+-- a number of 128 bits that is held as one between the limits of 64 bits fits these
+pub fits_w64-of_held_short : (z : ℤ) → FitsSigned w128 z → IsShort (to_z w128 (of_z w128 z)) → FitsSigned w64 z
+fits_w64-of_held_short z fits short = fits_w64-of_short z (subst IsShort (to_z-of_z w128 z fits) short)
+
+-- a number below 2 ^ 64 fits 64 bits
+pub number_below_fits : {n : ℕ} → n < 2 ^ 64 → Fits w64 n
+number_below_fits low = omega (arith, low)

@@ -22,9 +22,16 @@ pub mod Membership
 pub mod Occurrences
 pub mod Totals
 pub mod Sums
+pub mod SumsBelow
 pub mod Counts
 pub mod ZippedLists
 pub mod Pigeonhole
+pub mod Rows
+pub mod UnitRows
+pub mod DigitLists
+pub mod RowValues
+pub mod SparseSums
+pub mod SmallKernel
 pub mod Digits
 pub mod Bytes
 pub mod Rooms

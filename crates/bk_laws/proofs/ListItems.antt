@@ -300,3 +300,9 @@ pub slice_index_or-replicate : (n x k d : ℕ) → k < n → slice_index_or (rep
 slice_index_or-replicate zero x k d h = absurd (omega arith)
 slice_index_or-replicate (suc n) x zero d h = refl
 slice_index_or-replicate (suc n) x (suc k) d h = slice_index_or-replicate n x k d (omega arith)
+
+-- a list of one item repeated has this item at each place, and as its default past the end
+pub get_or-replicate_default : {X : Type 0} (n k : ℕ) (x : X) → get_or (replicate n x) k x ≡ x
+get_or-replicate_default zero k x = refl
+get_or-replicate_default (suc n) zero x = refl
+get_or-replicate_default (suc n) (suc k) x = get_or-replicate_default n k x

@@ -10,7 +10,8 @@ use Rattle.std.proofs.lemmas.Int.{by_lt_z, ints, unsigned_abs-mul}
 use Rattle.std.proofs.lemmas.Nat.{mul-le}
 use Rattle.bk_laws.proofs.Multiples.{product-below_pow_126}
 use Rattle.bk_laws.proofs.Products.{mul_below}
-use Rattle.bk_laws.proofs.WholeNumbers.{abs-mul, cancel_left, divisor_times_quotient, mul-add, mul-sub, mul-zero, mul_cross, neg-mul, one-*ℤ, quotient_is}
+use Rattle.bk_laws.proofs.WholeNumbers.{abs-mul, abs-neg, cancel_left, divisor_times_quotient, mul-add, mul-sub, mul-zero, mul_cross, neg-mul, one-*ℤ}
+use Rattle.bk_laws.proofs.WholeNumbers.{quotient_is}
 
 -- a factor that isn't 0 cancels
 pub mul-cancel_nonzero : (c x y : ℤ) → (c ≡ pos 0 → ⊥) → c *ℤ x ≡ c *ℤ y → x ≡ y
@@ -261,3 +262,17 @@ signed_terms-wire false false s m n r e = omega (arith, ints)
 -- 1 isn't 0
 pub one_is_not_zero : pos 1 ≡ pos 0 → ⊥
 one_is_not_zero e = omega (arith, ints, e)
+
+-- z, with its sign turned where w is negative
+abbrev pub signed : ℤ → ℤ → ℤ
+signed z (pos m) = z
+signed z (negsuc m) = neg_ℤ z
+
+-- a number whose sign is turned, or not, keeps its magnitude
+pub signed_magnitude : (z w : ℤ) → nat_abs (signed z w) ≡ nat_abs z
+signed_magnitude z (pos m) = refl
+signed_magnitude z (negsuc m) = abs-neg z
+
+-- z is p times a whole number
+abbrev pub IsMultiple : ℤ → ℤ → Type 0
+IsMultiple p z = (c : ℤ) × (p *ℤ c ≡ z)

@@ -1,10 +1,12 @@
 -- Sums of lists of numbers, and of terms over a list or a range.
 use Rattle.std.specs.List.{AllByRecursion, concat, range_with_len}
 use Rattle.std.proofs.Common.{List, [], ap, arith, drop, get_or, inl, inr, length, map, refl, slice_index, slice_index_or, suc, sum, sum_by, sym, take, zero, ℕ}
-use Rattle.std.proofs.Common.{◌+◌, ◌-◌, ◌<◌, ◌∙◌, ◌∷◌, ◌≡◌, ◌≢◌, ◌≤◌, ◌⊎◌}
+use Rattle.std.proofs.Common.{cond, ◌+◌, ◌-◌, ◌<◌, ◌==◌, ◌∙◌, ◌∷◌, ◌≡◌, ◌≢◌, ◌≤◌, ◌⊎◌}
 use Rattle.std.proofs.lemmas.List.{drop_all, drop_more, length-append}
 use Rattle.std.proofs.lemmas.List.Sums.{sum_by-cons, sum_by-take-drop}
 use Rattle.bk_laws.proofs.Totals.{total}
+use Rattle.bk_laws.proofs.TestsAsNumbers.{cond-of_different, cond-of_equal}
+use Rattle.std.proofs.lemmas.Bool.{cases_eq}
 
 -- a sum, from the first number on
 pub sum-cons_first : (n : ℕ) (ns : List ℕ) → sum (n ∷ ns) ≡ n + sum ns
@@ -174,3 +176,42 @@ sum-start_of_next segments sizes start i size are is e h = (λ j. is j + e j) �
 pub total-positive_of_positive : (sides : List ℕ) → AllByRecursion (λ s. 0 < s) sides → 0 < length sides → 0 < total sides
 total-positive_of_positive [] a h = absurd (omega arith)
 total-positive_of_positive (s ∷ sides) a h = omega (arith, a.0)
+
+-- ---- sums over the numbers from one on
+
+-- the sum of f over n numbers from k on
+abbrev pub sum_from : (ℕ → ℕ) → ℕ → ℕ → ℕ
+sum_from f k n = sum_by f (range_with_len k n)
+
+-- a sum over numbers from k on, its first number apart
+pub sum_from-first : (f : ℕ → ℕ) (k n : ℕ) → sum_from f k (suc n) ≡ f k + sum_from f (k + 1) n
+sum_from-first f k n = sum_by-cons f k (range_with_len (k + 1) n)
+
+-- where f is at most the sum of g and h, its sum is at most the sum of theirs
+pub sum_from-le_add : (f g h : ℕ → ℕ) (k n : ℕ) → ((u : ℕ) → f u ≤ g u + h u) → sum_from f k n ≤ sum_from g k n + sum_from h k n
+sum_from-le_add f g h k zero each = omega arith
+sum_from-le_add f g h k (suc n) each = omega (
+  arith,
+  sum_from-first f k n,
+  sum_from-first g k n,
+  sum_from-first h k n,
+  each k,
+  sum_from-le_add f g h (k + 1) n each,
+)
+
+-- 1 at a, and 0 elsewhere
+abbrev pub one_at : ℕ → ℕ → ℕ
+one_at a u = cond (a == u) 1 0
+
+-- 1 at a adds nothing to a sum over numbers behind a
+pub sum_from-one_at_past : (a k n : ℕ) → a < k → sum_from (one_at a) k n ≡ 0
+sum_from-one_at_past a k n h = sum_by_range-none_counts (one_at a) a k n h (λ j other. cond-of_different a j 1 (λ e. other (sym e)))
+
+-- 1 at a adds at most 1 to a sum
+pub sum_from-one_at_le : (a k n : ℕ) → sum_from (one_at a) k n ≤ 1
+sum_from-one_at_le a k zero = omega arith
+sum_from-one_at_le a k (suc n) = cases (cases_eq a k) (sum_from-one_at_le a (k + 1) n)
+  where
+    cases : (a ≡ k) ⊎ (a ≡ k → ⊥) → sum_from (one_at a) (k + 1) n ≤ 1 → sum_from (one_at a) k (suc n) ≤ 1
+    cases (inl e) rest = omega (arith, sum_from-first (one_at a) k n, cond-of_equal a k 1 e, sum_from-one_at_past a (k + 1) n (omega arith))
+    cases (inr other) rest = omega (arith, sum_from-first (one_at a) k n, cond-of_different a k 1 other, rest)

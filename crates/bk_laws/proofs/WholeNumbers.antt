@@ -150,3 +150,7 @@ abs-less z = ap nat_abs less ∙ abs-neg z
   where
     less : pos 0 -ℤ z ≡ neg_ℤ z
     less = omega (arith, ints)
+
+-- a multiple of one function less a multiple of another
+abbrev pub mix : ℤ → (ℕ → ℤ) → ℤ → (ℕ → ℤ) → ℕ → ℤ
+mix i p j r v = i *ℤ p v -ℤ j *ℤ r v

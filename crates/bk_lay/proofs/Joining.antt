@@ -44,6 +44,12 @@ pub span-append : (laid : List Square) (level x : ℕ) (front : List ℕ) (mid :
 span-append laid level x [] mid back end a b = subst (λ (y : ℕ). Span laid level y back end) (sym a) b
 span-append laid level x (n ∷ front) mid back end a b = (a.0, a.1, a.2, a.3, span-append laid level (x + (a.0).s) front mid back end a.4 b)
 
+-- two levels compare so where this sign is between them
+abbrev pub Compare : Sign → ℕ → ℕ → Type 0
+Compare Above m n = m < n
+Compare Even m n = m ≡ n
+Compare Under m n = n < m
+
 -- how two levels compare, with the sign between them
 pub sign_case : (m n : ℕ) → ((m < n) × (sign_between m n ≡ Above)) ⊎ ((m ≡ n) × (sign_between m n ≡ Even)) ⊎ ((n < m) × (sign_between m n ≡ Under))
 sign_case m n = cases (three m n)
@@ -65,6 +71,16 @@ sign_case m n = cases (three m n)
     cases (inl h) = inl (h, above h)
     cases (inr (inl h)) = inr (inl (h, even h))
     cases (inr (inr h)) = inr (inr (h, under h))
+
+-- the sign between two levels tells how they compare
+pub compared_by_sign : (m n : ℕ) (sign : Sign) → sign_between m n ≡ sign → Compare sign m n
+compared_by_sign m n sign e = subst (λ (s : Sign). Compare s m n) e (own (sign_case m n))
+  where
+    own : ((m < n) × (sign_between m n ≡ Above)) ⊎ ((m ≡ n) × (sign_between m n ≡ Even)) ⊎ ((n < m) × (sign_between m n ≡ Under))
+        → Compare (sign_between m n) m n
+    own (inl h) = subst (λ (s : Sign). Compare s m n) (sym h.1) h.0
+    own (inr (inl h)) = subst (λ (s : Sign). Compare s m n) (sym h.1) h.0
+    own (inr (inr h)) = subst (λ (s : Sign). Compare s m n) (sym h.1) h.0
 
 module _ (width : ℕ) (laid : List Square) (sides : (n : ℕ) (q : Square) → IsNumbered laid n q → 0 < q.s) where
   -- two segments of one level side by side are one

@@ -14,6 +14,7 @@ use Rattle.bk_lay.proofs.Valleys.{leftmost_by_falling, one_leftmost_valley}
 use Rattle.bk_lay.specs.Depiction.{FillsFromTop}
 use Rattle.bk_lay.specs.TilingWord.{IsLeftmostValley, MovesFollow, move_under, squares_under}
 use Rattle.bk_lay.specs.WordLaws.{EveryTilingHasAWord, LeftmostIsFirstRise, NeverDeeperBefore}
+use Rattle.std.specs.Prelude.{◌*◌}
 
 module _ (width : ℕ) (laid : List Square) where
   -- n columns from x on are level, the column before them is deeper, and the columns never get deeper before them
@@ -98,16 +99,12 @@ falls_before width laid v found = subst (NeverDeeperBefore laid) (one_leftmost_v
 pub leftmost_is_first_rise : LeftmostIsFirstRise
 leftmost_is_first_rise width laid v valley = (leftmost_by_falling width laid v valley, falls_before width laid v)
 
--- the depths of the first columns, and that many times the height
+-- the sum of the depths of the first columns
 abbrev total : List Square → ℕ → ℕ
 total laid zero = 0
 total laid (suc c) = depth laid c + total laid c
 
-abbrev full : ℕ → ℕ → ℕ
-full height zero = 0
-full height (suc c) = height + full height c
-
-total_most : (height : ℕ) (laid : List Square) → ((c : ℕ) → depth laid c ≤ height) → (c : ℕ) → total laid c ≤ full height c
+total_most : (height : ℕ) (laid : List Square) → ((c : ℕ) → depth laid c ≤ height) → (c : ℕ) → total laid c ≤ c * height
 total_most height laid most zero = omega arith
 total_most height laid most (suc c) = omega (arith, most c, total_most height laid most c)
 
@@ -192,7 +189,7 @@ module _ (t : Tiling) (tiling : IsTiling t) where
           (column_from (there.0).x there.0 (omega arith) (omega (arith, side))) in
           omega (arith, side, ((found.valley).flat).level (there.0).x b (omega (arith, side)))
 
-  moves_from : (fuel : ℕ) (laid : List Square) → FillsFromTop t laid → full t.height t.width ≤ total laid t.width + fuel → (w : Word) × MovesFollow t laid w
+  moves_from : (fuel : ℕ) (laid : List Square) → FillsFromTop t laid → t.width * t.height ≤ total laid t.width + fuel → (w : Word) × MovesFollow t laid w
   moves_from zero laid fills enough = last (there_is_a_valley t.width laid (wide_enough t tiling))
     where
       last : ((v : Segment) × IsLeftmostValley t.width laid v × NeverDeeperBefore laid v) → (w : Word) × MovesFollow t laid w
@@ -209,7 +206,7 @@ module _ (t : Tiling) (tiling : IsTiling t) where
   moves_from (suc fuel) laid fills enough = last (there_is_a_valley t.width laid (wide_enough t tiling)) (moves_from fuel)
     where
       last : ((v : Segment) × IsLeftmostValley t.width laid v × NeverDeeperBefore laid v)
-          → ((laid : List Square) → FillsFromTop t laid → full t.height t.width ≤ total laid t.width + fuel → (w : Word) × MovesFollow t laid w)
+          → ((laid : List Square) → FillsFromTop t laid → t.width * t.height ≤ total laid t.width + fuel → (w : Word) × MovesFollow t laid w)
           → (w : Word) × MovesFollow t laid w
       last found rest = cases (cases_lt (found.0).level t.height)
         where
@@ -222,7 +219,7 @@ module _ (t : Tiling) (tiling : IsTiling t) where
 
   -- what is laid can be gone on with to the end
   pub some_moves_follow : (laid : List Square) → FillsFromTop t laid → (w : Word) × MovesFollow t laid w
-  some_moves_follow laid fills = moves_from (full t.height t.width) laid fills (omega arith)
+  some_moves_follow laid fills = moves_from (t.width * t.height) laid fills (omega arith)
 
   -- where nothing is laid, the tiling is filled from the top so far
   pub nothing_laid : FillsFromTop t []
@@ -230,4 +227,4 @@ module _ (t : Tiling) (tiling : IsTiling t) where
 
 -- from there turn by turn each tiling has a word
 pub every_tiling_has_a_word : EveryTilingHasAWord
-every_tiling_has_a_word t tiling = moves_from t tiling (full t.height t.width) [] (nothing_laid t tiling) (omega arith)
+every_tiling_has_a_word t tiling = moves_from t tiling (t.width * t.height) [] (nothing_laid t tiling) (omega arith)

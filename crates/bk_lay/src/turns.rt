@@ -12,7 +12,7 @@ ghost use Rattle.bk_lay.specs.Turning.{AreTurns, IsTurn, Turned};
 
 use crate::outline::{Outline, Run};
 use bk_tiling::{Square, Tiling};
-use bk_word::{Move, NoMemory, Word};
+use bk_word::{INLINE_ORDER, Move, NoMemory, Word};
 use std::alloc::Global;
 use std::marker::Model;
 
@@ -71,7 +71,7 @@ impl Turns {
 /// There is no memory only where the order is above 16. This word is our own.
 pub fn word_of(alloc: Global, tiling: &Tiling) -> Result<Word, NoMemory>
     ensures word { IfOk result (IsWordOf tiling.now) }
-    ensures inline { order tiling.now ≤ 16 → IsOk result }
+    ensures inline { order tiling.now ≤ INLINE_ORDER → IsOk result }
 {
     let mut word = Word::new(alloc);
     let mut turns = Turns::new();

@@ -8,13 +8,10 @@ pub mod MoveChain
 pub mod NodeHeads
 pub mod NodeLaws
 pub mod OpenRuns
-pub mod OutlineThen
 pub mod Sweep
 pub mod SweepEnd
-pub mod SweepMove
+pub mod SweepSteps
 pub mod SweepStart
-pub mod SweepStates
-pub mod SweepStep
 pub mod Trace
 pub mod Turning
 pub mod WholeRuns

@@ -12,9 +12,14 @@ use Rattle.bk_layout.specs.Layout.{Fits, HasNoTwins, Layout}
 use Rattle.bk_layout.specs.LayoutLaws.{IsWordOfLayout}
 use Rattle.bk_layout.specs.Reversal.{IsUpToReversals}
 
+-- no move of two squares or more that begins with even and above
+abbrev pub BeginsNoEvenAbove : Move → Type 0
+BeginsNoEvenAbove m = 1 < m.count → slice_get m.signs 0 ≡ Some Even → slice_get m.signs 1 ≡ Some Above → ⊥
+
+-- beside a left neighbour the move begins not so. At the left wall its first sign stands between two of its own
+-- squares, which are twins where it is even: so in a word of a layout without twins no move at all begins so
 abbrev pub KeepsRuleR : Outline → Move → Type 0
-KeepsRuleR o m = has_left_wall o ≡ false → 1 < m.count → slice_get m.signs 0 ≡ Some Even
-    → slice_get m.signs 1 ≡ Some Above → ⊥
+KeepsRuleR o m = has_left_wall o ≡ false → BeginsNoEvenAbove m
 
 abbrev pub KeepRuleRFrom : Outline → Word → Type 0
 KeepRuleRFrom o [] = ⊤
@@ -23,10 +28,6 @@ KeepRuleRFrom o (m ∷ moves) = KeepsRuleR o m × KeepRuleRFrom (after_move o m)
 -- the first valley stands at the left wall, so the rule says nothing of the first move
 abbrev pub DoesKeepRuleR : Word → Type 0
 DoesKeepRuleR w = KeepRuleRFrom start w
-
--- without a word on walls: no move of two squares or more begins so
-abbrev pub BeginsNoEvenAbove : Move → Type 0
-BeginsNoEvenAbove m = 1 < m.count → slice_get m.signs 0 ≡ Some Even → slice_get m.signs 1 ≡ Some Above → ⊥
 
 -- a layout that is l up to reversals, and a free word of it that keeps the rule
 pub record HasWordByRuleR (l : Layout) : Type 0 where

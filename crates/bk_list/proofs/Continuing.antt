@@ -94,11 +94,13 @@ module _ (catalogue : Catalogue) (cursor : Word) (entries more : List Entry) (a 
   ends_both (WideAt w) (low, stop) = (
     tt,
     record {
-      complete = stop.complete;
-      order = stop.order;
-      after = after_last cursor entries a.after a.ascending w stop.after;
-      wide = stop.wide;
-      below = all_append (λ f. Follows w f.word) entries more (after_each cursor entries a.ascending w stop.after) stop.below;
+      is = record {
+        complete = (stop.is).complete;
+        order = (stop.is).order;
+        after = after_last cursor entries a.after a.ascending w (stop.is).after;
+        wide = (stop.is).wide;
+      };
+      below = all_append (λ f. Follows w f.word) entries more (after_each cursor entries a.ascending w (stop.is).after) stop.below;
       all_below = λ f entry h under. among_both f entry h (λ k. stop.all_below f entry k under);
     },
   )

@@ -2,14 +2,13 @@
 use Rattle.std.specs.Prelude.{Option, flat_map}
 use Rattle.std.specs.Io.KnownBytes.{Appends}
 use Rattle.std.proofs.KnownBytes.{Appends-nil, Appends-trans}
-use Rattle.std.proofs.Common.{List, None, Some, [], ap, append-nil, arith, inl, inr, length, refl, subst, sym, ℕ, ◌++◌, ◌+◌, ◌<◌, ◌^◌, ◌∙◌}
+use Rattle.std.proofs.Common.{List, None, Some, [], ap, append-nil, arith, false, inl, inr, length, refl, subst, sym, ℕ, ◌++◌, ◌+◌, ◌<◌, ◌^◌, ◌∙◌}
 use Rattle.std.proofs.Common.{◌∷◌, ◌≡◌, ◌≤◌, ◌⊎◌}
 use Rattle.std.proofs.lemmas.Grind.{flat_map-append}
 use Rattle.std.proofs.lemmas.List.{length-append}
 use Rattle.bk_ports.proofs.KnownSteps.{prefix_after}
 use Rattle.bk_ports.specs.Causes.{AppendsPrefix}
 use Rattle.bk_lay.proofs.WordPlay.{tiling_word_is_complete}
-use Rattle.bk_tiling.specs.Tiling.{Tiling}
 use Rattle.bk_word.specs.Word.{Follows, Word}
 use Rattle.bk_word.specs.declared.Class.{Class}
 use Rattle.bk_catalogue.proofs.TreeOfWords.WordCounts.{few_entries}
@@ -20,7 +19,7 @@ use Rattle.bk_report.specs.Listings.{last_line}
 use Rattle.bk_report.specs.declared.listing.Last.{Last}
 use Rattle.bk_report.specs.declared.listing.Last.TheVariants.{End, Limit, Wide}
 use Rattle.bk_list.proofs.Taking.{all_there, first_more, first_none, last_word}
-use Rattle.bk_list.specs.Listing.{AreFirst, Catalogue, EndsBy, IsBelowLimit, IsListing, IsWithinLimit, Listing, line_of}
+use Rattle.bk_list.specs.Listing.{AreFirst, Catalogue, EndsBy, IsBelowLimit, IsListing, Listing, line_of}
 use Rattle.bk_list.specs.ListingLaws.{cursor_after}
 use Rattle.bk_list.specs.Walked.{catalogue_of}
 use Rattle.bk_list.specs.Writing.{BeginsListing, HasEntries, IsNext, IsNextBegun, WritesListing}
@@ -28,23 +27,34 @@ use Rattle.bk_list.specs.declared.entries.Next.{Next}
 use Rattle.bk_list.specs.declared.entries.Next.TheVariants.{Member, Nothing}
 
 -- the word of a next member has a move
-pub word_has_a_move : (n : ℕ) (class : Class) (cursor : Word) (t : Tiling) (w : Word) → IsNextMember n class cursor t w → 0 < length w
-word_has_a_move n class cursor t w next = ((tiling_word_is_complete t w (next.member).tiling next.word_is).0).some
+pub word_has_a_move : (n : ℕ) (class : Class) (cursor : Word) (e : Entry) → IsNextMember n class cursor e → 0 < length e.word
+word_has_a_move n class cursor e next = ((tiling_word_is_complete e.tiling e.word ((next.is).member).tiling (next.is).word).0).some
 
 -- members of one order and one class are of one catalogue
 pub same_catalogue : (m w : WalkState) → m.order ≡ w.order → m.class ≡ w.class → catalogue_of m ≡ catalogue_of w
 same_catalogue m w e f = λ i. record { order = e i; class = f i }
 
+-- members of a catalogue that go on after a cursor
+abbrev pub members_after : Catalogue → Word → WalkState
+members_after k cursor = record { order = k.order; class = k.class; cursor = cursor; ended = false; pushes = 0 }
+
 -- the next entry, by other names of the catalogue and of what came
-pub next_of_same : (k catalogue : Catalogue) (cursor then : Word) (b c : Option (List ℕ)) (x next : Next) → k ≡ catalogue → x ≡ next
-    → IsNext k cursor then b c x → IsNext catalogue cursor then b c next
-next_of_same k catalogue cursor then b c x next e f h =
-    subst (λ (k : Catalogue). IsNext k cursor then b c next) e (subst (IsNext k cursor then b c) f h)
+pub next_of_same : (here then : WalkState) (catalogue : Catalogue) (b c : Option (List ℕ)) (x next : Next) → catalogue_of here ≡ catalogue → x ≡ next
+    → IsNext here then b c x → IsNext (members_after catalogue here.cursor) (members_after catalogue then.cursor) b c next
+next_of_same here then catalogue b c x Member e f h =
+    subst (λ (k : Catalogue). IsNext (members_after k here.cursor) (members_after k then.cursor) b c Member) e (subst (IsNext here then b c) f h)
+next_of_same here then catalogue b c x Nothing e f h =
+    subst (λ (k : Catalogue). IsNext (members_after k here.cursor) (members_after k then.cursor) b c Nothing) e (subst (IsNext here then b c) f h)
 
 -- a write that failed for the next member of a catalogue failed for that of an equal one
-pub begun_of_same : (k catalogue : Catalogue) (cursor then : Word) (b c : Option (List ℕ)) → k ≡ catalogue → IsNextBegun k cursor then b c
-    → IsNextBegun catalogue cursor then b c
-begun_of_same k catalogue cursor then b c e h = subst (λ (k : Catalogue). IsNextBegun k cursor then b c) e h
+pub begun_of_same : (here then : WalkState) (catalogue : Catalogue) (b c : Option (List ℕ)) → catalogue_of here ≡ catalogue
+    → IsNextBegun here then b c → IsNextBegun (members_after catalogue here.cursor) (members_after catalogue then.cursor) b c
+begun_of_same here then catalogue b c e h =
+    subst (λ (k : Catalogue). IsNextBegun (members_after k here.cursor) (members_after k then.cursor) b c) e h
+
+-- the entries are as many as the limit, where there is one, or fewer
+abbrev pub IsWithinLimit : Option ℕ → List Entry → Type 0
+IsWithinLimit limit entries = IsBelowLimit limit entries ⊎ (limit ≡ Some (length entries))
 
 -- where the listing stands: that many of the first members are written, no more than the limit, and the cursor is the word
 -- of the last one
@@ -104,8 +114,8 @@ lines_more entries e = flat_map-append line_of entries (e ∷ []) ∙ ap (λ l. 
 -- a listing that has not reached its limit
 module _ (l : Listing) (cursor : Word) (listed : ℕ) (a b : Option (List ℕ)) (s : IsListed l cursor listed a b) (not : l.limit ≡ Some listed → ⊥) where
   -- with the next member its entries are the first ones
-  pub first_then : (e : Entry) → IsNextMember l.catalogue.order l.catalogue.class cursor e.tiling e.word → AreFirst l.catalogue l.cursor (s.entries ++ e ∷ [])
-  first_then e t = first_more l.catalogue l.cursor s.entries e s.first (record { member = t.member; word = t.word_is })
+  pub first_then : (e : Entry) → IsNextMember l.catalogue.order l.catalogue.class cursor e → AreFirst l.catalogue l.cursor (s.entries ++ e ∷ [])
+  first_then e t = first_more l.catalogue l.cursor s.entries e s.first t.is
       (subst (Follows e.word) s.at t.after) (λ f is h. t.least f is (subst (Follows f.word) (sym s.at) h))
 
   -- and within the limit
@@ -113,7 +123,8 @@ module _ (l : Listing) (cursor : Word) (listed : ℕ) (a b : Option (List ℕ)) 
   within_then e = limit_more l.limit s.entries e (below l.limit s.entries listed s.count not s.within)
 
   -- one more entry was written
-  pub listed_more : (then : Word) (c : Option (List ℕ)) → l.catalogue.order ≤ 16 → IsNext l.catalogue cursor then b c Member
+  pub listed_more : (then : Word) (c : Option (List ℕ)) → l.catalogue.order ≤ 16 → IsNext (members_after l.catalogue cursor)
+      (members_after l.catalogue then) b c Member
       → IsListed l then (listed + 1) a c
   listed_more then c few next =
       let e = next.0 in
@@ -134,7 +145,8 @@ module _ (l : Listing) (cursor : Word) (listed : ℕ) (a b : Option (List ℕ)) 
       }
 
   -- the write of one more failed
-  pub listed_begun : (then : Word) (c : Option (List ℕ)) → IsNextBegun l.catalogue cursor then b c → BeginsListing l a c
+  pub listed_begun : (then : Word) (c : Option (List ℕ)) → IsNextBegun (members_after l.catalogue cursor)
+      (members_after l.catalogue then) b c → BeginsListing l a c
   listed_begun then c next =
       let e = next.0 in record {
         bytes = flat_map line_of s.entries ++ line_of e;
@@ -143,7 +155,8 @@ module _ (l : Listing) (cursor : Word) (listed : ℕ) (a b : Option (List ℕ)) 
       }
 
   -- no member is left
-  unfoldable pub listed_all : (then : Word) (c : Option (List ℕ)) → IsNext l.catalogue cursor then b c Nothing → HasEntries l End listed a c
+  unfoldable pub listed_all : (then : Word) (c : Option (List ℕ)) → IsNext (members_after l.catalogue cursor)
+      (members_after l.catalogue then) b c Nothing → HasEntries l End listed a c
   listed_all then c next = record {
     entries = s.entries;
     first = s.first;

@@ -44,7 +44,7 @@ behind catalogue cursor run is = by run.ending is.ends
     by AtEnd ends = last
     by AtLimit ends = last
     by (WideAt w) ends = record {
-      start = λ v f. follows_trans cursor w v (ends.1).after f;
+      start = λ v f. follows_trans cursor w v ((ends.1).is).after f;
       all = λ v f. follows_all w v run.entries f (ends.1).below;
     }
 

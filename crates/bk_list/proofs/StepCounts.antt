@@ -14,12 +14,12 @@ use Rattle.bk_report.specs.Listings.{last_line}
 use Rattle.bk_report.specs.declared.listing.Last.{Last}
 use Rattle.bk_report.specs.declared.listing.Last.TheVariants.{End, Limit}
 use Rattle.bk_list.proofs.Continuing.{after_last}
-use Rattle.bk_list.proofs.ListingSteps.{IsListed, first_then, last_line_is, listed_all, listed_limit, within_then}
+use Rattle.bk_list.proofs.ListingSteps.{IsListed, first_then, last_line_is, listed_all, listed_limit, members_after, within_then}
 use Rattle.bk_list.proofs.Taking.{last_word}
 use Rattle.bk_list.specs.Listing.{Listing, line_of}
 use Rattle.bk_list.specs.ListingLaws.{cursor_after}
-use Rattle.bk_list.specs.Stepping.{AreNextSteps, HasEntriesBySteps, IsAtMostTreeAnd, StoppedAtEntry, StoppedAtLast, TakesSteps}
-use Rattle.bk_list.specs.Writing.{IsNext, IsNextBegun, StandsBehind}
+use Rattle.bk_list.specs.Stepping.{AreNextSteps, IsAtMostTreeAnd, IsReached, StoppedAtEntry, StoppedAtLast, TakesSteps}
+use Rattle.bk_list.specs.Writing.{HasEntries, IsNext, IsNextBegun, StandsBehind}
 use Rattle.bk_list.specs.declared.entries.Next.{Next}
 use Rattle.bk_list.specs.declared.entries.Next.TheVariants.{Member, Nothing}
 
@@ -61,7 +61,7 @@ module _ (l : Listing) (cursor : Word) (listed : ℕ) (a b : Option (List ℕ)) 
       back h = not_itself cursor (follows_trans cursor then cursor later h)
 
   -- a call that found one more
-  pub steps_more : (then : Word) (c : Option (List ℕ)) → IsNext l.catalogue cursor then b c Member
+  pub steps_more : (then : Word) (c : Option (List ℕ)) → IsNext (members_after l.catalogue cursor) (members_after l.catalogue then) b c Member
       → AreNextSteps Member l.catalogue.order cursor then (last - mid)
       → IsAtMostTreeAnd l.catalogue.order l.cursor (Some then) (listed + 1) (last - first)
   steps_more then c next more = to_later then (subst (λ (w : Word). Follows w cursor) (sym next.2) (next.1).after) more
@@ -71,27 +71,34 @@ module _ (l : Listing) (cursor : Word) (listed : ℕ) (a b : Option (List ℕ)) 
   to_end more = one_call_more l.catalogue.order l.cursor cursor None listed first mid last from_start tt k more
 
   -- a call that found none
-  pub steps_all : (not : l.limit ≡ Some listed → ⊥) → (then : Word) (c : Option (List ℕ)) → IsNext l.catalogue cursor then b c Nothing
-      → AreNextSteps Nothing l.catalogue.order cursor then (last - mid) → HasEntriesBySteps l End listed a c then (last - first)
+  pub steps_all : (not : l.limit ≡ Some listed → ⊥) → (then : Word) (c : Option (List ℕ))
+      → IsNext (members_after l.catalogue cursor) (members_after l.catalogue then) b c Nothing
+      → AreNextSteps Nothing l.catalogue.order cursor then (last - mid)
+      → (lines : HasEntries l End listed a c) × IsReached l End lines.entries then (last - first)
   unfolding listed_all
-  steps_all not then c next more = record {
-    lines = listed_all l cursor listed a b s not then c next;
-    at = next.1 ∙ s.at;
-    few = subst (λ (calls : ℕ). IsAtMostTreeAnd l.catalogue.order l.cursor None (calls + 1) (last - first)) s.count (to_end more);
-  }
+  steps_all not then c next more = (
+    listed_all l cursor listed a b s not then c next,
+    record {
+      at = next.1 ∙ s.at;
+      few = subst (λ (calls : ℕ). IsAtMostTreeAnd l.catalogue.order l.cursor None (calls + 1) (last - first)) s.count (to_end more);
+    },
+  )
 
   -- no call more at the limit
-  pub steps_limit : l.limit ≡ Some listed → HasEntriesBySteps l Limit listed a b cursor (mid - first)
+  pub steps_limit : l.limit ≡ Some listed → (lines : HasEntries l Limit listed a b) × IsReached l Limit lines.entries cursor (mid - first)
   unfolding listed_limit
-  steps_limit is = record {
-    lines = listed_limit l cursor listed a b s is;
-    at = s.at;
-    few = subst (λ (w : Word). IsAtMostTreeAnd l.catalogue.order l.cursor (Some w) (length s.entries) (mid - first)) s.at
-        (subst (λ (calls : ℕ). IsAtMostTreeAnd l.catalogue.order l.cursor (Some cursor) calls (mid - first)) s.count k);
-  }
+  steps_limit is = (
+    listed_limit l cursor listed a b s is,
+    record {
+      at = s.at;
+      few = subst (λ (w : Word). IsAtMostTreeAnd l.catalogue.order l.cursor (Some w) (length s.entries) (mid - first)) s.at
+          (subst (λ (calls : ℕ). IsAtMostTreeAnd l.catalogue.order l.cursor (Some cursor) calls (mid - first)) s.count k);
+    },
+  )
 
   -- a call whose member was not written
-  pub steps_begun : (l.limit ≡ Some listed → ⊥) → (then : Word) (c : Option (List ℕ)) → IsNextBegun l.catalogue cursor then b c
+  pub steps_begun : (l.limit ≡ Some listed → ⊥) → (then : Word) (c : Option (List ℕ))
+      → IsNextBegun (members_after l.catalogue cursor) (members_after l.catalogue then) b c
       → IsAtMostTree l.catalogue.order cursor (Some then) (last - mid) → StoppedAtEntry l a c then (last - first)
   steps_begun not then c next more =
       let e = next.0 in record {
@@ -115,27 +122,27 @@ module _ (l : Listing) (cursor : Word) (listed : ℕ) (a b : Option (List ℕ)) 
 
 -- a listing whose entries are all written: its steps, and where its members stand
 module _ (l : Listing) (last : Last) (listed : ℕ) (a b : Option (List ℕ)) (reached : Word) (steps : ℕ)
-    (h : HasEntriesBySteps l last listed a b reached steps) where
+    (h : HasEntries l last listed a b) (r : IsReached l last h.entries reached steps) where
   -- a listing that ended has taken at most the steps of its entries
   pub takes_all : TakesSteps l last steps
-  takes_all = record { entries = (h.lines).entries; first = (h.lines).first; ends = (h.lines).ends; few = h.few }
+  takes_all = record { entries = h.entries; first = h.first; ends = h.ends; few = r.few }
 
   -- after a listing that ended the members stand behind its last entry
   pub stands_behind : StandsBehind l last reached
-  stands_behind = record { entries = (h.lines).entries; first = (h.lines).first; ends = (h.lines).ends; at = h.at }
+  stands_behind = record { entries = h.entries; first = h.first; ends = h.ends; at = r.at }
 
   -- the write of its last line failed
   pub took_all : (word : Word) (c : Option (List ℕ)) (piece : List ℕ)
       → piece ≡ last_line last l.catalogue.order l.catalogue.class listed word → AppendsPrefix b c piece → StoppedAtLast l a c reached steps
   took_all word c piece is p = record {
-    entries = (h.lines).entries;
+    entries = h.entries;
     last = last;
-    first = (h.lines).first;
-    ends = (h.lines).ends;
+    first = h.first;
+    ends = h.ends;
     some = p.0;
-    begins = subst (λ (line : List ℕ). Appends a c (flat_map line_of (h.lines).entries ++ take p.0 line))
-        (last_line_is l last listed word a b c h.lines piece is)
-        (Appends-trans a b c (flat_map line_of (h.lines).entries) (take p.0 piece) (h.lines).appends p.1);
-    at = h.at;
-    few = h.few;
+    begins = subst (λ (line : List ℕ). Appends a c (flat_map line_of h.entries ++ take p.0 line))
+        (last_line_is l last listed word a b c h piece is)
+        (Appends-trans a b c (flat_map line_of h.entries) (take p.0 piece) h.appends p.1);
+    at = r.at;
+    few = r.few;
   }

@@ -6,15 +6,17 @@ use Rattle.std.proofs.lemmas.List.{length-append}
 use Rattle.bk_word.proofs.WordExamples.{two}
 use Rattle.bk_word.specs.Outline.{IsLegalMove, start}
 use Rattle.bk_word.specs.Word.{Word}
-use Rattle.bk_word.specs.declared.Sign.TheVariants.{Above}
+use Rattle.bk_word.specs.declared.Sign.{Sign}
+use Rattle.bk_word.specs.declared.Sign.TheVariants.{Above, Even}
 use Rattle.bk_catalogue.proofs.Members.CatalogueExamples.{row_entry, row_word}
 use Rattle.bk_catalogue.specs.Catalogue.{Entry}
 use Rattle.bk_report.specs.declared.listing.Last.{Last}
 use Rattle.bk_report.specs.declared.listing.Last.TheVariants.{End, Limit, Wide}
 use Rattle.bk_catalogue.specs.NextMove.{first_move}
-use Rattle.bk_catalogue.specs.Tree.{IsInTree}
+use Rattle.bk_catalogue.specs.Tree.{IsInTree, IsNotAfter}
 use Rattle.bk_list.proofs.ListingExamples.{imperfect_up_to, one_listed}
-use Rattle.bk_list.specs.Listing.{Catalogue, EndsBy, IsWithinLimit, Listing}
+use Rattle.bk_list.specs.Listing.{Catalogue, EndsBy, Listing}
+use Rattle.bk_list.proofs.ListingSteps.{IsWithinLimit}
 use Rattle.bk_list.specs.Stepping.{AreStepsTo, TakesSteps, TookSteps}
 
 -- no word is after the cursor and not after it
@@ -84,23 +86,21 @@ two_in_tree = record {
   within = λ h. cc;
 }
 
-above_in_tree : IsInTree 2 [] (Some row_word) above_word
-above_in_tree = record {
+-- a word of two squares is in the tree of order 2, where it isn't after 2e
+two_squares_in_tree : (sign : Sign) → IsNotAfter (Some row_word) (two sign ∷ []) → IsInTree 2 [] (Some row_word) (two sign ∷ [])
+two_squares_in_tree sign within = record {
   legal = (record { some = omega arith; signs = refl }, tt);
   some = omega arith;
   small = omega arith;
   after = refl;
-  within = λ h. cc;
+  within = within;
 }
 
+above_in_tree : IsInTree 2 [] (Some row_word) above_word
+above_in_tree = two_squares_in_tree Above (λ h. cc)
+
 row_in_tree : IsInTree 2 [] (Some row_word) row_word
-row_in_tree = record {
-  legal = (record { some = omega arith; signs = refl }, tt);
-  some = omega arith;
-  small = omega arith;
-  after = refl;
-  within = λ h. cc;
-}
+row_in_tree = two_squares_in_tree Even (λ h. cc)
 
 -- list --order 2 --class imperfect --limit 1
 at_most_20 : TakesSteps (imperfect_up_to (Some 1)) Limit 20

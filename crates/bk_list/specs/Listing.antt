@@ -1,11 +1,12 @@
 -- Listings: what a listing of a catalogue writes, from a cursor and under a limit.
 -- Example (ListingExamples): `list --order 2 --class imperfect`.
 use Rattle.std.specs.List.{AllByRecursion}
-use Rattle.std.specs.Prelude.{Contains, List, None, Option, Some, [], flat_map, length, ℕ, ⊤, ◌++◌, ◌<◌, ◌≡◌, ◌⊎◌}
+use Rattle.std.specs.Prelude.{Contains, List, None, Option, Some, [], flat_map, length, ℕ, ⊤, ◌++◌, ◌<◌, ◌∷◌, ◌≡◌, ◌⊎◌}
 use Rattle.bk_word.specs.Word.{Follows, Word}
 use Rattle.bk_word.specs.declared.Class.{Class}
 use Rattle.bk_catalogue.specs.Catalogue.{AreAscending, Entry, IsEntry}
-use Rattle.bk_report.specs.Listings.{entry_line, last_line}
+use Rattle.bk_report.specs.Answers.{line}
+use Rattle.bk_report.specs.Listings.{entry_text, last_line}
 use Rattle.bk_report.specs.declared.listing.Last.{Last}
 use Rattle.bk_report.specs.declared.listing.Last.TheVariants.{End, Limit, Wide}
 
@@ -35,10 +36,6 @@ abbrev pub IsBelowLimit : Option ℕ → List Entry → Type 0
 IsBelowLimit None entries = ⊤
 IsBelowLimit (Some limit) entries = length entries < limit
 
--- the entries are as many as the limit, where there is one, or fewer
-abbrev pub IsWithinLimit : Option ℕ → List Entry → Type 0
-IsWithinLimit limit entries = IsBelowLimit limit entries ⊎ (limit ≡ Some (length entries))
-
 -- each member after the cursor is among the entries
 abbrev pub HasAll : Catalogue → Word → List Entry → Type 0
 HasAll c cursor entries = (e : Entry) → IsEntry c.order c.class e → Follows e.word cursor → Contains entries e
@@ -52,7 +49,7 @@ EndsBy l entries Wide = ⊥
 
 -- the line of an entry
 abbrev pub line_of : Entry → List ℕ
-line_of e = entry_line e.tiling e.word
+line_of e = line (entry_text e.tiling e.word ∷ [])
 
 -- the bytes are a listing that ends so: an entry line for each of the first members, and one last line. The whole
 -- listing of order 2 and the class imperfect is `2 2x1 [1,1] ; 2e` and `; end order 2 class imperfect listed 1`

@@ -12,9 +12,8 @@ use Rattle.bk_report.specs.Listings.{last_line}
 use Rattle.bk_report.specs.declared.listing.Last.{Last}
 use Rattle.bk_report.specs.declared.listing.Last.TheVariants.{End, Limit, Wide}
 use Rattle.bk_catalogue.specs.Tree.{HasAtLeast, IsAtMostTree}
-use Rattle.bk_list.specs.Listing.{AreFirst, EndsBy, IsWithinLimit, Listing, line_of}
+use Rattle.bk_list.specs.Listing.{AreFirst, EndsBy, IsBelowLimit, Listing, line_of}
 use Rattle.bk_list.specs.ListingLaws.{cursor_after}
-use Rattle.bk_list.specs.Writing.{HasEntries}
 use Rattle.bk_list.specs.declared.entries.Next.{Next}
 use Rattle.bk_list.specs.declared.entries.Next.TheVariants.{Member, Nothing}
 
@@ -46,7 +45,7 @@ pub record StoppedAtEntry (l : Listing) (written written_after : Option (List �
   pub entries : List Entry
   pub failed : Entry
   pub first : AreFirst l.catalogue l.cursor (entries ++ failed ∷ [])
-  pub within : IsWithinLimit l.limit (entries ++ failed ∷ [])
+  pub within : IsBelowLimit l.limit (entries ++ failed ∷ []) ⊎ (l.limit ≡ Some (length (entries ++ failed ∷ [])))
   pub some : ℕ
   pub begins : Appends written written_after (flat_map line_of entries ++ take some (line_of failed))
   pub at : reached ≡ failed.word
@@ -72,12 +71,11 @@ abbrev pub TookSteps : Listing → Option (List ℕ) → Option (List ℕ) → W
 TookSteps l written written_after reached steps =
     StoppedAtEntry l written written_after reached steps ⊎ StoppedAtLast l written written_after reached steps
 
--- all entries of a listing that ends so were written, as many as said, and it took at most that many steps for them
-pub record HasEntriesBySteps (l : Listing) (last : Last) (listed : ℕ) (written written_after : Option (List ℕ))
-    (reached : Word) (steps : ℕ) : Type 0 where
-  pub lines : HasEntries l last listed written written_after
-  pub at : reached ≡ cursor_after l.cursor lines.entries
-  pub few : AreStepsTo last l.catalogue.order l.cursor lines.entries steps
+-- a listing of these entries that ends so took at most that many steps for them, and the members go on behind the last
+-- one
+pub record IsReached (l : Listing) (last : Last) (entries : List Entry) (reached : Word) (steps : ℕ) : Type 0 where
+  pub at : reached ≡ cursor_after l.cursor entries
+  pub few : AreStepsTo last l.catalogue.order l.cursor entries steps
 
 -- at most that many steps for one call: 16, and as many as there are legal words up to that of the member that it
 -- found, or after the cursor where it found none

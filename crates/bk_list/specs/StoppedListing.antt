@@ -4,9 +4,8 @@
 -- Example (ListingExamples): `list --order 2 --class imperfect` ends because there are no more members.
 use Rattle.std.specs.List.{AllByRecursion}
 use Rattle.std.specs.Prelude.{Contains, List, Some, [], flat_map, length, ℕ, ◌++◌, ◌≡◌}
-use Rattle.bk_word.specs.Play.{IsComplete}
-use Rattle.bk_word.specs.Word.{Follows, Word, order_of}
-use Rattle.bk_skel.specs.WideWord.{IsWideWord}
+use Rattle.bk_word.specs.Word.{Follows, Word}
+use Rattle.bk_skel.specs.WideWord.{IsWideWordAfter}
 use Rattle.bk_catalogue.specs.Catalogue.{Entry, IsEntry}
 use Rattle.bk_report.specs.Listings.{last_line}
 use Rattle.bk_report.specs.declared.listing.Last.{Last}
@@ -21,10 +20,7 @@ HasAllBelow c cursor bound entries =
 -- a word at which a listing may stop: complete, of the order, after the cursor and wide; the entries are
 -- those of all members after the cursor and below it
 pub record StopsAt (c : Catalogue) (cursor : Word) (entries : List Entry) (w : Word) : Type 0 where
-  pub complete : IsComplete w
-  pub order : order_of w ≡ c.order
-  pub after : Follows w cursor
-  pub wide : IsWideWord w
+  pub is : IsWideWordAfter c.order cursor w
   pub below : AllByRecursion (λ e. Follows w e.word) entries
   pub all_below : HasAllBelow c cursor w entries
 

@@ -2,16 +2,16 @@
 -- Example (ListingExamples): the listing of order 2 and the class imperfect, written behind a line that stood there;
 -- all its entries without the last line; and `2 2x1 [1,1`, where the write of its first line failed. With the limit 1
 -- the members then go on behind 2e.
-use Rattle.std.specs.Prelude.{List, Option, flat_map, length, ℕ, ◌≡◌, ◌⊎◌}
+use Rattle.std.specs.Prelude.{List, Option, Some, flat_map, length, ℕ, ◌≡◌, ◌⊎◌}
 use Rattle.std.specs.Io.KnownBytes.{Appends}
 use Rattle.bk_ports.specs.Causes.{AppendsPrefix}
 use Rattle.bk_word.specs.Word.{Word}
 use Rattle.bk_catalogue.specs.Catalogue.{Entry}
 use Rattle.bk_report.specs.declared.listing.Last.{Last}
-use Rattle.bk_list.specs.Listing.{AreFirst, Catalogue, EndsBy, IsListing, IsWithinLimit, Listing, line_of}
+use Rattle.bk_list.specs.Listing.{AreFirst, EndsBy, IsBelowLimit, IsListing, Listing, line_of}
 use Rattle.bk_list.specs.ListingLaws.{cursor_after}
 use Rattle.bk_catalogue.specs.Following.{HasNoneAfter}
-use Rattle.bk_members.specs.Walking.{IsNextMember}
+use Rattle.bk_members.specs.Walking.{IsNextMember, WalkState}
 use Rattle.bk_list.specs.declared.entries.Next.{Next}
 use Rattle.bk_list.specs.declared.entries.Next.TheVariants.{Member, Nothing}
 
@@ -25,17 +25,13 @@ pub record WritesListing (l : Listing) (last : Last) (written written_after : Op
 pub record AreEntryLines (l : Listing) (bytes : List ℕ) : Type 0 where
   pub entries : List Entry
   pub first : AreFirst l.catalogue l.cursor entries
-  pub within : IsWithinLimit l.limit entries
+  pub within : IsBelowLimit l.limit entries ⊎ (l.limit ≡ Some (length entries))
   pub text : bytes ≡ flat_map line_of entries
 
--- the bytes are a listing, or its first entry lines
-abbrev pub IsListingFront : Listing → List ℕ → Type 0
-IsListingFront l bytes = AreEntryLines l bytes ⊎ ((last : Last) × IsListing l last bytes)
-
--- a beginning of a listing was written, and nothing else
+-- a beginning of a listing, or of its first entry lines, was written, and nothing else
 pub record BeginsListing (l : Listing) (written written_after : Option (List ℕ)) : Type 0 where
   pub bytes : List ℕ
-  pub front : IsListingFront l bytes
+  pub front : AreEntryLines l bytes ⊎ ((last : Last) × IsListing l last bytes)
   pub begins : AppendsPrefix written written_after bytes
 
 -- the members went on from the cursor behind a listing that ends so: behind its last entry, or nowhere if it has none.
@@ -46,18 +42,18 @@ pub record StandsBehind (l : Listing) (last : Last) (reached : Word) : Type 0 wh
   pub ends : EndsBy l entries last
   pub at : reached ≡ cursor_after l.cursor entries
 
--- the least member after the cursor was listed, and its word is where the members go on; or nothing was written,
--- because there is none after the cursor, and they stay
-abbrev pub IsNext : Catalogue → Word → Word → Option (List ℕ) → Option (List ℕ) → Next → Type 0
-IsNext c cursor then written written_after Member = (e : Entry) × IsNextMember c.order c.class cursor e.tiling e.word
-    × (then ≡ e.word) × Appends written written_after (line_of e)
-IsNext c cursor then written written_after Nothing =
-    HasNoneAfter c.order c.class cursor × (then ≡ cursor) × (written_after ≡ written)
+-- from where the members were, the least one after the cursor was listed, and its word is where they are then; or
+-- nothing was written, because there is none after the cursor, and they stay
+abbrev pub IsNext : WalkState → WalkState → Option (List ℕ) → Option (List ℕ) → Next → Type 0
+IsNext from then written written_after Member = (e : Entry) × IsNextMember from.order from.class from.cursor e
+    × (then.cursor ≡ e.word) × Appends written written_after (line_of e)
+IsNext from then written written_after Nothing =
+    HasNoneAfter from.order from.class from.cursor × (then.cursor ≡ from.cursor) × (written_after ≡ written)
 
 -- the write of the next entry failed
-abbrev pub IsNextBegun : Catalogue → Word → Word → Option (List ℕ) → Option (List ℕ) → Type 0
-IsNextBegun c cursor then written written_after = (e : Entry) × IsNextMember c.order c.class cursor e.tiling e.word
-    × (then ≡ e.word) × AppendsPrefix written written_after (line_of e)
+abbrev pub IsNextBegun : WalkState → WalkState → Option (List ℕ) → Option (List ℕ) → Type 0
+IsNextBegun from then written written_after = (e : Entry) × IsNextMember from.order from.class from.cursor e
+    × (then.cursor ≡ e.word) × AppendsPrefix written written_after (line_of e)
 
 -- all entries of a listing that ends so were written, as many as said
 pub record HasEntries (l : Listing) (last : Last) (listed : ℕ) (written written_after : Option (List ℕ)) : Type 0 where

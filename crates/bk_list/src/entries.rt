@@ -3,9 +3,9 @@
 ghost use Rattle.std.specs.Prelude.{IfOk, IsTrue, OnErr, Some, false, ◌-◌, ◌≡◌, ◌≤◌};
 ghost use Rattle.bk_ports.specs.Causes.{HasCause};
 ghost use Rattle.bk_catalogue.specs.Tree.{IsAtMostTree};
-ghost use Rattle.bk_list.specs.Stepping.{AreNextSteps, HasEntriesBySteps, StoppedAtEntry};
+ghost use Rattle.bk_list.specs.Stepping.{AreNextSteps, IsReached, StoppedAtEntry};
 ghost use Rattle.bk_list.specs.Walked.{catalogue_of, listing_of};
-ghost use Rattle.bk_list.specs.Writing.{BeginsListing, IsNext, IsNextBegun};
+ghost use Rattle.bk_list.specs.Writing.{BeginsListing, HasEntries, IsNext, IsNextBegun};
 
 use bk_grammar::AnswerBuffer;
 use bk_members::{Entry, Members};
@@ -39,13 +39,14 @@ pub(crate) fn write_entries<M: Members, L: Ledger, O: Sink>(
 ) -> Result<(Last, u64), Failed>
     requires { (M.at members.old).order ≤ 16 }
     ensures ended { let l = listing_of (M.at members.old) limit in
-        IfOk result (λ r. HasEntriesBySteps l r.0 r.1 (O.written out.old) (O.written out.new) (M.at members.new).cursor
-        (steps.new - steps.old)) }
+        IfOk result (λ r. (lines : HasEntries l r.0 r.1 (O.written out.old) (O.written out.new))
+        × IsReached l r.0 lines.entries (M.at members.new).cursor (steps.new - steps.old)) }
     ensures begun { let l = listing_of (M.at members.old) limit in
         OnErr result (BeginsListing l (O.written out.old) (O.written out.new)) }
     ensures cause { HasCause (O.faults out.old) (O.faults out.new) result }
     ensures stopped { let l = listing_of (M.at members.old) limit in
-        OnErr result (StoppedAtEntry l (O.written out.old) (O.written out.new) (M.at members.new).cursor (steps.new - steps.old)) }
+        OnErr result (StoppedAtEntry l (O.written out.old) (O.written out.new) (M.at members.new).cursor
+        (steps.new - steps.old)) }
     ensures catalogue { catalogue_of (M.at members.new) ≡ catalogue_of (M.at members.old) }
 {
     let mut listed: u64 = 0;
@@ -76,9 +77,9 @@ fn write_next<M: Members, L: Ledger, O: Sink>(
     out: &mut O,
 ) -> Result<Next, Failed>
     ensures next { let from = M.at members.old in let then = M.at members.new in
-        IfOk result (IsNext (catalogue_of from) from.cursor then.cursor (O.written out.old) (O.written out.new)) }
+        IfOk result (IsNext from then (O.written out.old) (O.written out.new)) }
     ensures begun { let from = M.at members.old in let then = M.at members.new in
-        OnErr result (IsNextBegun (catalogue_of from) from.cursor then.cursor (O.written out.old) (O.written out.new)) }
+        OnErr result (IsNextBegun from then (O.written out.old) (O.written out.new)) }
     ensures cause { HasCause (O.faults out.old) (O.faults out.new) result }
     ensures catalogue { catalogue_of (M.at members.new) ≡ catalogue_of (M.at members.old) }
     ensures steps { let from = M.at members.old in let then = M.at members.new in

@@ -46,7 +46,8 @@ pub fn write_listing<M: Members, L: Ledger, O: Sink>(
     ensures steps { let l = listing_of (M.at members.old) limit in
         IfOk result (λ last. TakesSteps l last (steps.new - steps.old)) }
     ensures stopped { let l = listing_of (M.at members.old) limit in
-        OnErr result (TookSteps l (O.written out.old) (O.written out.new) (M.at members.new).cursor (steps.new - steps.old)) }
+        OnErr result (TookSteps l (O.written out.old) (O.written out.new) (M.at members.new).cursor
+        (steps.new - steps.old)) }
     ensures catalogue { catalogue_of (M.at members.new) ≡ catalogue_of (M.at members.old) }
 {
     let mut room = Room {

@@ -3,16 +3,14 @@ use Rattle.std.proofs.Common.{[], refl, subst, sym}
 use Rattle.bk_word.specs.Word.{Follows, Word}
 use Rattle.bk_word.specs.declared.Class.TheVariants.{Imperfect, Perfect}
 use Rattle.bk_word.proofs.FollowLaws.{not_itself}
-use Rattle.bk_catalogue.proofs.Members.TwoSquares.{row_of_two}
 use Rattle.bk_catalogue.specs.Following.{HasNoneAfter}
 use Rattle.bk_members.specs.Walking.{IsNextMember}
-use Rattle.bk_catalogue.proofs.Members.CatalogueExamples.{row_word, has_word, entry_is, row_word_of, no_perfect}
+use Rattle.bk_catalogue.proofs.Members.CatalogueExamples.{row_entry, row_word, entry_is, row_word_of, no_perfect}
 
 -- a walk gives the row first, and nothing after it; in the class perfect nothing at all
-row_first : IsNextMember 2 Imperfect [] row_of_two row_word
+row_first : IsNextMember 2 Imperfect [] row_entry
 row_first = record {
-  member = entry_is.member;
-  word_is = has_word;
+  is = entry_is;
   after = refl;
   least = λ e is after before. not_itself row_word (subst (λ (w : Word). Follows row_word w) (sym (row_word_of e is)) before);
 }

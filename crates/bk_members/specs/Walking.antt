@@ -2,11 +2,9 @@
 -- Example (WalkExamples): of order 2 and the class imperfect, a walk from the word of no move gives the row of two
 -- squares first, and nothing after it; in the class perfect it gives nothing at all.
 use Rattle.std.specs.Prelude.{Bool, min, ℕ, ◌+◌, ◌-◌, ◌^◌, ◌≡◌, ◌≤◌}
-use Rattle.bk_tiling.specs.Tiling.{Tiling}
 use Rattle.bk_word.specs.Word.{Follows, Word}
 use Rattle.bk_word.specs.declared.Class.{Class}
-use Rattle.bk_lay.specs.TilingWord.{IsWordOf}
-use Rattle.bk_catalogue.specs.Catalogue.{IsMember}
+use Rattle.bk_catalogue.specs.Catalogue.{Entry, IsEntry}
 use Rattle.bk_catalogue.specs.Following.{HasNoneBetween}
 
 -- what is seen of a walk: its order and class, the word after which it goes on, whether it has ended, and how many
@@ -18,13 +16,12 @@ pub record WalkState : Type 0 where
   pub ended : Bool
   pub pushes : ℕ
 
--- the least member after the cursor, and its word. Of order 2 and the class imperfect it is at the start the row of two
--- squares of side 1 with the word 2e, and after 2e there is none
-pub record IsNextMember (n : ℕ) (class : Class) (cursor : Word) (t : Tiling) (word : Word) : Type 0 where
-  pub member : IsMember n class t
-  pub word_is : IsWordOf t word
-  pub after : Follows word cursor
-  pub least : HasNoneBetween n class cursor word
+-- the entry of the least member after the cursor, by its word. Of order 2 and the class imperfect it is at the start
+-- that of the row of two squares of side 1, with the word 2e, and after 2e there is none
+pub record IsNextMember (n : ℕ) (class : Class) (cursor : Word) (e : Entry) : Type 0 where
+  pub is : IsEntry n class e
+  pub after : Follows e.word cursor
+  pub least : HasNoneBetween n class cursor e.word
 
 -- the count of pushes goes on by the steps, up to the last number that it holds
 pub record PushesGrow (pushes pushes_then steps steps_then : ℕ) : Type 0 where

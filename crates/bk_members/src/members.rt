@@ -75,8 +75,8 @@ pub trait Members: Drop {
     /// A step is a push of a move. A call takes at most 16 steps more than there are legal words of at least one move
     /// and at most the order, after the old cursor and not after the new one, or, with `false`, after the cursor.
     fn advance_in<L: Ledger>(&mut self, steps: &mut Steps<L>, entry: &mut Entry) -> bool
-        ensures entry { IsTrue result →
-            IsNextMember (at self.old).order (at self.old).class (at self.old).cursor entry.new.tiling entry.new.word }
+        ensures entry { IsTrue result → IsNextMember (at self.old).order (at self.old).class (at self.old).cursor
+            (record { tiling = entry.new.tiling; word = entry.new.word }) }
         ensures code { IsTrue result → entry.new.code ≡ code_of entry.new.tiling }
         ensures none { result ≡ false → HasNoneAfter (at self.old).order (at self.old).class (at self.old).cursor }
         ensures cursor { IsTrue result → (at self.new).cursor ≡ entry.new.word }

@@ -80,17 +80,13 @@ none_empty (q ∷ r ∷ squares) = put (stands_beside q r) (square_groups (r ∷
     put true (g ∷ groups) all = (omega arith, all.1)
     put false groups all = (omega arith, all)
 
--- how many groups there are then, their levels, and the numbers of the squares
-abbrev pub more_groups : Bool → ℕ → ℕ
-more_groups b n = cond b (n + 1) n
-
 length_onto : (q : Square) (groups : List (List Square)) → length (onto_last q groups) ≡ length groups
 length_onto q [] = refl
 length_onto q (g ∷ []) = refl
 length_onto q (g ∷ h ∷ groups) = ap suc (length_onto q (h ∷ groups))
 
 -- a further square adds a group where it begins one
-pub length_next : (b : Bool) (groups : List (List Square)) (q : Square) → length (with_next b groups q) ≡ more_groups b (length groups)
+pub length_next : (b : Bool) (groups : List (List Square)) (q : Square) → length (with_next b groups q) ≡ cond {A = ℕ} b (length groups + 1) (length groups)
 length_next true groups q = omega (arith, length-append groups ((q ∷ []) ∷ []))
 length_next false groups q = length_onto q groups
 
@@ -160,7 +156,8 @@ groups_before (q ∷ squares) (suc i) within e = groups_some q (take i squares)
 -- from the groups of some squares to those of one square more
 pub more_squares : (squares : List Square) (i : ℕ) (d : Square) (levels nodes : List ℕ) (groups : ℕ) (b : Bool) → i < length squares
     → b ≡ begins_group squares i → AreGroups (take i squares) levels nodes groups
-    → AreGroups (take (i + 1) squares) (more_levels b levels (get_or squares i d).y) (nodes ++ (more_groups b groups - 1) ∷ []) (more_groups b groups)
+    → AreGroups (take (i + 1) squares) (more_levels b levels (get_or squares i d).y) (nodes ++ (cond b (groups + 1) groups - 1) ∷ [])
+    (cond b (groups + 1) groups)
 more_squares squares i d levels nodes groups b within begins are = record {
   levels_are =
       (λ k. more_levels b (are.levels_are k) (get_or squares i d).y)
@@ -176,8 +173,8 @@ more_squares squares i d levels nodes groups b within begins are = record {
     next : with_next b (square_groups (take i squares)) (get_or squares i d) ≡ square_groups (take (i + 1) squares)
     next = ap (λ (c : Bool). with_next c (square_groups (take i squares)) (get_or squares i d)) begins ∙ sym (groups_step squares i d within)
 
-    count : more_groups b groups ≡ length (with_next b (square_groups (take i squares)) (get_or squares i d))
-    count = ap (more_groups b) are.groups_are ∙ sym (length_next b (square_groups (take i squares)) (get_or squares i d))
+    count : cond {A = ℕ} b (groups + 1) groups ≡ length (with_next b (square_groups (take i squares)) (get_or squares i d))
+    count = ap (λ (n : ℕ). cond b (n + 1) n) are.groups_are ∙ sym (length_next b (square_groups (take i squares)) (get_or squares i d))
 
 -- there are no more groups than squares
 pub groups_few : (squares : List Square) → length (square_groups squares) ≤ length squares
@@ -201,18 +198,18 @@ pub record AreKnown (squares : List Square) (i : ℕ) (levels nodes : List ℕ) 
 -- the same with how many there are
 pub known_more : (squares : List Square) (i : ℕ) (d : Square) (levels nodes : List ℕ) (groups : ℕ) (b : Bool) → i < length squares
     → b ≡ begins_group squares i → AreKnown squares i levels nodes groups
-    → AreKnown squares (i + 1) (more_levels b levels (get_or squares i d).y) (nodes ++ (more_groups b groups - 1) ∷ []) (more_groups b groups)
+    → AreKnown squares (i + 1) (more_levels b levels (get_or squares i d).y) (nodes ++ (cond b (groups + 1) groups - 1) ∷ []) (cond b (groups + 1) groups)
 known_more squares i d levels nodes groups b within begins k = record {
   are = more_squares squares i d levels nodes groups b within begins k.are;
   few = few b;
   levels_many = many b;
-  nodes_many = omega (arith, length-append nodes ((more_groups b groups - 1) ∷ []), k.nodes_many);
+  nodes_many = omega (arith, length-append nodes ((cond b (groups + 1) groups - 1) ∷ []), k.nodes_many);
 }
   where
-    few : (b : Bool) → more_groups b groups ≤ i + 1
+    few : (b : Bool) → cond {A = ℕ} b (groups + 1) groups ≤ i + 1
     few true = omega (arith, k.few)
     few false = omega (arith, k.few)
 
-    many : (b : Bool) → length (more_levels b levels (get_or squares i d).y) ≡ more_groups b groups
+    many : (b : Bool) → length (more_levels b levels (get_or squares i d).y) ≡ cond {A = ℕ} b (groups + 1) groups
     many true = omega (arith, length-append levels ((get_or squares i d).y ∷ []), k.levels_many)
     many false = k.levels_many

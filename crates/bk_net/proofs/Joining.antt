@@ -98,9 +98,9 @@ module _ (net : Net) (labels : List ℕ) (are : AreLabels net.nodes net.wires la
   one_joined u v a b e = joined_on net.wires (subst (IsJoined net.wires u) e (are.joined u a)) (joined_back net.wires (are.joined v b))
 
   -- the first node with another label than the last node is the least loose one
-  pub least : (v : ℕ) → v < net.nodes → 0 < net.nodes → ((u : ℕ) → u < v → slice_index labels u ≡ slice_index labels (net.nodes - 1))
+  pub least_loose_by_label : (v : ℕ) → v < net.nodes → 0 < net.nodes → ((u : ℕ) → u < v → slice_index labels u ≡ slice_index labels (net.nodes - 1))
       → slice_index labels v ≢ slice_index labels (net.nodes - 1) → IsLeastLoose net v
-  least v h some before differ = ((h, λ j. differ (one_label j)), λ u loose. cases u loose (cases_lt u v))
+  least_loose_by_label v h some before differ = ((h, λ j. differ (one_label j)), λ u loose. cases u loose (cases_lt u v))
     where
       cases : (u : ℕ) → IsLoose net u → (u < v) ⊎ (v ≤ u) → v ≤ u
       cases u loose (inl l) = absurd (loose.1 (one_joined u (net.nodes - 1) loose.0 (omega arith) (before u l)))

@@ -60,7 +60,8 @@ number_read p at b ws n text x (a, h, e) =
 
 -- ---- blanks
 
-skipped : (p : Place) (ws : List (ℕ × ℕ)) (a x : List ℕ) → next_net_place p Blank ≡ Some p → ended_wire p Blank ≡ None → Blanks a → read (a ++ x) p ws ≡ read x p ws
+skipped : (p : Place) (ws : List (ℕ × ℕ)) (a x : List ℕ) → next_net_place p Blank ≡ Some p → ended_wire p Blank ≡ None → Blanks a
+    → read (a ++ x) p ws ≡ read x p ws
 skipped p ws [] x next none blanks = refl
 skipped p ws (b ∷ a) x next none blanks =
     read_next p p Blank ws ws b (a ++ x) (kind_blank b blanks.0) next (ap (λ o. and_wire o ws) none) ∙ skipped p ws a x next none blanks.1

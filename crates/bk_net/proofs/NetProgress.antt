@@ -29,11 +29,11 @@ pub at_first : (kept : List (ℕ × ℕ)) → kept ≡ [] → Progress [] Start 
 at_first kept none = record { all = []; leads = λ x. refl; keeps = record { same = λ h. none; more = λ h. absurd (false≢true h) } }
 
 -- behind a further byte
-pub further : (bs : List ℕ) (i : ℕ) (p q : Place) (kept next_kept : List (ℕ × ℕ)) (many next_many : Bool) → i < length bs
+pub progress_more : (bs : List ℕ) (i : ℕ) (p q : Place) (kept next_kept : List (ℕ × ℕ)) (many next_many : Bool) → i < length bs
     → Progress (take i bs) p kept many → next_net_place p (net_kind_of (get_or bs i 0)) ≡ Some q
     → ((all : List (ℕ × ℕ)) → KeepsWires all kept many → KeepsWires (and_wire (ended_wire p (net_kind_of (get_or bs i 0))) all) next_kept next_many)
     → Progress (take (i + 1) bs) q next_kept next_many
-further bs i p q kept next_kept many next_many within progress next keeps =
+progress_more bs i p q kept next_kept many next_many within progress next keeps =
     let b = get_or bs i 0 in
     let wires = and_wire (ended_wire p (net_kind_of b)) progress.all in record {
       all = wires;
@@ -55,8 +55,9 @@ pub no_ending : (bs : List ℕ) (p : Place) (kept : List (ℕ × ℕ)) (many : B
 no_ending bs p kept many progress none = stops_at_end bs p progress.all progress.leads none
 
 -- the whole line was read
-pub whole : (bs : List ℕ) (i : ℕ) (p : Place) (kept : List (ℕ × ℕ)) (many : Bool) → length bs ≤ i → Progress (take i bs) p kept many → Progress bs p kept many
-whole bs i p kept many all progress = subst (λ (z : List ℕ). Progress z p kept many) (take_all i bs all) progress
+pub progress_all : (bs : List ℕ) (i : ℕ) (p : Place) (kept : List (ℕ × ℕ)) (many : Bool) → length bs ≤ i → Progress (take i bs) p kept many
+    → Progress bs p kept many
+progress_all bs i p kept many all progress = subst (λ (z : List ℕ). Progress z p kept many) (take_all i bs all) progress
 
 -- at an end the bytes are a line
 whole_line : (bs : List ℕ) (p : Place) (ws : List (ℕ × ℕ)) (ending : Ending) → Leads bs p ws → net_ending_at p ≡ Some ending

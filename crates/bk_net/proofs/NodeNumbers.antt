@@ -59,9 +59,9 @@ module _ (t : Tiling) (tiling : IsTiling t) (q : Square) (one : IsOneOf q t.squa
     pub is : slice_index (group_numbers t.squares) (k - 1) ≡ node_below (square_groups t.squares) q
 
   -- above the bottom, the square before the place that the search finds has the number of the node below
-  pub found : (k : ℕ) → q.y + q.s ≢ t.height → k ≤ length t.squares
+  pub node_below_found : (k : ℕ) → q.y + q.s ≢ t.height → k ≤ length t.squares
       → IsPartitionPoint (λ r. is_no_later q.x (q.y + q.s) r ≡ true) (λ r. is_no_later q.x (q.y + q.s) r ≡ false) t.squares k → IsFound k
-  found k high within parts = from (at_place t.squares below.0 below.1)
+  node_below_found k high within parts = from (at_place t.squares below.0 below.1)
     where
       inside : q.y + q.s < t.height
       inside = let w = (within_of t tiling q one).bottom in omega arith

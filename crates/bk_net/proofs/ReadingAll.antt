@@ -54,8 +54,8 @@ either true one two b yes' no' = yes' refl
 either false one two b yes' no' = no'
 
 -- a byte is what its kind says
-pub means : (b : ℕ) → Means (net_kind_of b) b
-means b =
+pub kind_means : (b : ℕ) → Means (net_kind_of b) b
+kind_means b =
     either (nat_le 48 b && nat_le b 57) (Digit (b - 48)) _ b (λ h. digit_value-of_test b h) (
     either ((b == 32) || ((b == 9) || (b == 13))) Blank _ b (λ h. blank_means b h) (
     either (b == 45) Dash _ b (λ h. eqb-true b 45 h) (

@@ -24,7 +24,7 @@ use Rattle.bk_net.specs.Diagram.{group_level, node_below, node_levels, smith_dia
 use Rattle.bk_net.specs.Flow.{IsFlow, IsOneFlow, outflow, potential}
 use Rattle.bk_net.specs.Net.{HasNoLoose, IsJoined, IsNet, along, here}
 use Rattle.bk_net.specs.SmithFlow.{SidesAreTheOneFlow, smith_flow}
-use Rattle.bk_net.proofs.SidesPotentials.{differences, drop, flows}
+use Rattle.bk_net.proofs.SidesPotentials.{sides_are_differences, side_is_drop, outflow_of_sides}
 use Rattle.bk_net.proofs.TopGroup.{deep, top_corner, top_end, top_group}
 
 module _ (t : Tiling) (tiling : IsTiling t) where
@@ -32,11 +32,11 @@ module _ (t : Tiling) (tiling : IsTiling t) where
   flow = record {
     nodes = length-map (node_levels t) (λ l. pos t.height -ℤ pos l)
         ∙ omega (arith, length-append (map group_level (square_groups t.squares)) (t.height ∷ []), length-map (square_groups t.squares) group_level);
-    differences = differences t tiling;
+    differences = sides_are_differences t tiling;
     first = omega (
       arith,
       ints,
-      flows t tiling 0,
+      outflow_of_sides t tiling 0,
       out_is_width t tiling 0 (known t tiling).group (top_group t tiling),
       into_is_none t tiling 0 (known t tiling).group (top_group t tiling) (top_corner t tiling).1,
       (top_corner t tiling).0,
@@ -51,7 +51,13 @@ module _ (t : Tiling) (tiling : IsTiling t) where
         where
           at : (g : List Square) × (slice_get (square_groups t.squares) (suc v) ≡ Some g)
               → outflow (smith_diagram t).wires (map (λ q. pos q.s) t.squares) (suc v) ≡ pos 0
-          at (g, e) = omega (arith, ints, flows t tiling (suc v), out_is_width t tiling (suc v) g e, into_is_width t tiling (suc v) g e (deep t tiling v g e))
+          at (g, e) = omega (
+            arith,
+            ints,
+            outflow_of_sides t tiling (suc v),
+            out_is_width t tiling (suc v) g e,
+            into_is_width t tiling (suc v) g e (deep t tiling v g e),
+          )
 
   some_groups : 0 < length (square_groups t.squares)
   some_groups = omega (arith, ap length (known t tiling).is)
@@ -67,7 +73,13 @@ module _ (t : Tiling) (tiling : IsTiling t) where
             omega (arith, slice_get_within (square_groups t.squares) k g e),
             omega (arith, (place t tiling q (in_group t tiling k g e q h)).most),
             λ same. let at : k ≡ node_below (square_groups t.squares) q = omega (arith, same) in
-                absurd (omega (arith, ints, drop t tiling k g e q h, side_of t tiling q (in_group t tiling k g e q h), ap (potential (smith_flow t)) at)),
+                absurd (omega (
+                  arith,
+                  ints,
+                  side_is_drop t tiling k g e q h,
+                  side_of t tiling q (in_group t tiling k g e q h),
+                  ap (potential (smith_flow t)) at,
+                )),
           ))
 
   joined : (fuel v : ℕ) → v < length (square_groups t.squares) + 1 → ((g : List Square) → slice_get (square_groups t.squares) v ≡ Some g

@@ -41,9 +41,9 @@ module _ (t : Tiling) (tiling : IsTiling t) where
       cases (inr (g, e, l)) = potential_at (node_below (square_groups t.squares) q) g e ∙ ap (λ (l : ℕ). pos t.height -ℤ pos l) l
 
   -- the side of a square is the potential of the node that it hangs from, less that of the node below it
-  pub drop : (v : ℕ) (g : List Square) → slice_get (square_groups t.squares) v ≡ Some g → (q : Square) → IsOneOf q g
+  pub side_is_drop : (v : ℕ) (g : List Square) → slice_get (square_groups t.squares) v ≡ Some g → (q : Square) → IsOneOf q g
       → pos q.s ≡ potential (smith_flow t) v -ℤ potential (smith_flow t) (node_below (square_groups t.squares) q)
-  drop v g e q h = omega (
+  side_is_drop v g e q h = omega (
     arith,
     ints,
     potential_at v g e,
@@ -53,16 +53,16 @@ module _ (t : Tiling) (tiling : IsTiling t) where
   )
 
   -- the sides are the differences of potentials along the wires
-  pub differences : map (λ q. pos q.s) t.squares ≡ map (λ w. potential (smith_flow t) w.0 -ℤ potential (smith_flow t) w.1) (smith_diagram t).wires
-  differences = ap (map (λ q. pos q.s)) (sym (row_is t tiling))
+  pub sides_are_differences : map (λ q. pos q.s) t.squares ≡ map (λ w. potential (smith_flow t) w.0 -ℤ potential (smith_flow t) w.1) (smith_diagram t).wires
+  sides_are_differences = ap (map (λ q. pos q.s)) (sym (row_is t tiling))
       ∙ group_currents (node_below (square_groups t.squares)) (λ w. potential (smith_flow t) w.0 -ℤ potential (smith_flow t) w.1) 0
       (square_groups t.squares)
-      (λ k g e q h. drop k g e q h ∙ ap (λ (v : ℕ). potential (smith_flow t) v -ℤ potential (smith_flow t) (node_below (square_groups t.squares) q))
+      (λ k g e q h. side_is_drop k g e q h ∙ ap (λ (v : ℕ). potential (smith_flow t) v -ℤ potential (smith_flow t) (node_below (square_groups t.squares) q))
       (omega arith))
 
   -- of the sides the outflow of a node is the sum of those that hang from it, less the sum of those that stand on it
-  pub flows : (v : ℕ) → outflow (smith_diagram t).wires (map (λ q. pos q.s) t.squares) v ≡ pos (out_total 0 v (square_groups t.squares)) -ℤ pos
+  pub outflow_of_sides : (v : ℕ) → outflow (smith_diagram t).wires (map (λ q. pos q.s) t.squares) v ≡ pos (out_total 0 v (square_groups t.squares)) -ℤ pos
       (in_total (node_below (square_groups t.squares)) v t.squares)
-  flows v = ap (λ (l : List Square). outflow (smith_diagram t).wires (map (λ q. pos q.s) l) v) (sym (row_is t tiling))
+  outflow_of_sides v = ap (λ (l : List Square). outflow (smith_diagram t).wires (map (λ q. pos q.s) l) v) (sym (row_is t tiling))
       ∙ all_outflow (node_below (square_groups t.squares)) 0 v (square_groups t.squares)
       ∙ ap (λ (l : List Square). pos (out_total 0 v (square_groups t.squares)) -ℤ pos (in_total (node_below (square_groups t.squares)) v l)) (row_is t tiling)

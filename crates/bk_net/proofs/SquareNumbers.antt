@@ -129,8 +129,8 @@ pub no_later_from : (x y : ℕ) (r : Square) → r.y ≡ y → r.x ≤ x → is_
 no_later_from x y r a b = grind (arith, nat_tests)
 
 -- squares in the order of a code are parted at a cell
-pub parted : (squares : List Square) → InCodeOrder squares → (x y : ℕ) → IsPartitionedBy (is_no_later x y) squares
-parted squares o x y i j d up below e = cases (three i j)
+pub parted_at_cell : (squares : List Square) → InCodeOrder squares → (x y : ℕ) → IsPartitionedBy (is_no_later x y) squares
+parted_at_cell squares o x y i j d up below e = cases (three i j)
   where
     three : (i j : ℕ) → (i < j) ⊎ (i ≡ j) ⊎ (j < i)
     three i j = grind arith

@@ -26,80 +26,27 @@ fn has_word(alloc: Global, tiling: &Tiling, text: &str) -> bool {
     }
 }
 
-// Asserts the text of the word of a rectangle.
-fn assert_word(rt: &impl Abort, alloc: Global, rectangle: Rectangle, text: &str) {
-    let tiling = tiling(rt, rectangle);
-    assert!(rt; has_word(alloc, &tiling, text), "{text}");
-}
-
-// The 69 by 61 rectangle of nine squares, and the 65 by 47 rectangle of ten.
-fn other_nine_squares() -> Rectangle {
-    (
-        69,
-        61,
-        &[
-            (0, 0, 36),
-            (36, 0, 33),
-            (36, 33, 5),
-            (41, 33, 28),
-            (0, 36, 25),
-            (25, 36, 9),
-            (34, 36, 2),
-            (34, 38, 7),
-            (25, 45, 16),
-        ],
-    )
-}
-
-fn ten_squares() -> Rectangle {
-    (
-        65,
-        47,
-        &[
-            (0, 0, 25),
-            (25, 0, 17),
-            (42, 0, 23),
-            (25, 17, 11),
-            (36, 17, 6),
-            (36, 23, 5),
-            (41, 23, 24),
-            (0, 25, 22),
-            (22, 25, 3),
-            (22, 28, 19),
-        ],
-    )
-}
-
-static FEW_SQUARES: [(Rectangle, &'static str); 4] = [
-    ((1, 1, &[(0, 0, 1)]), "1"),
-    ((3, 2, &[(0, 0, 2), (2, 0, 1), (2, 1, 1)]), "2u.1e"),
-    (
-        (2, 2, &[(0, 0, 1), (1, 0, 1), (0, 1, 1), (1, 1, 1)]),
-        "2e.2e",
-    ),
-    (
-        (
-            8,
-            5,
-            &[(0, 0, 5), (5, 0, 3), (5, 3, 2), (7, 3, 1), (7, 4, 1)],
-        ),
-        "2u.2eu.1e",
-    ),
+// Codes, and the texts of the words of their tilings.
+static WORDS: [(&'static str, &'static str); 7] = [
+    ("[1]", "1"),
+    ("[2,1][1]", "2u.1e"),
+    (FOUR_SQUARES, "2e.2e"),
+    ("[5,3][2,1][1]", "2u.2eu.1e"),
+    (NINE_SQUARES, "2u.2aa.2ue.2eue.1e"),
+    ("[36,33][5,28][25,9,2][7][16]", "2u.2aa.3uue.1ea.1ee"),
+    ("[25,17,23][11,6][5,24][22,3][19]", "3ua.2aue.2ue.2ea.1ee"),
 ];
 
-fn few_squares() -> &'static [(Rectangle, &'static str)] {
-    &FEW_SQUARES
+fn codes_and_words() -> &'static [(&'static str, &'static str)] {
+    &WORDS
 }
 
-// Rectangles with their squares, and the texts of their words.
 #[test]
 fn words(rt: HostRuntime) {
-    for (rectangle, text) in few_squares() {
-        assert_word(&rt, rt.alloc(), *rectangle, text);
+    for (code, text) in codes_and_words() {
+        let tiling = tiling(&rt, code);
+        assert!(rt; has_word(rt.alloc(), &tiling, text), "{text}");
     }
-    assert_word(&rt, rt.alloc(), nine_squares(), "2u.2aa.2ue.2eue.1e");
-    assert_word(&rt, rt.alloc(), other_nine_squares(), "2u.2aa.3uue.1ea.1ee");
-    assert_word(&rt, rt.alloc(), ten_squares(), "3ua.2aue.2ue.2ea.1ee");
 }
 
 // A column of 200 squares of side 1.

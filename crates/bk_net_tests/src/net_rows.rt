@@ -18,38 +18,18 @@ fn hangs(tiling: &Tiling, wires: &[(u16, u16)], levels: &[u64]) -> bool {
     is_net(&net, levels.len(), wires) && found.as_slice() == levels
 }
 
-// Asserts the wires and the levels of the diagram of a rectangle.
-fn assert_hung(rt: &impl Abort, rectangle: Rectangle, wires: &[(u16, u16)], levels: &[u64]) {
-    let tiling = tiling(rt, rectangle);
+// Asserts the wires and the levels of the diagram of a code's tiling.
+fn assert_hung(rt: &impl Abort, code: &str, wires: &[(u16, u16)], levels: &[u64]) {
+    let tiling = tiling(rt, code);
     assert!(rt; hangs(&tiling, wires, levels), "{levels:?}");
-}
-
-// The wires of the diagram of nine squares.
-fn wires_of_nine() -> &'static [(u16, u16)] {
-    &[
-        (0, 2),
-        (0, 1),
-        (1, 3),
-        (1, 4),
-        (2, 5),
-        (2, 3),
-        (3, 5),
-        (3, 4),
-        (4, 5),
-    ]
 }
 
 #[test]
 fn hangs_squares(rt: HostRuntime) {
-    assert_hung(
-        &rt,
-        nine_squares(),
-        wires_of_nine(),
-        &[0, 15, 18, 22, 23, 32],
-    );
+    assert_hung(&rt, NINE_SQUARES, WIRES_OF_NINE, &[0, 15, 18, 22, 23, 32]);
     let four = &[(0, 1), (0, 1), (1, 2), (1, 2)];
-    assert_hung(&rt, four_squares(), four, &[0, 1, 2]);
-    assert_hung(&rt, (1, 1, &[(0, 0, 1)]), &[(0, 1)], &[0, 1]);
+    assert_hung(&rt, FOUR_SQUARES, four, &[0, 1, 2]);
+    assert_hung(&rt, "[1]", &[(0, 1)], &[0, 1]);
 }
 
 // What a line is read as: its nodes and its least loose node, or the fault.

@@ -2,6 +2,7 @@
 
 ghost use Rattle.std.specs.Prelude.{◌<◌, ◌≡◌};
 
+use crate::tilings::WIRES_OF_NINE;
 use bk_net::Net;
 use bk_skel::*;
 use bk_word::{LARGEST_ORDER, Move, Word, read_word};
@@ -27,17 +28,7 @@ static ROWS: [Row; 4] = [
             (1, false, false, &[6, 3]),
             (1, false, true, &[8, 4]),
         ],
-        &[
-            (0, 2),
-            (0, 1),
-            (1, 3),
-            (1, 4),
-            (2, 5),
-            (2, 3),
-            (3, 5),
-            (3, 4),
-            (4, 5),
-        ],
+        WIRES_OF_NINE,
     ),
     (
         "3ua.2aue.2ue.2ea.1ee",

@@ -1,64 +1,36 @@
-//! Tilings for the rows.
+//! Tilings for the rows, by their codes.
 
-use arrayvec::ArrayVec;
-use bk_tiling::{MOST_SQUARES, Square, Tiling};
+use bk_profile::lay_code;
+use bk_text::{Line, read_line};
+use bk_tiling::Tiling;
 use std::process::Abort;
 
-/// A square by its column, its level and its side.
-pub(crate) type Placed = (u64, u64, u64);
-
-/// A rectangle by its width, its height and its squares.
-pub(crate) type Rectangle = (u64, u64, &'static [Placed]);
-
-// Squares of these columns, levels and sides.
-fn squares_of(rt: &impl Abort, placed: &[Placed]) -> ArrayVec<Square, MOST_SQUARES> {
-    let mut squares = ArrayVec::new();
-    for (x, y, s) in placed {
-        let square = Square {
-            x: *x,
-            y: *y,
-            s: *s,
-        };
-        assert!(rt; squares.try_push(square).is_ok());
-    }
-    squares
-}
-
-/// The tiling of a rectangle by its squares.
-pub(crate) fn tiling(rt: &impl Abort, rectangle: Rectangle) -> Tiling {
-    let (width, height, placed) = rectangle;
-    let squares = squares_of(rt, placed);
-    match Tiling::try_new(width, height, squares.as_slice()) {
-        Ok(tiling) => tiling,
-        Err(_) => panic!(rt; "they tile it"),
-    }
-}
-
 /// The 33 by 32 rectangle of nine squares.
-pub(crate) fn nine_squares() -> Rectangle {
-    (
-        33,
-        32,
-        &[
-            (0, 0, 18),
-            (18, 0, 15),
-            (18, 15, 7),
-            (25, 15, 8),
-            (0, 18, 14),
-            (14, 18, 4),
-            (14, 22, 10),
-            (24, 22, 1),
-            (24, 23, 9),
-        ],
-    )
-}
+pub(crate) const NINE_SQUARES: &str = "[18,15][7,8][14,4][10,1][9]";
 
 /// Four squares of one size.
-pub(crate) fn four_squares() -> Rectangle {
-    (2, 2, &[(0, 0, 1), (1, 0, 1), (0, 1, 1), (1, 1, 1)])
-}
+pub(crate) const FOUR_SQUARES: &str = "[1,1][1,1]";
 
-/// Two squares beside one of twice their size.
-pub(crate) fn three_squares() -> Rectangle {
-    (3, 2, &[(0, 0, 2), (2, 0, 1), (2, 1, 1)])
+/// The wires of the diagram of the nine squares.
+pub(crate) const WIRES_OF_NINE: &[(u16, u16)] = &[
+    (0, 2),
+    (0, 1),
+    (1, 3),
+    (1, 4),
+    (2, 5),
+    (2, 3),
+    (3, 5),
+    (3, 4),
+    (4, 5),
+];
+
+/// The tiling that has the code in a line.
+pub(crate) fn tiling(rt: &impl Abort, line: &str) -> Tiling {
+    match read_line(line.as_bytes()) {
+        Ok(Line::Item { code, .. }) if 0 < code.groups() => match lay_code(&code) {
+            Ok(tiling) => tiling,
+            Err(_) => panic!(rt; "{line} isn't laid"),
+        },
+        _ => panic!(rt; "{line} isn't read"),
+    }
 }

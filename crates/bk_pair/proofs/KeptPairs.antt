@@ -22,8 +22,8 @@ pub record AreStored (a : Tiling) (width height : ℕ) (squares : List Square) :
   pub counts : (side : ℕ) → count_by (λ q. q.s == side) squares ≡ count_by (λ q. q.s == side) a.squares
 
 -- a width, a height and squares that make a tiling are stored as those of that tiling
-pub stored : (a : Tiling) (width height : ℕ) (squares : List Square) → tiling_of width height squares ≡ a → AreStored a width height squares
-stored a width height squares is = record {
+pub stored_of_tiling : (a : Tiling) (width height : ℕ) (squares : List Square) → tiling_of width height squares ≡ a → AreStored a width height squares
+stored_of_tiling a width height squares is = record {
   width_is = ap (λ (t : Tiling). t.width) is;
   height_is = ap (λ (t : Tiling). t.height) is;
   many = sym (in_code_order-length squares) ∙ ap (λ (t : Tiling). order t) is;

@@ -20,9 +20,9 @@ use Rattle.bk_pair.specs.SquaresBySide.{AreSideBitsOf, AreSidesAscending, IsKept
 use Rattle.bk_pair.specs.OwnSides.{stands_apart}
 
 -- squares that were copied to an empty list
-pub copied : {T E : Type 0} (r : Result T E) (empty part kept all : List Square) → is_err r ≡ false → OnOk r (all ≡ empty ++ part) → empty ≡ []
+pub copied_to_empty : {T E : Type 0} (r : Result T E) (empty part kept all : List Square) → is_err r ≡ false → OnOk r (all ≡ empty ++ part) → empty ≡ []
     → part ≡ kept → all ≡ kept
-copied r empty part kept all ok is none same =
+copied_to_empty r empty part kept all ok is none same =
     on_ok-apply r (all ≡ empty ++ part) ok is ∙ (λ i. none i ++ same i)
 
 -- what holds of all squares holds of them in another order

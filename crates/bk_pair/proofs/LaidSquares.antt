@@ -89,19 +89,19 @@ module _ (a b : Tiling) (kept : IsKept a) (turned : IsKept (image Swap b)) (can 
       )
 
   -- they tile the square
-  pub tiles : Tiles (sized (a.width + a.height) (a.width + a.height)) (laid_squares a b)
-  tiles = square_tiles a.width a.height a.squares (image Swap b).squares some_cells.0 some_cells.1 kept.tiling.tiles turned_tiles
+  pub squares_tile_square : Tiles (sized (a.width + a.height) (a.width + a.height)) (laid_squares a b)
+  squares_tile_square = square_tiles a.width a.height a.squares (image Swap b).squares some_cells.0 some_cells.1 kept.tiling.tiles turned_tiles
 
   -- so no two of them share a cell
-  pub apart : ShareNoCell (laid_squares a b)
-  apart = tiles_apart (a.width + a.height) (a.width + a.height) (laid_squares a b) tiles
+  pub squares_stand_apart : ShareNoCell (laid_squares a b)
+  squares_stand_apart = tiles_apart (a.width + a.height) (a.width + a.height) (laid_squares a b) squares_tile_square
 
   -- what they make is a tiling
   pub kept_square : IsKept (joined_square a b)
   kept_square =
       kept_from (a.width + a.height) (a.width + a.height) (laid_squares a b) (in_code_order (laid_squares a b))
       (omega (arith, most_width a kept, most_height a kept)) (omega (arith, most_width a kept, most_height a kept))
-      (record { few = omega (arith, few, can.few); sides = sides_kept; tiles = tiles }) refl
+      (record { few = omega (arith, few, can.few); sides = sides_kept; tiles = squares_tile_square }) refl
 
 -- squares that are moved by nothing
 moved_none : (squares : List Square) → map (moved_square 0 0) squares ≡ squares
@@ -152,9 +152,9 @@ small_place t k d kept below =
     (omega (arith, within.right, most_width t kept), omega (arith, within.bottom, most_height t kept))
 
 -- the parts of the square make it
-pub made : (a b : Tiling) (w h : ℕ) (squares : List Square) → w ≡ a.width → h ≡ a.height → squares ≡ in_code_order (laid_squares a b)
+pub parts_make_square : (a b : Tiling) (w h : ℕ) (squares : List Square) → w ≡ a.width → h ≡ a.height → squares ≡ in_code_order (laid_squares a b)
     → ◌≡◌ {A = Tiling} (record { width = w + h; height = w + h; squares = squares }) (joined_square a b)
-made a b w h squares wide high same = λ i. record { width = wide i + high i; height = wide i + high i; squares = same i }
+parts_make_square a b w h squares wide high same = λ i. record { width = wide i + high i; height = wide i + high i; squares = same i }
 
 -- each of them has a side, told square by square
 pub have_sides : (a b : Tiling) → IsKept a → IsKept (image Swap b) → CanBeLaid a b → HaveSides (laid_squares a b)

@@ -1,5 +1,5 @@
 -- Two tilings that can be laid together make a squared square, and a pair makes a perfect one.
-use Rattle.std.proofs.Common.{arith, refl, sym, ℕ, ◌≤◌}
+use Rattle.std.proofs.Common.{arith, refl, ◌≤◌}
 use Rattle.bk_tiling.proofs.Cells.{all_from}
 use Rattle.bk_tiling.proofs.TilingLaws.{side_of, within_of}
 use Rattle.bk_tiling.specs.KeptTiling.{IsKept, IsSide}

@@ -2,6 +2,7 @@
 -- Example (PairExamples): [2,1][1] has the side 1 twice, and the rectangle 33x32 stands apart; both have a side 1.
 use Rattle.std.specs.Prelude.{Bool, List, [], count_by, max, ℕ, ◌++◌, ◌+◌, ◌==◌, ◌∷◌, ◌≢◌, ◌≤◌, ◌↔◌}
 use Rattle.bk_tiling.specs.Tiling.{Tiling, order, sides_of}
+use Rattle.bk_tiling.specs.declared.TheConstants.{LONGEST_SIDE, MOST_SQUARES}
 use Rattle.bk_tiling.specs.declared.Square.{Square}
 use Rattle.bk_simple.specs.Simple.{IsPerfect}
 use Rattle.bk_pair.specs.Pair.{AreOneSize, ArePair}
@@ -38,8 +39,8 @@ pub record MeetConditions (a b : Tiling) : Type 0 where
   pub first_not_height : ¬ (HasSide a.squares a.height)
   pub second_not_width : ¬ (HasSide b.squares a.width)
   pub second_not_height : ¬ (HasSide b.squares a.height)
-  pub few : order a + order b ≤ 198
-  pub short : max a.width a.height ≤ 999_999_999_999_999
+  pub few : order a + order b + 2 ≤ MOST_SQUARES
+  pub short : max a.width a.height ≤ LONGEST_SIDE
 
 -- two tilings join to a perfect square exactly where they meet these: a statement alone, which is proved apart
 abbrev pub PairsByConditions : Type 0

@@ -5,6 +5,7 @@ use Rattle.std.specs.Prelude.{List, [], count_by, map, max, ℕ, ◌++◌, ◌+�
 use Rattle.bk_tiling.specs.CodeOrder.{in_code_order}
 use Rattle.bk_tiling.specs.Scale.{moved_square}
 use Rattle.bk_tiling.specs.Tiling.{Tiling, order, sides_of}
+use Rattle.bk_tiling.specs.declared.TheConstants.{LONGEST_SIDE, MOST_SQUARES}
 use Rattle.bk_tiling.specs.declared.Square.{Square}
 use Rattle.bk_sym.specs.Image.{image}
 use Rattle.bk_sym.specs.declared.Turn.TheVariants.{Swap}
@@ -39,9 +40,9 @@ pub record AreOneSize (a b : Tiling) : Type 0 where
 pub record CanBeLaid (a b : Tiling) : Type 0 where
   pub size : AreOneSize a b
   pub oblong : a.width ≢ a.height
-  pub few : order a + order b + 2 ≤ 200
-  pub wide : a.width ≤ 999_999_999_999_999
-  pub high : a.height ≤ 999_999_999_999_999
+  pub few : order a + order b + 2 ≤ MOST_SQUARES
+  pub wide : a.width ≤ LONGEST_SIDE
+  pub high : a.height ≤ LONGEST_SIDE
 
 -- all sides of what they make
 abbrev pub pair_sides : Tiling → Tiling → List ℕ
@@ -61,9 +62,10 @@ pub record IsLeastShared (a b : Tiling) (side : ℕ) : Type 0 where
 abbrev pub IsLayingFault : Tiling → Tiling → PairFault → Type 0
 IsLayingFault a b faults.Size = ¬ (AreOneSize a b)
 IsLayingFault a b faults.Square = AreOneSize a b × (a.width ≡ a.height)
-IsLayingFault a b (faults.Many n) = AreOneSize a b × (a.width ≢ a.height) × (n ≡ order a + order b + 2) × (200 < n)
-IsLayingFault a b (faults.Long side) = AreOneSize a b × (a.width ≢ a.height) × (order a + order b + 2 ≤ 200)
-    × (side ≡ max a.width a.height) × (999_999_999_999_999 < side)
+IsLayingFault a b (faults.Many n) = AreOneSize a b × (a.width ≢ a.height) × (n ≡ order a + order b + 2)
+    × (MOST_SQUARES < n)
+IsLayingFault a b (faults.Long side) = AreOneSize a b × (a.width ≢ a.height) × (order a + order b + 2 ≤ MOST_SQUARES)
+    × (side ≡ max a.width a.height) × (LONGEST_SIDE < side)
 IsLayingFault a b (faults.Twice side) = ⊥
 
 -- why they are not joined to a perfect square: they are not laid together, or a side occurs twice. The first cause

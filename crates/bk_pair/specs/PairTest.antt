@@ -4,6 +4,7 @@
 use Rattle.std.specs.List.{list_any}
 use Rattle.std.specs.Prelude.{Bool, List, [], nat_eq, nat_le, not, true, ℕ, ◌&&◌, ◌+◌, ◌==◌, ◌∷◌, ◌↔◌, ◌≡◌}
 use Rattle.bk_tiling.specs.Tiling.{Tiling, order}
+use Rattle.bk_tiling.specs.declared.TheConstants.{LONGEST_SIDE, MOST_SQUARES}
 use Rattle.bk_pair.specs.Pair.{ArePair, CanBeLaid, pair_sides}
 
 -- no number stands twice
@@ -15,8 +16,8 @@ no_twice (x ∷ xs) = not (list_any (λ y. y == x) xs) && no_twice xs
 abbrev pub can_be_laid : Tiling → Tiling → Bool
 can_be_laid a b = (nat_eq a.width b.width && nat_eq a.height b.height)
     && (not (nat_eq a.width a.height)
-    && (nat_le (order a + order b + 2) 200
-    && (nat_le a.width 999_999_999_999_999 && nat_le a.height 999_999_999_999_999)))
+    && (nat_le (order a + order b + 2) MOST_SQUARES
+    && (nat_le a.width LONGEST_SIDE && nat_le a.height LONGEST_SIDE)))
 
 -- the two join to a perfect square
 abbrev pub are_pair : Tiling → Tiling → Bool

@@ -7,19 +7,18 @@ ghost use Rattle.std.specs.List.{AllByRecursion};
 ghost use Rattle.bk_tiling.specs.Scale.{moved_square};
 ghost use Rattle.bk_tiling.specs.Tiling.{order, sides_of};
 ghost use Rattle.bk_simple.specs.Simple.{IsPerfect};
-ghost use Rattle.bk_pair.specs.OwnSides.{PairsByConditions};
-ghost use Rattle.bk_pair.specs.PairSquare.{APairMakesASquare};
-ghost use Rattle.bk_pair.specs.PairTest.{TheTestsDecide};
 ghost use Rattle.bk_pair.specs.Pair.{ArePair, CanBeLaid, IsLayingFault, IsLeastShared, IsPairFault, IsSharedSide};
 ghost use Rattle.bk_pair.specs.Pair.{joined_square, pair_sides};
 
 mod kept;
+mod laws;
 
 use arrayvec::ArrayVec;
-use bk_simple::first_twice;
+use bk_simple::{first_twice, push_sides};
 use bk_sym::{Turn, image};
 use bk_tiling::{LONGEST_SIDE, MOST_SQUARES, Square, Tiling, put_in_order};
 pub use kept::KeptTiling;
+pub use laws::{a_pair_makes_a_square, a_pair_meets_its_conditions, the_tests_decide};
 
 /// Which squares count that are made of two rectangles. The kinds are our own.
 #[derive(Clone, Copy, PartialEq, Eq)]
@@ -77,25 +76,6 @@ pub fn join(a: &Tiling, b: &Tiling) -> Result<Tiling, PairFault>
     }
 }
 
-/// The tests that the definitions of pairs of a list compute with decide whether two tilings are laid together, and
-/// whether they join.
-pub fn the_tests_decide()
-    ensures { TheTestsDecide }
-{}
-
-/// Two tilings that can be laid together make a squared square, and two that join a perfect one: so each pair of a list
-/// stands with the perfect square that it makes, and of any kind with a squared square.
-pub fn a_pair_makes_a_square()
-    ensures { APairMakesASquare }
-{}
-
-/// Two tilings join to a perfect square exactly where they are of one size that is no square's, both are perfect, no
-/// side is in both, none is their width or their height, they have at most 198 squares together, and neither width nor
-/// height is above 999,999,999,999,999.
-pub fn a_pair_meets_its_conditions()
-    ensures { PairsByConditions }
-{}
-
 // Why the two are not laid together.
 fn laying_fault(a: &Tiling, b: &Tiling) -> Option<PairFault>
     ensures none { IfNone result (CanBeLaid a.now b.now) }
@@ -121,7 +101,7 @@ fn laying_fault(a: &Tiling, b: &Tiling) -> Option<PairFault>
 
 // The least side that occurs twice among all sides of what the two make.
 fn shared_side(a: &Tiling, b: &Tiling) -> Option<u64>
-    requires { order a.now + order b.now + 2 ≤ 200 }
+    requires { order a.now + order b.now + 2 ≤ MOST_SQUARES }
     ensures none { IfNone result ((side : ℕ) → ¬ (IsSharedSide a.now b.now side)) }
     ensures some { IfSome result (IsLeastShared a.now b.now) }
 {
@@ -131,7 +111,7 @@ fn shared_side(a: &Tiling, b: &Tiling) -> Option<u64>
 
 // All sides of what the two make, in ascending order.
 fn sorted_sides(a: &Tiling, b: &Tiling) -> ArrayVec<u64, MOST_SQUARES>
-    requires { order a.now + order b.now + 2 ≤ 200 }
+    requires { order a.now + order b.now + 2 ≤ MOST_SQUARES }
     ensures same { IsPermutation (pair_sides a.now b.now) result.items }
     ensures sorted { IsNonDecreasing result.items }
 {
@@ -142,16 +122,6 @@ fn sorted_sides(a: &Tiling, b: &Tiling) -> ArrayVec<u64, MOST_SQUARES>
     sides.push(a.height());
     sides.sort_unstable();
     sides
-}
-
-// Appends the sides of a tiling.
-fn push_sides(tiling: &Tiling, sides: &mut ArrayVec<u64, MOST_SQUARES>)
-    requires { length sides.old.items + order tiling.now ≤ 200 }
-    ensures { sides.new.items ≡ sides.old.items ++ sides_of tiling.now }
-{
-    for q in tiling.squares() {
-        sides.push(q.s);
-    }
 }
 
 // The square that the two make, which can be laid so.
@@ -179,9 +149,9 @@ fn laid(a: &Tiling, b: &Tiling) -> Tiling
 
 // Appends the squares of a tiling, moved to the right and down.
 fn push_moved(tiling: &Tiling, right: u64, down: u64, squares: &mut ArrayVec<Square, MOST_SQUARES>)
-    requires room { length squares.old.items + order tiling.now ≤ 200 }
-    requires right { right ≤ 999_999_999_999_999 }
-    requires down { down ≤ 999_999_999_999_999 }
+    requires room { length squares.old.items + order tiling.now ≤ MOST_SQUARES }
+    requires right { right ≤ LONGEST_SIDE }
+    requires down { down ≤ LONGEST_SIDE }
     ensures { squares.new.items ≡ squares.old.items ++ map (moved_square right down) tiling.now.squares }
 {
     for q in tiling.squares() {

@@ -76,7 +76,8 @@ module _ (front : Word) (m : Move) (kept : IsKeptSkeleton front) (legal : IsLega
   sizes_in sizes e = omega (arith, start_is (outline_of front) c.shaped m from v f, long_sizes sizes e)
 
   -- with those touched in their place the segments are few
-  pub sizes_few : (sizes : List ℕ) → sizes ≡ sizes_of (after_move (outline_of front) m) → length sizes - (turn.parted + 1) + (open_sides_of_record turn + 1) ≤ 200
+  pub sizes_few : (sizes : List ℕ) → sizes ≡ sizes_of (after_move (outline_of front) m)
+      → length sizes - (turn.parted + 1) + (open_sides_of_record turn + 1) ≤ 200
   sizes_few sizes e = omega (
     arith,
     sides_are (outline_of front) c.shaped m from v f,

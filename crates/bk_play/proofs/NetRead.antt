@@ -7,13 +7,12 @@ use Rattle.bk_net.specs.Net.{Net}
 use Rattle.bk_word.specs.Outline.{start}
 use Rattle.bk_word.specs.Play.{IsComplete, numbers_from, outline_of}
 use Rattle.bk_word.specs.Word.{Word, order_of}
-use Rattle.bk_word.specs.declared.Sign.{Sign}
 use Rattle.bk_word_net.proofs.Outlines.Numbering.{numbered_moves, numbered_start}
 use Rattle.bk_word_net.proofs.WordFlows.NoLoose.{a_word_net_has_no_loose, closed_count}
 use Rattle.bk_play.proofs.RecordCounts.{closed_sizes}
 use Rattle.bk_play.proofs.SkelReads.{counted_in}
 use Rattle.bk_play.proofs.StoredMoves.{turns_many}
-use Rattle.bk_play.specs.Skeleton.{IsStoredSkeleton}
+use Rattle.bk_play.specs.Skeleton.{IsStoredSkeleton, SkeletonLists}
 use Rattle.bk_play.specs.Wiring.{AreWires, closed_of, hung_and_closed, move_wires_from}
 use Rattle.bk_word_net.specs.WordNet.{end_of, net_of_word}
 use Rattle.bk_play.specs.declared.turns.MoveRecord.{MoveRecord}
@@ -28,19 +27,19 @@ pub record ReadsNet (w : Word) (turns : List MoveRecord) (ends : List ℕ) : Typ
   pub net : (record { nodes = length turns + 1; wires = move_wires_from 0 (hung_and_closed turns) ends }) ≡ net_of_word w
 
 -- of a complete word, the records and the nodes where the squares end are the net of the word
-pub reads_net : {w : Word} {ends sizes : List ℕ} {signs : List Sign} {closed : List ℕ} {turns : List MoveRecord} {played : List Sign}
-    → IsStoredSkeleton w ends sizes signs closed turns played → IsComplete w → (ended : List ℕ) (n : ℕ) → n ≡ order_of w → length ended ≡ 200
-    → ((k : ℕ) → k < 200 → slice_index ended k ≡ end_of (outline_of w).closed (k + 1)) → ReadsNet w turns (take n ended)
-reads_net {w = w} {turns = turns} s complete ended n order long read =
+pub reads_net : {w : Word} {lists : SkeletonLists}
+    → IsStoredSkeleton w lists → IsComplete w → (ended : List ℕ) (n : ℕ) → n ≡ order_of w → length ended ≡ 200
+    → ((k : ℕ) → k < 200 → slice_index ended k ≡ end_of (outline_of w).closed (k + 1)) → ReadsNet w lists.turns (take n ended)
+reads_net {w = w} {lists = lists} s complete ended n order long read =
     record { all = all; wires = subst (λ (m : Net). AreWires m.nodes m.wires) (sym net) good; net = net }
   where
     hung : length (outline_of w).hung ≡ order_of w
     hung = (counted_in s).hung
 
-    counts : hung_and_closed turns ≡ map (λ m. m.count) w
+    counts : hung_and_closed lists.turns ≡ map (λ m. m.count) w
     counts = ap hung_and_closed s.turns_are ∙ counts_turns start 0 w
 
-    all : length (take n ended) ≡ sum (hung_and_closed turns)
+    all : length (take n ended) ≡ sum (hung_and_closed lists.turns)
     all = length-take-le n ended (omega (arith, order, (s.kept).few)) ∙ order ∙ sym (ap sum counts ∙ counts_sum w)
 
     ends_are : take n ended ≡ map (end_of ((outline_of w).closed ++ (outline_of w).segments)) (numbers_from 1 (length (outline_of w).hung))
@@ -48,16 +47,16 @@ reads_net {w = w} {turns = turns} s complete ended n order long read =
         (omega (arith, order, (s.kept).few)) long read
         ∙ ap (λ k. map (end_of ((outline_of w).closed ++ (outline_of w).segments)) (numbers_from 1 k)) (order ∙ sym hung)
 
-    nodes : length turns ≡ length (outline_of w).closed
+    nodes : length lists.turns ≡ length (outline_of w).closed
     nodes = omega (arith, ap length s.turns_are, turns_many start 0 w, closed_count start w)
 
-    wires_are : move_wires_from 0 (hung_and_closed turns) (take n ended)
+    wires_are : move_wires_from 0 (hung_and_closed lists.turns) (take n ended)
         ≡ zip (outline_of w).hung (map (end_of ((outline_of w).closed ++ (outline_of w).segments)) (numbers_from 1 (length (outline_of w).hung)))
-    wires_are = sym (zip_nodes 0 (hung_and_closed turns) (take n ended) all) ∙ (λ i. zip (nodes_from 0 (counts i)) (ends_are i))
+    wires_are = sym (zip_nodes 0 (hung_and_closed lists.turns) (take n ended) all) ∙ (λ i. zip (nodes_from 0 (counts i)) (ends_are i))
         ∙ ap (λ (l : List ℕ). zip l (map (end_of ((outline_of w).closed ++ (outline_of w).segments))
         (numbers_from 1 (length (outline_of w).hung)))) (sym (hung_nodes start w))
 
-    net : (record { nodes = length turns + 1; wires = move_wires_from 0 (hung_and_closed turns) (take n ended) }) ≡ net_of_word w
+    net : (record { nodes = length lists.turns + 1; wires = move_wires_from 0 (hung_and_closed lists.turns) (take n ended) }) ≡ net_of_word w
     net = λ i. record { nodes = nodes i + 1; wires = wires_are i }
 
     good : AreWires (net_of_word w).nodes (net_of_word w).wires
@@ -65,14 +64,14 @@ reads_net {w = w} {turns = turns} s complete ended n order long read =
         (net_of_word w).wires ((a_word_net_has_no_loose w complete).0).ends
 
 -- the records and nodes that a skeleton shows of a complete word are the net of the word, where these are read of it
-pub reads_shown : {w now : Word} {ends sizes : List ℕ} {signs : List Sign} {closed : List ℕ} {turns : List MoveRecord} {played : List Sign}
+pub reads_shown : {w now : Word} {lists : SkeletonLists}
     {first again : List MoveRecord} {read : List ℕ}
-    → IsStoredSkeleton w ends sizes signs closed turns played → w ≡ now → IsComplete now → first ≡ turns → read ≡ closed → again ≡ turns
-    → (ended : List ℕ) (open_ones closed_ones : ℕ) → open_ones ≡ length ends → closed_ones ≡ length closed → length ended ≡ 200
-    → ((lists : List (List ℕ)) → read ≡ concat lists → closed_of first ≡ map length lists
-    → (k : ℕ) → k < 200 → slice_index ended k ≡ end_of lists (k + 1))
+    → IsStoredSkeleton w lists → w ≡ now → IsComplete now → first ≡ lists.turns → read ≡ lists.closed → again ≡ lists.turns
+    → (ended : List ℕ) (open_ones closed_ones : ℕ) → open_ones ≡ length lists.ends → closed_ones ≡ length lists.closed → length ended ≡ 200
+    → ((groups : List (List ℕ)) → read ≡ concat groups → closed_of first ≡ map length groups
+    → (k : ℕ) → k < 200 → slice_index ended k ≡ end_of groups (k + 1))
     → ReadsNet now again (take (open_ones + closed_ones) ended)
-reads_shown {w = w} {turns = turns} s shown complete e f g ended open_ones closed_ones many rest long read =
+reads_shown {w = w} {lists = lists} s shown complete e f g ended open_ones closed_ones many rest long read =
     subst (λ (p : Word × List MoveRecord). ReadsNet p.0 p.1 (take (open_ones + closed_ones) ended)) (λ i. (shown i, sym g i))
     (reads_net s (subst IsComplete (sym shown) complete) ended (open_ones + closed_ones) (omega (arith, many, rest, (counted_in s).all)) long
     (read (outline_of w).closed (f ∙ (s.shows).closed_are) (ap closed_of e ∙ closed_sizes s)))

@@ -129,7 +129,8 @@ module _ (o : Outline) (shaped : Shaped o) (m : Move) (legal : IsLegalMove o m) 
         ∙ splice-middle (map length v.before) (map length v.left ++ (length v.valley ∷ map length v.right)) (map length v.after)
         (sizes_after turn m.signs) (first_touched turn) (first_touched turn + (open_sides_of_record turn + 1)) start_long sizes_long
         ∙ sym sizes_are;
-    signs_are = ap (λ (l : List Sign). splice l (first_touched turn) (first_touched turn + open_sides_of_record turn) (filter parts m.signs)) (s.signs_are ∙ signs_were)
+    signs_are = ap (λ (l : List Sign). splice l (first_touched turn) (first_touched turn + open_sides_of_record turn) (filter parts m.signs))
+        (s.signs_are ∙ signs_were)
         ∙ splice-middle v.before_signs (v.left_signs ++ v.right_signs) v.after_signs (filter parts m.signs) (first_touched turn)
         (first_touched turn + open_sides_of_record turn) start_signs signs_long
         ∙ sym signs_are;

@@ -1,43 +1,40 @@
 -- What is known of a skeleton where a legal move is played.
-use Rattle.std.specs.List.{splice}
-use Rattle.std.proofs.Common.{List, [], ap, arith, filter, length, slice_range, subst, sym, ℕ, ◌*◌, ◌++◌, ◌+◌, ◌-◌, ◌<◌, ◌∙◌, ◌∷◌, ◌≡◌, ◌≤◌}
+use Rattle.std.proofs.Common.{List, [], ap, arith, length, subst, sym, ℕ, ◌*◌, ◌++◌, ◌+◌, ◌-◌, ◌<◌, ◌∙◌, ◌∷◌, ◌≡◌, ◌≤◌}
 use Rattle.bk_word.specs.Outline.{IsLegalMove, start}
-use Rattle.bk_word.specs.Play.{numbers_from, outline_of, parts}
+use Rattle.bk_word.specs.Play.{outline_of}
 use Rattle.bk_word.specs.Word.{Move, Word, order_of}
 use Rattle.bk_word.specs.declared.Sign.{Sign}
-use Rattle.bk_play.proofs.SkelFacts.{Counted, Touches, counted, stored_move, touches}
+use Rattle.bk_play.proofs.SkelFacts.{Counted, Touches, counted, lists_after, stored_move, touches}
 use Rattle.bk_word.proofs.PlayLaws.{moves_many}
 use Rattle.bk_play.proofs.StoredMoves.{signs_many, stored_word, turns_many}
-use Rattle.bk_play.specs.Skeleton.{IsStoredSkeleton, first_touched, moves_stored, open_sides_of_record, sizes_after, turn_at}
+use Rattle.bk_play.specs.Skeleton.{IsStoredSkeleton, SkeletonLists, first_touched, moves_stored, open_sides_of_record, turn_at}
 use Rattle.bk_play.specs.declared.turns.MoveRecord.{MoveRecord}
 
--- the move is legal, at most so many squares hang after it, and what it needs of the lists is there
-pub record Playing (most : ℕ) (w : Word) (m : Move) (ends sizes : List ℕ) (signs : List Sign) (closed : List ℕ) (turns : List MoveRecord)
-    (played : List Sign) (turn : MoveRecord) : Type 0 where
+-- the move is legal, at most `most` squares hang after it, and what it needs of the lists is there
+pub record Playing (most : ℕ) (w : Word) (m : Move) (lists : SkeletonLists) (turn : MoveRecord) : Type 0 where
   pub legal : IsLegalMove (outline_of w) m
   pub few : order_of w + m.count ≤ 200
   pub room : order_of w + m.count ≤ most
-  pub turn_is : turn ≡ turn_at sizes signs m (length played)
-  pub numbers : length ends + length closed + 1 + m.count ≤ most + 1
-  pub first : turn.first + turn.closed ≤ length ends
-  pub closed_fit : length closed + turn.closed ≤ most
-  pub ends_fit : length ends - turn.closed + m.count ≤ most
-  pub sizes_few : length sizes ≤ most
-  pub signs_few : length signs ≤ most
-  pub sizes_within : first_touched turn + (open_sides_of_record turn + 1) ≤ length sizes
-  pub signs_within : first_touched turn + open_sides_of_record turn ≤ length signs
-  pub sizes_fit : length sizes - (open_sides_of_record turn + 1) + (turn.parted + 1) ≤ most
-  pub signs_fit : length signs - open_sides_of_record turn + turn.parted ≤ most
+  pub turn_is : turn ≡ turn_at lists.sizes lists.signs m (length lists.played)
+  pub numbers : length lists.ends + length lists.closed + 1 + m.count ≤ most + 1
+  pub first : turn.first + turn.closed ≤ length lists.ends
+  pub closed_fit : length lists.closed + turn.closed ≤ most
+  pub ends_fit : length lists.ends - turn.closed + m.count ≤ most
+  pub sizes_few : length lists.sizes ≤ most
+  pub signs_few : length lists.signs ≤ most
+  pub sizes_within : first_touched turn + (open_sides_of_record turn + 1) ≤ length lists.sizes
+  pub signs_within : first_touched turn + open_sides_of_record turn ≤ length lists.signs
+  pub sizes_fit : length lists.sizes - (open_sides_of_record turn + 1) + (turn.parted + 1) ≤ most
+  pub signs_fit : length lists.signs - open_sides_of_record turn + turn.parted ≤ most
   pub small : turn.left + length m.signs + turn.right ≤ most + 1
-  pub played_fit : length played + length m.signs ≤ 2 * most
-  pub turns_fit : length turns < most
+  pub played_fit : length lists.played + length m.signs ≤ 2 * most
+  pub turns_fit : length lists.turns < most
 
--- a legal move of so few squares has room in all lists
-pub playing_at : (most : ℕ) → most ≤ 200 → (w : Word) (m : Move) (ends sizes : List ℕ) (signs : List Sign) (closed : List ℕ)
-    (turns : List MoveRecord) (played : List Sign) (turn : MoveRecord) → IsStoredSkeleton w ends sizes signs closed turns played
-    → IsLegalMove (outline_of w) m → order_of w + m.count ≤ most → turn ≡ turn_at sizes signs m (length played)
-    → Playing most w m ends sizes signs closed turns played turn
-playing_at most h w m ends sizes signs closed turns played turn s legal few e = record {
+-- a legal move after which at most `most` squares hang has room in all lists
+pub playing_at : (most : ℕ) → most ≤ 200 → (w : Word) (m : Move) (lists : SkeletonLists) (turn : MoveRecord) → IsStoredSkeleton w lists
+    → IsLegalMove (outline_of w) m → order_of w + m.count ≤ most → turn ≡ turn_at lists.sizes lists.signs m (length lists.played)
+    → Playing most w m lists turn
+playing_at most h w m lists turn s legal few e = record {
   legal = legal;
   few = omega (arith, few, h);
   room = few;
@@ -57,85 +54,48 @@ playing_at most h w m ends sizes signs closed turns played turn s legal few e = 
   turns_fit = omega (arith, ap length s.turns_are, turns_many start 0 w, moves_many start w (s.kept).legal, legal.some, few);
 }
   where
-    c : Counted w ends sizes signs closed
-    c = counted w ends sizes signs closed s.kept s.shows
+    c : Counted w lists.ends lists.sizes lists.signs lists.closed
+    c = counted w lists.ends lists.sizes lists.signs lists.closed s.kept s.shows
 
-    t : Touches most w m ends sizes signs closed turn
-    t = subst (Touches most w m ends sizes signs closed)
-        (sym (e ∙ (λ i. turn_at ((s.shows).sizes_are i) ((s.shows).signs_are i) m (length played))))
-        (touches most w m ends sizes signs closed (length played) s.kept s.shows legal few)
+    t : Touches most w m lists.ends lists.sizes lists.signs lists.closed turn
+    t = subst (Touches most w m lists.ends lists.sizes lists.signs lists.closed)
+        (sym (e ∙ (λ i. turn_at ((s.shows).sizes_are i) ((s.shows).signs_are i) m (length lists.played))))
+        (touches most w m lists.ends lists.sizes lists.signs lists.closed (length lists.played) s.kept s.shows legal few)
 
--- a legal move of few squares has room in all lists, where their values are read
-pub playing_within : (most : ℕ) → most ≤ 200 → {w : Word} {ends sizes : List ℕ} {signs : List Sign} {closed : List ℕ} {turns : List MoveRecord}
-    {played : List Sign} {now : Word} {count : ℕ} {moved : List Sign} {m : Move} {turn : MoveRecord} {read_sizes : List ℕ}
-    {read_signs read_moved : List Sign} {from : ℕ}
-    → IsStoredSkeleton w ends sizes signs closed turns played → w ≡ now → record { count = count; signs = moved } ≡ m
+-- a legal move after which at most `most` squares hang has room in all lists, where these and the move are read
+pub playing_within : (most : ℕ) → most ≤ 200 → {w : Word} {lists : SkeletonLists} {now : Word} {count : ℕ} {moved : List Sign} {m : Move}
+    {turn : MoveRecord} {read_sizes : List ℕ} {read_signs read_moved : List Sign} {from : ℕ}
+    → IsStoredSkeleton w lists → w ≡ now → record { count = count; signs = moved } ≡ m
     → IsLegalMove (outline_of now) m → order_of now + m.count ≤ most
     → turn ≡ turn_at read_sizes read_signs (record { count = count; signs = read_moved }) from
-    → read_sizes ≡ sizes → read_signs ≡ signs → read_moved ≡ moved → from ≡ length played
-    → Playing most w (record { count = count; signs = moved }) ends sizes signs closed turns played turn
-playing_within most within {w} {ends} {sizes} {signs} {closed} {turns} {played} {now} {count} {moved} {m} {turn} {read_sizes} {read_signs}
-    {read_moved} {from} s e f legal few g a b d h =
-    playing_at most within w (record { count = count; signs = moved }) ends sizes signs closed turns played turn s
+    → read_sizes ≡ lists.sizes → read_signs ≡ lists.signs → read_moved ≡ moved → from ≡ length lists.played
+    → Playing most w (record { count = count; signs = moved }) lists turn
+playing_within most within {w} {lists} {now} {count} {moved} {m} {turn} {read_sizes} {read_signs} {read_moved} {from} s e f legal few g a b d h =
+    playing_at most within w (record { count = count; signs = moved }) lists turn s
     (subst (λ (p : Word × Move). IsLegalMove (outline_of p.0) p.1) (λ i. (sym e i, sym f i)) legal)
     (omega (arith, few, ap order_of e, ap (λ (m : Move). m.count) f))
     (g ∙ (λ i. turn_at (a i) (b i) (record { count = count; signs = d i }) (h i)))
 
 -- a legal move has room in all lists where at most 200 squares hang after it
-pub playing : {w : Word} {ends sizes : List ℕ} {signs : List Sign} {closed : List ℕ} {turns : List MoveRecord} {played : List Sign}
-    → {now : Word} {count : ℕ} {moved : List Sign} {m : Move} {turn : MoveRecord} {read_sizes : List ℕ} {read_signs read_moved : List Sign} {from : ℕ}
-    → IsStoredSkeleton w ends sizes signs closed turns played → w ≡ now → record { count = count; signs = moved } ≡ m
+pub playing : {w : Word} {lists : SkeletonLists} {now : Word} {count : ℕ} {moved : List Sign} {m : Move} {turn : MoveRecord} {read_sizes : List ℕ}
+    {read_signs read_moved : List Sign} {from : ℕ}
+    → IsStoredSkeleton w lists → w ≡ now → record { count = count; signs = moved } ≡ m
     → IsLegalMove (outline_of now) m → order_of now + m.count ≤ 200
     → turn ≡ turn_at read_sizes read_signs (record { count = count; signs = read_moved }) from
-    → read_sizes ≡ sizes → read_signs ≡ signs → read_moved ≡ moved → from ≡ length played
-    → Playing 200 w (record { count = count; signs = moved }) ends sizes signs closed turns played turn
+    → read_sizes ≡ lists.sizes → read_signs ≡ lists.signs → read_moved ≡ moved → from ≡ length lists.played
+    → Playing 200 w (record { count = count; signs = moved }) lists turn
 playing s e f legal few g a b d h = playing_within 200 (omega arith) s e f legal few g a b d h
 
 -- what is stored is stored of the moves that it shows
-pub moves_shown : {w : Word} {ends sizes : List ℕ} {signs : List Sign} {closed : List ℕ} {turns : List MoveRecord} {played : List Sign}
-    → IsStoredSkeleton w ends sizes signs closed turns played → moves_stored turns played ≡ w
+pub moves_shown : {w : Word} {lists : SkeletonLists} → IsStoredSkeleton w lists → moves_stored lists.turns lists.played ≡ w
 moves_shown {w = w} s = (λ i. moves_stored (s.turns_are i) (s.played_are i)) ∙ stored_word w
 
 -- what is stored is the word that its records and signs spell
-pub stored_shown : (w : Word) (ends sizes : List ℕ) (signs : List Sign) (closed : List ℕ) (turns : List MoveRecord) (played : List Sign)
-    → IsStoredSkeleton w ends sizes signs closed turns played → IsStoredSkeleton (moves_stored turns played) ends sizes signs closed turns played
-stored_shown w ends sizes signs closed turns played s = subst (λ (v : Word). IsStoredSkeleton v ends sizes signs closed turns played) (sym (moves_shown s)) s
-
--- the lists after a move, by those before it
-pub record Played (m : Move) (ends sizes : List ℕ) (signs : List Sign) (closed : List ℕ) (turns : List MoveRecord) (played : List Sign) (turn : MoveRecord)
-    (new_ends new_sizes : List ℕ) (new_signs : List Sign) (new_closed : List ℕ) (new_turns : List MoveRecord) (new_played : List Sign) : Type 0 where
-  pub ends_new : new_ends ≡ splice ends turn.first (turn.first + turn.closed) (numbers_from (length ends + length closed + 1) m.count)
-  pub sizes_new : new_sizes ≡ splice sizes (first_touched turn) (first_touched turn + (open_sides_of_record turn + 1)) (sizes_after turn m.signs)
-  pub signs_new : new_signs ≡ splice signs (first_touched turn) (first_touched turn + open_sides_of_record turn) (filter parts m.signs)
-  pub closed_new : new_closed ≡ closed ++ slice_range ends turn.first (turn.first + turn.closed)
-  pub turns_new : new_turns ≡ turns ++ turn ∷ []
-  pub played_new : new_played ≡ played ++ m.signs
+pub stored_shown : {w : Word} {lists : SkeletonLists} → IsStoredSkeleton w lists → IsStoredSkeleton (moves_stored lists.turns lists.played) lists
+stored_shown {lists = lists} s = subst (λ (v : Word). IsStoredSkeleton v lists) (sym (moves_shown s)) s
 
 -- with a move played, the lists store the word with that move
-pub stored_played : {most : ℕ} {w : Word} {m : Move} {ends sizes : List ℕ} {signs : List Sign} {closed : List ℕ} {turns : List MoveRecord}
-    {played : List Sign} {turn : MoveRecord} {new_ends new_sizes : List ℕ} {new_signs : List Sign} {new_closed : List ℕ}
-    {new_turns : List MoveRecord} {new_played : List Sign}
-    → IsStoredSkeleton w ends sizes signs closed turns played → Playing most w m ends sizes signs closed turns played turn
-    → Played m ends sizes signs closed turns played turn new_ends new_sizes new_signs new_closed new_turns new_played
-    → IsStoredSkeleton (w ++ m ∷ []) new_ends new_sizes new_signs new_closed new_turns new_played
-stored_played {w = w} {m = m} {ends = ends} {sizes = sizes} {signs = signs} {closed = closed} {turns = turns} {played = played}
-    {turn = turn} {new_ends = new_ends} {new_sizes = new_sizes} {new_signs = new_signs} {new_closed = new_closed} {new_turns = new_turns}
-    {new_played = new_played} s p n =
-    subst (λ (l : List ℕ). IsStoredSkeleton (w ++ m ∷ []) l new_sizes new_signs new_closed new_turns new_played) (sym n.ends_new)
-    (subst (λ (l : List ℕ). IsStoredSkeleton (w ++ m ∷ [])
-    (splice ends turn.first (turn.first + turn.closed) (numbers_from (length ends + length closed + 1) m.count)) l new_signs new_closed
-    new_turns new_played) (sym n.sizes_new)
-    (subst (λ (l : List Sign). IsStoredSkeleton (w ++ m ∷ [])
-    (splice ends turn.first (turn.first + turn.closed) (numbers_from (length ends + length closed + 1) m.count))
-    (splice sizes (first_touched turn) (first_touched turn + (open_sides_of_record turn + 1)) (sizes_after turn m.signs)) l new_closed new_turns
-    new_played) (sym n.signs_new)
-    (subst (λ (l : List ℕ). IsStoredSkeleton (w ++ m ∷ [])
-    (splice ends turn.first (turn.first + turn.closed) (numbers_from (length ends + length closed + 1) m.count))
-    (splice sizes (first_touched turn) (first_touched turn + (open_sides_of_record turn + 1)) (sizes_after turn m.signs))
-    (splice signs (first_touched turn) (first_touched turn + open_sides_of_record turn) (filter parts m.signs)) l new_turns new_played) (sym n.closed_new)
-    (subst (λ (l : List MoveRecord × List Sign). IsStoredSkeleton (w ++ m ∷ [])
-    (splice ends turn.first (turn.first + turn.closed) (numbers_from (length ends + length closed + 1) m.count))
-    (splice sizes (first_touched turn) (first_touched turn + (open_sides_of_record turn + 1)) (sizes_after turn m.signs))
-    (splice signs (first_touched turn) (first_touched turn + open_sides_of_record turn) (filter parts m.signs))
-    (closed ++ slice_range ends turn.first (turn.first + turn.closed)) l.0 l.1) (λ i. (sym n.turns_new i, sym n.played_new i))
-    (stored_move w m ends sizes signs closed turns played turn s p.legal p.few p.turn_is)))))
+pub stored_played : {most : ℕ} {w : Word} {m : Move} {lists : SkeletonLists} {turn : MoveRecord} {new : SkeletonLists}
+    → IsStoredSkeleton w lists → Playing most w m lists turn → new ≡ lists_after lists m turn → IsStoredSkeleton (w ++ m ∷ []) new
+stored_played {w = w} {m = m} {lists = lists} {turn = turn} s p n =
+    subst (IsStoredSkeleton (w ++ m ∷ [])) (sym n) (stored_move w m lists turn s p.legal p.few p.turn_is)

@@ -9,13 +9,11 @@ use Rattle.bk_word.proofs.StoredBytes.{order_more}
 use Rattle.bk_word.specs.Outline.{Outline, sizes_of, start, valley_of, valley_place}
 use Rattle.bk_word.specs.Play.{after_move, after_moves, outline_of}
 use Rattle.bk_word.specs.Word.{Word, order_of}
-use Rattle.bk_word.specs.declared.Sign.{Sign}
 use Rattle.bk_word_net.proofs.Outlines.Numbering.{numbered_moves, numbered_start}
 use Rattle.bk_word_net.proofs.WordFlows.NoLoose.{hung_number}
 use Rattle.bk_play.proofs.SkelReads.{counted_in}
-use Rattle.bk_play.specs.Skeleton.{IsStoredSkeleton, turns_from}
+use Rattle.bk_play.specs.Skeleton.{IsStoredSkeleton, SkeletonLists, turns_from}
 use Rattle.bk_play.specs.Wiring.{AreNumbers, closed_of, hung_and_closed}
-use Rattle.bk_play.specs.declared.turns.MoveRecord.{MoveRecord}
 
 -- how many squares the records say that each move closes and hangs
 pub closed_turns : (o : Outline) (from : ℕ) (w : Word) → map length (after_moves o w).closed ≡ map length o.closed ++ closed_of (turns_from o from w)
@@ -37,26 +35,26 @@ counts_sum [] = refl
 counts_sum (m ∷ w) = omega (arith, sum_by-cons (λ (n : ℕ). n) m.count (map (λ m. m.count) w), order_more m w, counts_sum w)
 
 -- the numbers of the closed squares are those of squares
-pub closed_numbers : {w : Word} {ends sizes : List ℕ} {signs : List Sign} {closed : List ℕ} {turns : List MoveRecord} {played : List Sign}
-    → IsStoredSkeleton w ends sizes signs closed turns played → AreNumbers 200 closed
-closed_numbers {w = w} {closed = closed} s =
+pub closed_numbers : {w : Word} {lists : SkeletonLists}
+    → IsStoredSkeleton w lists → AreNumbers 200 lists.closed
+closed_numbers {w = w} {lists = lists} s =
     record { positive = λ i h. (number i h).0; small = λ i h. omega (arith, (number i h).1, (counted_in s).hung, (s.kept).few) }
   where
-    number : (i : ℕ) → i < length closed → (1 ≤ slice_index closed i) × (slice_index closed i ≤ length (outline_of w).hung)
-    number i h = hung_number (outline_of w) (numbered_moves start w numbered_start) (slice_index closed i) (omega (
+    number : (i : ℕ) → i < length lists.closed → (1 ≤ slice_index lists.closed i) × (slice_index lists.closed i ≤ length (outline_of w).hung)
+    number i h = hung_number (outline_of w) (numbered_moves start w numbered_start) (slice_index lists.closed i) (omega (
       arith,
-      times-slice_index_positive closed i h,
-      ap (times (slice_index closed i)) (s.shows).closed_are,
-      times-concat (slice_index closed i) (outline_of w).closed,
-      times_in-append (slice_index closed i) (outline_of w).closed (outline_of w).segments,
+      times-slice_index_positive lists.closed i h,
+      ap (times (slice_index lists.closed i)) (s.shows).closed_are,
+      times-concat (slice_index lists.closed i) (outline_of w).closed,
+      times_in-append (slice_index lists.closed i) (outline_of w).closed (outline_of w).segments,
     ))
 
 -- the records say how many squares each node closes
-pub closed_sizes : {w : Word} {ends sizes : List ℕ} {signs : List Sign} {closed : List ℕ} {turns : List MoveRecord} {played : List Sign}
-    → IsStoredSkeleton w ends sizes signs closed turns played → closed_of turns ≡ map length (outline_of w).closed
+pub closed_sizes : {w : Word} {lists : SkeletonLists}
+    → IsStoredSkeleton w lists → closed_of lists.turns ≡ map length (outline_of w).closed
 closed_sizes {w = w} s = ap closed_of s.turns_are ∙ sym (closed_turns start 0 w)
 
 -- as many squares are closed as the records say
-pub closed_many : {w : Word} {ends sizes : List ℕ} {signs : List Sign} {closed : List ℕ} {turns : List MoveRecord} {played : List Sign}
-    → IsStoredSkeleton w ends sizes signs closed turns played → length closed ≡ sum (closed_of turns)
+pub closed_many : {w : Word} {lists : SkeletonLists}
+    → IsStoredSkeleton w lists → length lists.closed ≡ sum (closed_of lists.turns)
 closed_many {w = w} s = ap length (s.shows).closed_are ∙ sym (sum-map_length (outline_of w).closed) ∙ ap sum (sym (closed_sizes s))

@@ -19,9 +19,13 @@ use Rattle.bk_word.proofs.PlayLaws.{after-snoc, few_signs, legal-snoc}
 use Rattle.bk_play.proofs.StoredMoves.{signs-snoc, turns-snoc}
 use Rattle.bk_play.proofs.TurnParts.{closed_is, first_is, left_is, right_is, sides_are, start_is}
 use Rattle.bk_word_net.proofs.Outlines.ValleyCut.{AtValley}
-use Rattle.bk_play.specs.Skeleton.{IsStoredSkeleton, Shows, first_touched, open_sides_of_record, signs_of, sizes_after, turn_at}
+use Rattle.bk_play.specs.Skeleton.{IsStoredSkeleton, Shows, SkeletonLists, first_touched, open_sides_of_record, signs_of, sizes_after, turn_at}
 use Rattle.bk_play.specs.Valley.{IsKeptSkeleton}
 use Rattle.bk_play.specs.declared.turns.MoveRecord.{MoveRecord}
+
+-- the lists show an outline
+abbrev pub ShowsIn : Outline → SkeletonLists → Type 0
+ShowsIn o lists = Shows o lists.ends lists.sizes lists.signs lists.closed
 
 -- the numbers of what a kept skeleton's outline has
 pub record Counted (w : Word) (ends sizes : List ℕ) (signs : List Sign) (closed : List ℕ) : Type 0 where
@@ -139,52 +143,44 @@ touches most w m ends sizes signs closed from kept s legal room = record {
       room,
     )
 
--- what is stored after a legal move
-pub stored_move : (w : Word) (m : Move) (ends sizes : List ℕ) (signs : List Sign) (closed : List ℕ) (turns : List MoveRecord)
-    (played : List Sign) (turn : MoveRecord)
-    → IsStoredSkeleton w ends sizes signs closed turns played → IsLegalMove (outline_of w) m → order_of w + m.count ≤ 200
-    → turn ≡ turn_at sizes signs m (length played)
-    → IsStoredSkeleton (w ++ m ∷ [])
-    (splice ends turn.first (turn.first + turn.closed) (numbers_from (length ends + length closed + 1) m.count))
-    (splice sizes (first_touched turn) (first_touched turn + (open_sides_of_record turn + 1)) (sizes_after turn m.signs))
-    (splice signs (first_touched turn) (first_touched turn + open_sides_of_record turn) (filter parts m.signs))
-    (closed ++ slice_range ends turn.first (turn.first + turn.closed))
-    (turns ++ turn ∷ [])
-    (played ++ m.signs)
-stored_move w m ends sizes signs closed turns played turn s legal room e = record {
+-- the lists after a move of this record
+abbrev pub lists_after : SkeletonLists → Move → MoveRecord → SkeletonLists
+lists_after lists m turn = record {
+  ends = splice lists.ends turn.first (turn.first + turn.closed) (numbers_from (length lists.ends + length lists.closed + 1) m.count);
+  sizes = splice lists.sizes (first_touched turn) (first_touched turn + (open_sides_of_record turn + 1)) (sizes_after turn m.signs);
+  signs = splice lists.signs (first_touched turn) (first_touched turn + open_sides_of_record turn) (filter parts m.signs);
+  closed = lists.closed ++ slice_range lists.ends turn.first (turn.first + turn.closed);
+  turns = lists.turns ++ turn ∷ [];
+  played = lists.played ++ m.signs;
+}
+
+-- after a legal move the lists with the move store the word with it
+pub stored_move : (w : Word) (m : Move) (lists : SkeletonLists) (turn : MoveRecord)
+    → IsStoredSkeleton w lists → IsLegalMove (outline_of w) m → order_of w + m.count ≤ 200
+    → turn ≡ turn_at lists.sizes lists.signs m (length lists.played) → IsStoredSkeleton (w ++ m ∷ []) (lists_after lists m turn)
+stored_move w m lists turn s legal room e = record {
   kept = record { legal = legal-snoc start w m (s.kept).legal legal; few = omega (arith, order_one w m, room) };
-  shows = subst (λ (o : Outline). Shows o (splice ends turn.first (turn.first + turn.closed) (numbers_from (length ends + length closed + 1) m.count))
-      (splice sizes (first_touched turn) (first_touched turn + (open_sides_of_record turn + 1)) (sizes_after turn m.signs))
-      (splice signs (first_touched turn) (first_touched turn + open_sides_of_record turn) (filter parts m.signs))
-      (closed ++ slice_range ends turn.first (turn.first + turn.closed))) (sym (after-snoc start w m)) shown;
+  shows = subst (λ (o : Outline). ShowsIn o (lists_after lists m turn)) (sym (after-snoc start w m)) shown;
   turns_are = (λ i. s.turns_are i ++ turn_is i ∷ []) ∙ sym (turns-snoc start 0 w m);
   played_are = (λ i. s.played_are i ++ m.signs) ∙ sym (signs-snoc w m);
 }
   where
-    c : Counted w ends sizes signs closed
-    c = counted w ends sizes signs closed s.kept s.shows
+    c : Counted w lists.ends lists.sizes lists.signs lists.closed
+    c = counted w lists.ends lists.sizes lists.signs lists.closed s.kept s.shows
 
-    turn_was : turn ≡ turn_at (sizes_of (outline_of w)) (outline_of w).signs m (length played)
-    turn_was = e ∙ (λ i. turn_at ((s.shows).sizes_are i) ((s.shows).signs_are i) m (length played))
+    turn_was : turn ≡ turn_at (sizes_of (outline_of w)) (outline_of w).signs m (length lists.played)
+    turn_was = e ∙ (λ i. turn_at ((s.shows).sizes_are i) ((s.shows).signs_are i) m (length lists.played))
 
     turn_is : turn ≡ turn_at (sizes_of (outline_of w)) (outline_of w).signs m (0 + length (signs_of w))
     turn_is = turn_was ∙ ap (turn_at (sizes_of (outline_of w)) (outline_of w).signs m) (ap length s.played_are ∙ omega arith)
 
-    number : length ends + length closed + 1 ≡ length (outline_of w).hung + 1
+    number : length lists.ends + length lists.closed + 1 ≡ length (outline_of w).hung + 1
     number = omega (arith, c.all, c.hung)
 
-    shown : Shows (after_move (outline_of w) m) (splice ends turn.first (turn.first + turn.closed) (numbers_from (length ends + length closed + 1) m.count))
-        (splice sizes (first_touched turn) (first_touched turn + (open_sides_of_record turn + 1)) (sizes_after turn m.signs))
-        (splice signs (first_touched turn) (first_touched turn + open_sides_of_record turn) (filter parts m.signs))
-        (closed ++ slice_range ends turn.first (turn.first + turn.closed))
-    shown = subst (λ (t : MoveRecord). Shows (after_move (outline_of w) m)
-        (splice ends t.first (t.first + t.closed) (numbers_from (length ends + length closed + 1) m.count))
-        (splice sizes (first_touched t) (first_touched t + (open_sides_of_record t + 1)) (sizes_after t m.signs))
-        (splice signs (first_touched t) (first_touched t + open_sides_of_record t) (filter parts m.signs))
-        (closed ++ slice_range ends t.first (t.first + t.closed))) (sym turn_was)
-        (subst (λ (n : ℕ). let t : MoveRecord = turn_at (sizes_of (outline_of w)) (outline_of w).signs m (length played) in
-        Shows (after_move (outline_of w) m) (splice ends t.first (t.first + t.closed) (numbers_from n m.count))
-        (splice sizes (first_touched t) (first_touched t + (open_sides_of_record t + 1)) (sizes_after t m.signs))
-        (splice signs (first_touched t) (first_touched t + open_sides_of_record t) (filter parts m.signs))
-        (closed ++ slice_range ends t.first (t.first + t.closed))) (sym number)
-        (shows_move (outline_of w) c.shaped m legal (length played) ends sizes signs closed s.shows))
+    shown : ShowsIn (after_move (outline_of w) m) (lists_after lists m turn)
+    shown = subst (λ (t : MoveRecord). ShowsIn (after_move (outline_of w) m) (lists_after lists m t)) (sym turn_was)
+        (subst (λ (n : ℕ). let t : MoveRecord = turn_at (sizes_of (outline_of w)) (outline_of w).signs m (length lists.played) in
+        let after : SkeletonLists = lists_after lists m t in
+        Shows (after_move (outline_of w) m) (splice lists.ends t.first (t.first + t.closed) (numbers_from n m.count)) after.sizes after.signs after.closed)
+        (sym number)
+        (shows_move (outline_of w) c.shaped m legal (length lists.played) lists.ends lists.sizes lists.signs lists.closed s.shows))

@@ -12,13 +12,13 @@ use Rattle.bk_word.specs.declared.Sign.{Sign}
 use Rattle.bk_play.proofs.EndNodes.{CutAt, cut_at, here_is}
 use Rattle.bk_play.proofs.SkelFacts.{Counted, counted}
 use Rattle.bk_word.proofs.PlayLaws.{few_signs}
-use Rattle.bk_play.specs.Skeleton.{IsStoredSkeleton, Shows, move_of, moves_stored, signs_of, turns_from}
+use Rattle.bk_play.specs.Skeleton.{IsStoredSkeleton, SkeletonLists, Shows, move_of, moves_stored, signs_of, turns_from}
 use Rattle.bk_play.specs.declared.turns.MoveRecord.{MoveRecord}
 
 -- what is stored has as many items as its word has squares and segments
-pub counted_in : {w : Word} {ends sizes : List ℕ} {signs : List Sign} {closed : List ℕ} {turns : List MoveRecord} {played : List Sign}
-    → IsStoredSkeleton w ends sizes signs closed turns played → Counted w ends sizes signs closed
-counted_in {w = w} {ends = ends} {sizes = sizes} {signs = signs} {closed = closed} s = counted w ends sizes signs closed s.kept s.shows
+pub counted_in : {w : Word} {lists : SkeletonLists}
+    → IsStoredSkeleton w lists → Counted w lists.ends lists.sizes lists.signs lists.closed
+counted_in {w = w} {lists = lists} s = counted w lists.ends lists.sizes lists.signs lists.closed s.kept s.shows
 
 list_at : (lists : List (List ℕ)) (n : ℕ) (c : CutAt lists n) → slice_index_or lists n [] ≡ c.here
 list_at lists n c = ap (λ (l : List (List ℕ)). slice_index_or l n []) c.whole ∙ go c.front n c.long
@@ -66,9 +66,9 @@ turn_spans o from (m ∷ w) legal few (suc i) d h = let r =
     }
 
 -- the signs of each move stand among those stored
-pub span_in : {w : Word} {ends sizes : List ℕ} {signs : List Sign} {closed : List ℕ} {turns : List MoveRecord} {played : List Sign}
-    → IsStoredSkeleton w ends sizes signs closed turns played → (i : ℕ) (d : MoveRecord) → i < length w → Spans (get_or turns i d) (length played)
-span_in {w = w} {turns = turns} {played = played} s i d h = subst (λ (l : List MoveRecord). Spans (get_or l i d) (length played)) (sym s.turns_are)
+pub span_in : {w : Word} {lists : SkeletonLists}
+    → IsStoredSkeleton w lists → (i : ℕ) (d : MoveRecord) → i < length w → Spans (get_or lists.turns i d) (length lists.played)
+span_in {w = w} {lists = lists} s i d h = subst (λ (l : List MoveRecord). Spans (get_or l i d) (length lists.played)) (sym s.turns_are)
     (subst (λ (n : ℕ). Spans (get_or (turns_from start 0 w) i d) n) (omega (arith, ap length s.played_are))
     (turn_spans start 0 w (s.kept).legal (s.kept).few i d h))
 

@@ -1,7 +1,7 @@
 -- The record of a move, found by its place among all.
 use Rattle.std.proofs.Common.{List, Some, [], ap, arith, drop, length, slice_get, slice_index_or, slice_range, subst, suc}
 use Rattle.std.proofs.Common.{sym, take, zero, ℕ, ◌+◌, ◌-◌, ◌<◌, ◌∙◌, ◌∷◌, ◌≡◌, ◌≤◌}
-use Rattle.std.proofs.lemmas.List.{length-append}
+use Rattle.std.proofs.lemmas.List.{length-append, length-map}
 use Rattle.bk_laws.proofs.Sums.{sum-take_map_length}
 use Rattle.bk_laws.proofs.ListItems.{slice_index-map_length}
 use Rattle.bk_word.specs.Outline.{Outline, start, valley_of, valley_place}
@@ -17,6 +17,11 @@ use Rattle.bk_play.specs.declared.turns.MoveRecord.{MoveRecord}
 -- a record of nothing
 abbrev pub no_turn : MoveRecord
 no_turn = record { place = 0; first = 0; left = 0; closed = 0; right = 0; count = 0; parted = 0; from = 0; to = 0 }
+
+-- the record of a move stands among the records as they are read
+pub place_there : (turns seen : List MoveRecord) (played : List Sign) (now : Word) (i : ℕ) → moves_stored turns played ≡ now → seen ≡ turns
+    → i < length now → i < length seen
+place_there turns seen played now i shown read h = omega (arith, h, ap length shown, length-map turns (move_of played), ap length read)
 
 record At (o : Outline) (w : Word) (i : ℕ) (turn : MoveRecord) : Type 0 where
   count : (m : Move) → slice_get w i ≡ Some m → turn.count ≡ m.count

@@ -8,8 +8,8 @@ use Rattle.bk_word.specs.Word.{Word}
 use Rattle.bk_word.specs.declared.Sign.{Sign}
 use Rattle.bk_play.proofs.SkelFacts.{Counted}
 use Rattle.bk_play.proofs.SkelReads.{counted_in}
+use Rattle.bk_play.specs.Skeleton.{SkeletonLists}
 use Rattle.bk_play.specs.SmallSkeleton.{IsStoredSmall, IsValleyPlace, StandsAt}
-use Rattle.bk_play.specs.declared.turns.MoveRecord.{MoveRecord}
 
 -- what is kept of the leftmost valley, where it is looked up among the sizes and signs
 pub record Looked (sizes : List ℕ) (signs : List Sign) (place first : ℕ) : Type 0 where
@@ -20,19 +20,19 @@ pub record Looked (sizes : List ℕ) (signs : List Sign) (place first : ℕ) : T
   pub inside : place < length sizes
 
 -- it is so among the lists that a small skeleton stores
-pub kept_looked : {w : Word} {ends sizes : List ℕ} {signs : List Sign} {closed : List ℕ} {turns : List MoveRecord} {played : List Sign} {place first : ℕ}
-    → IsStoredSmall w ends sizes signs closed turns played place first
-    → (looked : List ℕ) (between : List Sign) (at begin : ℕ) → looked ≡ sizes → between ≡ signs → at ≡ place → begin ≡ first
+pub kept_looked : {w : Word} {lists : SkeletonLists} {place first : ℕ}
+    → IsStoredSmall w lists place first
+    → (looked : List ℕ) (between : List Sign) (at begin : ℕ) → looked ≡ lists.sizes → between ≡ lists.signs → at ≡ place → begin ≡ first
     → Looked looked between at begin
-kept_looked {w = w} {ends = ends} {sizes = sizes} {signs = signs} {closed = closed} s looked between at begin e f g h = record {
+kept_looked {w = w} {lists = lists} s looked between at begin e f g h = record {
   at = g ∙ (s.valley).place_is ∙ ap valley_place (sym f);
-  within = omega (arith, g, (s.valley).place_is, place_within signs, ap length f);
+  within = omega (arith, g, (s.valley).place_is, place_within lists.signs, ap length f);
   begins = h ∙ (s.valley).first_is ∙ (λ i. sum (take (valley_place (sym f i)) (sym e i)));
-  few = omega (arith, h, (s.valley).first_is, sum-take_le sizes (valley_place signs), c.total, c.all, ((s.stored).kept).few);
-  inside = omega (arith, g, (s.valley).place_is, place_within signs, ap length e, c.many);
+  few = omega (arith, h, (s.valley).first_is, sum-take_le lists.sizes (valley_place lists.signs), c.total, c.all, ((s.stored).kept).few);
+  inside = omega (arith, g, (s.valley).place_is, place_within lists.signs, ap length e, c.many);
 }
   where
-    c : Counted w ends sizes signs closed
+    c : Counted w lists.ends lists.sizes lists.signs lists.closed
     c = counted_in s.stored
 
 -- where it is found among the lists that are read, it stands
@@ -41,16 +41,16 @@ pub stands_read : {sizes : List ℕ} {signs : List Sign} {read : List ℕ} {betw
 stands_read e f g h = record { place_is = g ∙ ap valley_place f; first_is = h ∙ (λ i. sum (take (valley_place (f i)) (e i))) }
 
 -- the leftmost valley of the outline stands at the place that is kept
-pub place_kept : {w now : Word} {ends sizes : List ℕ} {signs : List Sign} {closed : List ℕ} {turns : List MoveRecord} {played : List Sign} {place first : ℕ}
-    → IsStoredSmall w ends sizes signs closed turns played place first → w ≡ now → place ≡ valley_place (outline_of now).signs
+pub place_kept : {w now : Word} {lists : SkeletonLists} {place first : ℕ}
+    → IsStoredSmall w lists place first → w ≡ now → place ≡ valley_place (outline_of now).signs
 place_kept s e = (s.valley).place_is ∙ ap valley_place ((s.stored).shows).signs_are ∙ ap (λ (v : Word). valley_place (outline_of v).signs) e
 
 -- so it stands in the word, and ends with as many squares as are read of it
-pub valley_kept : {w now : Word} {ends sizes : List ℕ} {signs : List Sign} {closed : List ℕ} {turns : List MoveRecord} {played : List Sign} {place first : ℕ}
-    → IsStoredSmall w ends sizes signs closed turns played place first → w ≡ now
-    → {read : List ℕ} {at begin size : ℕ} → read ≡ sizes → at ≡ place → begin ≡ first → size ≡ slice_index read at
+pub valley_kept : {w now : Word} {lists : SkeletonLists} {place first : ℕ}
+    → IsStoredSmall w lists place first → w ≡ now
+    → {read : List ℕ} {at begin size : ℕ} → read ≡ lists.sizes → at ≡ place → begin ≡ first → size ≡ slice_index read at
     → IsValleyPlace now (record { place = at; start = begin; end = begin + size })
-valley_kept {w = w} {now = now} {sizes = sizes} {signs = signs} s same {at = at} {begin = begin} {size = size} e f g h = record {
+valley_kept {w = w} {now = now} {lists = lists} s same {at = at} {begin = begin} {size = size} e f g h = record {
   stands = record {
     place_is = f ∙ place_kept s same;
     first_is = g ∙ (s.valley).first_is ∙ (λ i. sum (take (valley_place (signs_are i)) (sizes_are i)));
@@ -58,8 +58,8 @@ valley_kept {w = w} {now = now} {sizes = sizes} {signs = signs} s same {at = at}
   end_is = ap (λ n. begin + n) (h ∙ ap (λ (l : List ℕ). slice_index l at) (e ∙ sizes_are));
 }
   where
-    sizes_are : sizes ≡ sizes_of (outline_of now)
+    sizes_are : lists.sizes ≡ sizes_of (outline_of now)
     sizes_are = ((s.stored).shows).sizes_are ∙ ap (λ (v : Word). sizes_of (outline_of v)) same
 
-    signs_are : signs ≡ (outline_of now).signs
+    signs_are : lists.signs ≡ (outline_of now).signs
     signs_are = ((s.stored).shows).signs_are ∙ ap (λ (v : Word). (outline_of v).signs) same

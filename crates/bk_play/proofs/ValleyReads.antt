@@ -7,22 +7,21 @@ use Rattle.bk_word.specs.Play.{outline_of}
 use Rattle.bk_word.specs.Word.{Word}
 use Rattle.bk_word.specs.declared.Sign.{Sign}
 use Rattle.bk_play.proofs.SkelReads.{counted_in, reads_segment, segment_read}
-use Rattle.bk_play.specs.Skeleton.{IsStoredSkeleton}
+use Rattle.bk_play.specs.Skeleton.{IsStoredSkeleton, SkeletonLists}
 use Rattle.bk_play.specs.Valley.{leftmost_valley}
-use Rattle.bk_play.specs.declared.turns.MoveRecord.{MoveRecord}
 
 -- what is looked for a valley: a size more than signs, and few squares in all
-pub valley_sizes : {w : Word} {ends sizes : List ℕ} {signs : List Sign} {closed : List ℕ} {turns : List MoveRecord} {played : List Sign}
-    → IsStoredSkeleton w ends sizes signs closed turns played
-    → (looked : List ℕ) (between : List Sign) → looked ≡ sizes → between ≡ signs
+pub valley_sizes : {w : Word} {lists : SkeletonLists}
+    → IsStoredSkeleton w lists
+    → (looked : List ℕ) (between : List Sign) → looked ≡ lists.sizes → between ≡ lists.signs
     → (length looked ≡ length between + 1) × (sum looked ≤ 200)
 valley_sizes s looked between e f =
     let k = counted_in s in (omega (arith, ap length e, ap length f, k.many), omega (arith, ap sum e, k.total, k.all, (s.kept).few))
 
 -- the valley is one of the segments
-pub valley_within : {w : Word} {ends sizes : List ℕ} {signs : List Sign} {closed : List ℕ} {turns : List MoveRecord} {played : List Sign}
-    → IsStoredSkeleton w ends sizes signs closed turns played
-    → (looked : List ℕ) (between : List Sign) (place : ℕ) → looked ≡ sizes → between ≡ signs → place ≤ length between
+pub valley_within : {w : Word} {lists : SkeletonLists}
+    → IsStoredSkeleton w lists
+    → (looked : List ℕ) (between : List Sign) (place : ℕ) → looked ≡ lists.sizes → between ≡ lists.signs → place ≤ length between
     → place < length looked
 valley_within s looked between place e f low = omega (arith, low, ap length e, ap length f, (counted_in s).many)
 
@@ -32,34 +31,35 @@ pub record AreOfValley (w : Word) (squares : List ℕ) (first end : ℕ) : Type 
   pub are : take (end - first) (drop first squares) ≡ valley_of (outline_of w)
 
 -- so are those from where the valley is found to begin, as many as its size says
-pub valley_cut : {w : Word} {ends sizes : List ℕ} {signs : List Sign} {closed : List ℕ} {turns : List MoveRecord} {played : List Sign}
-    → IsStoredSkeleton w ends sizes signs closed turns played
-    → (looked again squares : List ℕ) (between : List Sign) (place first size : ℕ) → looked ≡ sizes → again ≡ sizes → squares ≡ ends
-    → between ≡ signs → place ≡ valley_place between → place ≤ length between → first ≡ sum (take (valley_place between) looked)
+pub valley_cut : {w : Word} {lists : SkeletonLists}
+    → IsStoredSkeleton w lists
+    → (looked again squares : List ℕ) (between : List Sign) (place first size : ℕ) → looked ≡ lists.sizes → again ≡ lists.sizes → squares ≡ lists.ends
+    → between ≡ lists.signs → place ≡ valley_place between → place ≤ length between → first ≡ sum (take (valley_place between) looked)
     → size ≡ slice_index again place → AreOfValley w squares first (first + size)
-valley_cut {w = w} {ends = ends} {sizes = sizes} {signs = signs} {closed = closed} s looked again squares between place first size e f g h at low begins is =
+valley_cut {w = w} {lists = lists} s looked again squares between place first size e f g h at low begins is =
     record {
-      within = omega (arith, flat, sum-take_le sizes (suc place), (counted_in s).total, ap length g);
-      are = (λ j. slice_range (g j) (start j) (start j + many j)) ∙ segment_read (outline_of w) ends sizes signs closed place s.shows within
+      within = omega (arith, flat, sum-take_le lists.sizes (suc place), (counted_in s).total, ap length g);
+      are = (λ j. slice_range (g j) (start j) (start j + many j))
+          ∙ segment_read (outline_of w) lists.ends lists.sizes lists.signs lists.closed place s.shows within
           ∙ ap (λ n. slice_index_or (outline_of w).segments n []) (at ∙ ap valley_place (h ∙ (s.shows).signs_are));
     }
   where
-    within : place < length sizes
+    within : place < length lists.sizes
     within = omega (arith, low, ap length h, (counted_in s).many)
 
-    flat : first + size ≡ sum (take (suc place) sizes)
-    flat = reads_segment looked again sizes between place first size e f at begins is within
+    flat : first + size ≡ sum (take (suc place) lists.sizes)
+    flat = reads_segment looked again lists.sizes between place first size e f at begins is within
 
-    start : first ≡ sum (take place sizes)
+    start : first ≡ sum (take place lists.sizes)
     start = begins ∙ (λ j. sum (take (sym at j) (e j)))
 
-    many : size ≡ slice_index sizes place
+    many : size ≡ slice_index lists.sizes place
     many = is ∙ ap (λ (l : List ℕ). slice_index l place) f
 
 -- the leftmost valley, as it is read
-pub valley_read : {w : Word} {ends sizes : List ℕ} {signs : List Sign} {closed : List ℕ} {turns : List MoveRecord} {played : List Sign}
-    → IsStoredSkeleton w ends sizes signs closed turns played
-    → (place many : ℕ) (squares : List ℕ) → place ≡ valley_place signs → many ≡ length signs → squares ≡ valley_of (outline_of w)
+pub valley_read : {w : Word} {lists : SkeletonLists}
+    → IsStoredSkeleton w lists
+    → (place many : ℕ) (squares : List ℕ) → place ≡ valley_place lists.signs → many ≡ length lists.signs → squares ≡ valley_of (outline_of w)
     → (record { place = place; left_wall = nat_eq place 0; right_wall = nat_eq place many; squares = squares }) ≡ leftmost_valley (outline_of w)
 valley_read {w = w} s place many squares at all own =
     λ i. record { place = is i; left_wall = nat_eq (is i) 0; right_wall = nat_eq (is i) (count i); squares = own i }

@@ -98,11 +98,20 @@ pub record Shows (o : Outline) (ends sizes : List ℕ) (signs : List Sign) (clos
   pub signs_are : signs ≡ o.signs
   pub closed_are : closed ≡ concat o.closed
 
+-- the lists of a skeleton: the numbers of the open squares from left to right, how many each segment has, the signs
+-- between the segments, the numbers of the closed squares, node by node, the records of the moves, and the signs of all
+-- moves
+pub record SkeletonLists : Type 0 where
+  pub ends : List ℕ
+  pub sizes : List ℕ
+  pub signs : List Sign
+  pub closed : List ℕ
+  pub turns : List MoveRecord
+  pub played : List Sign
+
 -- all that is stored of moves
-pub record IsStoredSkeleton (moves : Word) (ends sizes : List ℕ) (signs : List Sign) (closed : List ℕ)
-    (turns : List MoveRecord)
-    (played : List Sign) : Type 0 where
+pub record IsStoredSkeleton (moves : Word) (lists : SkeletonLists) : Type 0 where
   pub kept : IsKeptSkeleton moves
-  pub shows : Shows (outline_of moves) ends sizes signs closed
-  pub turns_are : turns ≡ turns_from start 0 moves
-  pub played_are : played ≡ signs_of moves
+  pub shows : Shows (outline_of moves) lists.ends lists.sizes lists.signs lists.closed
+  pub turns_are : lists.turns ≡ turns_from start 0 moves
+  pub played_are : lists.played ≡ signs_of moves

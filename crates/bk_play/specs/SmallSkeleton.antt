@@ -8,11 +8,10 @@ use Rattle.bk_word.specs.Outline.{sizes_of, valley_place}
 use Rattle.bk_word.specs.Play.{outline_of}
 use Rattle.bk_word.specs.Word.{Word, order_of}
 use Rattle.bk_word.specs.declared.Sign.{Sign}
-use Rattle.bk_play.specs.Skeleton.{IsStoredSkeleton, signs_of}
+use Rattle.bk_play.specs.Skeleton.{IsStoredSkeleton, SkeletonLists, signs_of}
 use Rattle.bk_play.specs.Valley.{IsKeptSkeleton}
 use Rattle.bk_play.specs.declared.small.SmallOutline.{SmallOutline}
 use Rattle.bk_play.specs.declared.small.ValleyPlace.{ValleyPlace}
-use Rattle.bk_play.specs.declared.turns.MoveRecord.{MoveRecord}
 
 -- where the leftmost valley stands among open segments of these sizes, with these signs between them: how many segments
 -- stand at its left, and how many squares these have
@@ -26,11 +25,9 @@ pub record IsValleyPlace (w : Word) (v : ValleyPlace) : Type 0 where
   pub end_is : v.end ≡ v.start + slice_index_or (sizes_of (outline_of w)) v.place 0
 
 -- all that is stored of moves that hang few squares
-pub record IsStoredSmall (moves : Word) (ends sizes : List ℕ) (signs : List Sign) (closed : List ℕ)
-    (turns : List MoveRecord)
-    (played : List Sign) (place first : ℕ) : Type 0 where
-  pub stored : IsStoredSkeleton moves ends sizes signs closed turns played
-  pub valley : StandsAt sizes signs place first
+pub record IsStoredSmall (moves : Word) (lists : SkeletonLists) (place first : ℕ) : Type 0 where
+  pub stored : IsStoredSkeleton moves lists
+  pub valley : StandsAt lists.sizes lists.signs place first
   pub few : order_of moves ≤ 16
 
 -- what is kept of moves to take the next one back: their open segments, where the leftmost valley stands, and how many

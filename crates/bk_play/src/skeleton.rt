@@ -73,9 +73,15 @@ impl Model for Skel {
 
     ghost view = { λ s. moves_stored s.turns.items s.played.items };
 
-    ghost invariant = { λ s. IsStoredSkeleton
-        (moves_stored s.turns.items s.played.items) s.ends.items s.sizes.items s.signs.items
-        s.closed.items s.turns.items s.played.items };
+    ghost invariant = { λ s. IsStoredSkeleton (moves_stored s.turns.items s.played.items)
+        (record {
+          ends = s.ends.items;
+          sizes = s.sizes.items;
+          signs = s.signs.items;
+          closed = s.closed.items;
+          turns = s.turns.items;
+          played = s.played.items;
+        }) };
 }
 
 impl Skel {

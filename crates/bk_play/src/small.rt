@@ -99,9 +99,16 @@ impl Model for SmallSkel {
 
     ghost view = { λ s. moves_stored s.turns.items s.played.items };
 
-    ghost invariant = { λ s. IsStoredSmall
-        (moves_stored s.turns.items s.played.items) s.open.ends.items s.open.sizes.items
-        s.open.signs.items s.closed.items s.turns.items s.played.items s.open.place s.open.first };
+    ghost invariant = { λ s. IsStoredSmall (moves_stored s.turns.items s.played.items)
+        (record {
+          ends = s.open.ends.items;
+          sizes = s.open.sizes.items;
+          signs = s.open.signs.items;
+          closed = s.closed.items;
+          turns = s.turns.items;
+          played = s.played.items;
+        })
+        s.open.place s.open.first };
 }
 
 impl SmallSkel {

@@ -5,7 +5,7 @@ use Rattle.std.proofs.lemmas.List.{append_assoc, append-nil, length-append}
 use Rattle.memchr.specs.Find.{IsFirstByte, is_byte}
 use Rattle.bk_laws.proofs.Truth.{false-of_not_true}
 use Rattle.bk_ports.specs.Lines.{closed_lines, open_line}
-use Rattle.bk_ports.specs.Entering.{AreAllEntered, Entering, IsEntryStopped}
+use Rattle.bk_ports.specs.Entering.{AreAllEntered, Entering, IsEntryStopped, entering_from}
 use Rattle.bk_ports.specs.declared.line.Stop.{Stop}
 use Rattle.bk_ports.proofs.Cuts.{IsFirstFeed, HasNoFeed, closed-none, open-none, closed-first, open-first}
 use Rattle.bk_ports.proofs.Joining.{entered_more}
@@ -31,7 +31,7 @@ pub record IsReadTo {State : Type 0} (rules : Entering State) (start : State) (f
   pub lines : closed_lines begun block ≡ done ++ closed_lines kept rest
   pub open_is : open_line begun block ≡ open_line kept rest
   pub count : number ≡ from + length done
-  pub entered : AreAllEntered rules start from done before now refused state
+  pub entered : AreAllEntered (entering_from rules start from) state done refused before now
 
 module _ {State : Type 0} (rules : Entering State) (start : State) (from : ℕ) (begun block : List ℕ) where
   -- the lines at the next line feed
@@ -44,7 +44,7 @@ module _ {State : Type 0} (rules : Entering State) (start : State) (from : ℕ) 
   -- the line up to the next line feed is entered
   pub read_more : (s l : State) (kept rest now_kept now_rest : List ℕ) (k m n : ℕ) (a b c : Option (List ℕ)) (p q : Bool)
       → IsReadTo rules start from begun block kept rest m a b p s → IsFirstFeed rest k → now_kept ≡ [] → now_rest ≡ drop (k + 1) rest → n ≡ m + 1
-      → AreAllEntered rules s m ((kept ++ take k rest) ∷ []) b c q l → IsReadTo rules start from begun block now_kept now_rest n a c (p || q) l
+      → AreAllEntered (entering_from rules s m) l ((kept ++ take k rest) ∷ []) q b c → IsReadTo rules start from begun block now_kept now_rest n a c (p || q) l
   read_more s l kept rest now_kept now_rest k m n a b c p q state first none later next here =
       subst (λ (x : List ℕ). IsReadTo rules start from begun block x now_rest n a c (p || q) l) (sym none)
       (subst (λ (x : List ℕ). IsReadTo rules start from begun block [] x n a c (p || q) l) (sym later)
@@ -55,7 +55,7 @@ module _ {State : Type 0} (rules : Entering State) (start : State) (from : ℕ) 
         count = omega (arith, next, state.count, length-append state.done ((kept ++ take k rest) ∷ []));
         entered =
             entered_more rules start s l from state.done ((kept ++ take k rest) ∷ []) a b c p q state.entered
-            (subst (λ (i : ℕ). AreAllEntered rules s i ((kept ++ take k rest) ∷ []) b c q l) state.count here);
+            (subst (λ (i : ℕ). AreAllEntered (entering_from rules s i) l ((kept ++ take k rest) ∷ []) q b c) state.count here);
       }))
 
   -- all lines are done where no line feed is left
@@ -66,9 +66,10 @@ module _ {State : Type 0} (rules : Entering State) (start : State) (from : ℕ) 
 
   -- where no line feed is left, all lines of the block are entered
   pub read_all : (s : State) (kept rest : List ℕ) (n : ℕ) (a b : Option (List ℕ)) (p : Bool) → IsReadTo rules start from begun block kept rest n a b p s
-      → HasNoFeed rest → AreAllEntered rules start from (closed_lines begun block) a b p s
+      → HasNoFeed rest → AreAllEntered (entering_from rules start from) s (closed_lines begun block) p a b
   read_all s kept rest n a b p state none =
-      subst (λ (l : List (List ℕ)). AreAllEntered rules start from l a b p s) (sym (all_done kept rest state.done state.lines none)) state.entered
+      subst (λ (l : List (List ℕ)). AreAllEntered (entering_from rules start from) s l p a b)
+      (sym (all_done kept rest state.done state.lines none)) state.entered
 
   -- they are counted
   pub count_all : (s : State) (kept rest : List ℕ) (n : ℕ) (a b : Option (List ℕ)) (p : Bool) → IsReadTo rules start from begun block kept rest n a b p s
@@ -83,10 +84,11 @@ module _ {State : Type 0} (rules : Entering State) (start : State) (from : ℕ) 
 
   -- where the line up to the next line feed stops the run, so does the block
   pub read_stopped : (s : State) (kept rest : List ℕ) (k n : ℕ) (a b c : Option (List ℕ)) (p : Bool) (stop : Stop)
-      → IsReadTo rules start from begun block kept rest n a b p s → IsFirstFeed rest k → IsEntryStopped rules s n ((kept ++ take k rest) ∷ []) b c stop
-      → IsEntryStopped rules start from (closed_lines begun block) a c stop
+      → IsReadTo rules start from begun block kept rest n a b p s → IsFirstFeed rest k
+      → IsEntryStopped (entering_from rules s n) stop ((kept ++ take k rest) ∷ []) b c
+      → IsEntryStopped (entering_from rules start from) stop (closed_lines begun block) a c
   read_stopped s kept rest k n a b c p stop state first here =
-      subst (λ (l : List (List ℕ)). IsEntryStopped rules start from l a c stop) (sym (next_lines kept rest k state.done state.lines first))
+      subst (λ (l : List (List ℕ)). IsEntryStopped (entering_from rules start from) stop l a c) (sym (next_lines kept rest k state.done state.lines first))
       (stopped_front rules stop start from (state.done ++ (kept ++ take k rest) ∷ []) (closed_lines [] (drop (k + 1) rest)) a c
       (stopped_after rules stop start s from state.done ((kept ++ take k rest) ∷ []) a b c p state.entered
-      (subst (λ (i : ℕ). IsEntryStopped rules s i ((kept ++ take k rest) ∷ []) b c stop) state.count here)))
+      (subst (λ (i : ℕ). IsEntryStopped (entering_from rules s i) stop ((kept ++ take k rest) ∷ []) b c) state.count here)))

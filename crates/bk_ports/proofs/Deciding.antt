@@ -8,7 +8,7 @@ use Rattle.bk_laws.proofs.Membership.{contains-first, contains-first_or_later, c
 use Rattle.bk_laws.proofs.Truth.{or-right_of_false}
 use Rattle.bk_ports.specs.Answered.{AreAnswered, Replies, answers_of}
 use Rattle.bk_ports.specs.Deciding.{HasRefused, HasWanting}
-use Rattle.bk_ports.specs.Ending.{EndsWith, IsCutShort, Streams}
+use Rattle.bk_ports.specs.Ending.{EndsWith, IsStoppedAt, Streams}
 use Rattle.bk_ports.specs.Lines.{lines_of}
 use Rattle.bk_ports.specs.Reply.{AreReplies, Reply, some_refused}
 use Rattle.bk_ports.specs.declared.Ended.TheVariants.{NoneRefused, SomeRefused}
@@ -58,24 +58,24 @@ module _ (replies : Replies) where
 
 module _ (replies : Replies) (streams : Streams) (input : List ℕ) (tells : streams.left ≡ Some input) where
   -- memory was wanting at a line of the input
-  pub wanting_line : IsCutShort (answers_of replies) streams → HasWanting replies (lines_of input)
+  pub wanting_line : IsStoppedAt (answers_of replies).short streams → HasWanting replies (lines_of input)
   wanting_line h =
-      let s = h.short in
+      let s = h.written in
       let front = read_front input streams.left streams.left_after tells h.input h.lines h.taken h.read in
       let here : Contains h.lines s.line =
       subst (λ (l : List (List ℕ)). Contains l s.line) (sym s.split)
       (Contains-append_right s.done (s.line ∷ s.unseen) s.line (contains-first s.line s.unseen)) in (
         s.line,
         subst (λ (l : List (List ℕ)). Contains l s.line) (sym front.1) (Contains-append_left h.lines front.0 s.line here),
-        s.cause,
+        s.cause.1,
       )
 
   -- all lines of the input are answered
   all_answered : (p : Bool) (taken : List ℕ) → Consumes streams.left streams.left_after taken → IsAtEnd streams.left_after
-      → AreAnswered replies.answers (lines_of taken) streams.written streams.written_after p
-      → AreAnswered replies.answers (lines_of input) streams.written streams.written_after p
+      → AreAnswered (AreReplies replies.answers) (lines_of taken) p streams.written streams.written_after
+      → AreAnswered (AreReplies replies.answers) (lines_of input) p streams.written streams.written_after
   all_answered p taken h at_end answered =
-      subst (λ (l : List ℕ). AreAnswered replies.answers (lines_of l) streams.written streams.written_after p)
+      subst (λ (l : List ℕ). AreAnswered (AreReplies replies.answers) (lines_of l) p streams.written streams.written_after)
       (sym (taken_all input streams.left streams.left_after tells taken h at_end)) answered
 
   -- some of them are refused or none, as the ending says

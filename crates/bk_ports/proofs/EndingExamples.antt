@@ -5,7 +5,7 @@ use Rattle.bk_ports.specs.Answered.{Replies, answers_of}
 use Rattle.bk_ports.specs.ReadSize.{asked_count}
 use Rattle.bk_ports.specs.Deciding.{HasRefused}
 use Rattle.bk_ports.specs.Ending.{AreRead, EndsWith, Streams}
-use Rattle.bk_ports.specs.Entering.{AreEntered, Entering}
+use Rattle.bk_ports.specs.Entering.{AreEntered, Entering, entering_from}
 use Rattle.bk_ports.specs.Faults.{CountsTell}
 use Rattle.bk_ports.specs.declared.Ended.TheVariants.{ReadFailed, SomeRefused, WriteFailed}
 use Rattle.bk_ports.specs.Reply.{Reply}
@@ -74,7 +74,7 @@ summed = record {
 abbrev nothing : Reply
 nothing = record { pieces = []; refused = false }
 
-summed_twice : AreEntered summed 10 1 (codes "a" ∷ [] ∷ []) (nothing ∷ nothing ∷ []) 13
+summed_twice : AreEntered (entering_from summed 10 1) (codes "a" ∷ [] ∷ []) (nothing ∷ nothing ∷ []) 13
 summed_twice = (11, (refl, refl, refl), (13, (refl, refl, refl), refl))
 
 -- what the first read asks for, one where 10 bytes are left, and one more

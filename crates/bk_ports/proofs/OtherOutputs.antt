@@ -1,6 +1,6 @@
 -- Where what one run writes is what another writes, the endings of the one are those of the other.
 use Rattle.std.proofs.Common.{Bool, List, Option, false, inl, inr, true, ℕ}
-use Rattle.bk_ports.specs.Ending.{EndsWith, IsBrokenBehind, IsWholeOutput, Output, Streams}
+use Rattle.bk_ports.specs.Ending.{EndsWith, IsReadWhole, IsStoppedAt, OfWritten, Output, Streams}
 use Rattle.bk_ports.specs.declared.Ended.{Ended}
 use Rattle.bk_ports.specs.declared.Ended.TheVariants.{NoMemory, NoneRefused, ReadFailed, SomeRefused, TooMany, WriteFailed}
 
@@ -22,6 +22,29 @@ IsStop NoneRefused = ⊥
 IsStop SomeRefused = ⊥
 IsStop _ = Unit {0}
 
+-- what stands written of all lines is also something else that is said of them
+whole_as : (One Other : List (List ℕ) → OfWritten) (streams : Streams)
+    → ((lines : List (List ℕ)) (a b : Option (List ℕ)) → One lines a b → Other lines a b) → IsReadWhole One streams → IsReadWhole Other streams
+whole_as One Other streams more h = record {
+  input = h.input;
+  taken = h.taken;
+  at_end = h.at_end;
+  within = h.within;
+  written = more _ streams.written streams.written_after h.written;
+}
+
+-- what stands written of the lines that were read is also something else that is said of them
+stopped_as : (One Other : List (List ℕ) → OfWritten) (streams : Streams)
+    → ((lines : List (List ℕ)) (a b : Option (List ℕ)) → One lines a b → Other lines a b) → IsStoppedAt One streams → IsStoppedAt Other streams
+stopped_as One Other streams more h = record {
+  input = h.input;
+  taken = h.taken;
+  within = h.within;
+  lines = h.lines;
+  read = h.read;
+  written = more h.lines streams.written streams.written_after h.written;
+}
+
 module _ (one other : Output) where
   -- a run that stops ends alike
   pub stops_as : StopsAs one other → (streams : Streams) (ended : Ended) → IsStop ended → EndsWith one streams ended → EndsWith other streams ended
@@ -34,29 +57,9 @@ module _ (one other : Output) where
     refused = h.refused;
     written = at_stops.lines _ h.refused streams.written streams.written_after h.written;
   }
-  stops_as at_stops streams WriteFailed stop (inl h) = inl (record {
-    input = h.input;
-    taken = h.taken;
-    within = h.within;
-    lines = h.lines;
-    read = h.read;
-    begun = at_stops.begun h.lines streams.written streams.written_after h.begun;
-  })
-  stops_as at_stops streams WriteFailed stop (inr h) = inr (record {
-    input = h.input;
-    taken = h.taken;
-    at_end = h.at_end;
-    within = h.within;
-    begun = at_stops.begun_behind _ streams.written streams.written_after h.begun;
-  })
-  stops_as at_stops streams NoMemory stop h = record {
-    input = h.input;
-    taken = h.taken;
-    within = h.within;
-    lines = h.lines;
-    read = h.read;
-    short = at_stops.short h.lines streams.written streams.written_after h.short;
-  }
+  stops_as at_stops streams WriteFailed stop (inl h) = inl (stopped_as one.begun other.begun streams at_stops.begun h)
+  stops_as at_stops streams WriteFailed stop (inr h) = inr (whole_as one.begun_behind other.begun_behind streams at_stops.begun_behind h)
+  stops_as at_stops streams NoMemory stop h = stopped_as one.short other.short streams at_stops.short h
   stops_as at_stops streams TooMany stop h = record {
     first = h.first;
     more = h.more;
@@ -69,35 +72,19 @@ module _ (one other : Output) where
 
   -- any run ends alike by the outputs of one and of another
   pub ends_as : EndsAs one other → (streams : Streams) (ended : Ended) → EndsWith one streams ended → EndsWith other streams ended
-  ends_as alike streams NoneRefused h = record {
-    input = h.input;
-    taken = h.taken;
-    at_end = h.at_end;
-    within = h.within;
-    written = alike.whole _ false streams.written streams.written_after h.written;
-  }
-  ends_as alike streams SomeRefused h = record {
-    input = h.input;
-    taken = h.taken;
-    at_end = h.at_end;
-    within = h.within;
-    written = alike.whole _ true streams.written streams.written_after h.written;
-  }
+  ends_as alike streams NoneRefused h =
+      whole_as (λ lines. one.whole lines false) (λ lines. other.whole lines false) streams (λ lines. alike.whole lines false) h
+  ends_as alike streams SomeRefused h =
+      whole_as (λ lines. one.whole lines true) (λ lines. other.whole lines true) streams (λ lines. alike.whole lines true) h
   ends_as alike streams ReadFailed h = stops_as alike.stops streams ReadFailed tt h
   ends_as alike streams WriteFailed h = stops_as alike.stops streams WriteFailed tt h
   ends_as alike streams NoMemory h = stops_as alike.stops streams NoMemory tt h
   ends_as alike streams TooMany h = stops_as alike.stops streams TooMany tt h
 
--- what is written behind all lines
-module _ (one other : Output) (left left_after a b c : Option (List ℕ)) (p : Bool)
-    (all : IsWholeOutput one (record { left = left; left_after = left_after; written = a; written_after = b }) p) where
-  -- it makes the output whole
-  pub whole_behind : (q : Bool) → ((lines : List (List ℕ)) → one.whole lines p a b → other.whole lines q a c)
-      → IsWholeOutput other (record { left = left; left_after = left_after; written = a; written_after = c }) q
-  whole_behind q more =
-      record { input = all.input; taken = all.taken; at_end = all.at_end; within = all.within; written = more _ all.written }
-
-  -- or a write of it failed
-  pub broken_behind : ((lines : List (List ℕ)) → one.whole lines p a b → other.begun_behind lines a c)
-      → IsBrokenBehind other (record { left = left; left_after = left_after; written = a; written_after = c })
-  broken_behind more = record { input = all.input; taken = all.taken; at_end = all.at_end; within = all.within; begun = more _ all.written }
+-- what stands written of all lines, with what is written behind them, is something else that is said of all lines
+pub whole_behind : (One Other : List (List ℕ) → OfWritten) (left left_after a b c : Option (List ℕ))
+    → IsReadWhole One (record { left = left; left_after = left_after; written = a; written_after = b })
+    → ((lines : List (List ℕ)) → One lines a b → Other lines a c)
+    → IsReadWhole Other (record { left = left; left_after = left_after; written = a; written_after = c })
+whole_behind One Other left left_after a b c all more =
+    record { input = all.input; taken = all.taken; at_end = all.at_end; within = all.within; written = more _ all.written }

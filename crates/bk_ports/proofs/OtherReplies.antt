@@ -19,12 +19,13 @@ module _ (replies others : Replies) (within : AreWithin replies others) where
   others_reply (x ∷ xs) [] are = absurd are
   others_reply (x ∷ xs) (r ∷ rs) are = (within.reply x r.pieces r.refused are.0, others_reply xs rs are.1)
 
-  answered : (lines : List (List ℕ)) (a b : Option (List ℕ)) (p : Bool) → AreAnswered replies.answers lines a b p
-      → AreAnswered others.answers lines a b p
+  answered : (lines : List (List ℕ)) (a b : Option (List ℕ)) (p : Bool) → AreAnswered (AreReplies replies.answers) lines p a b
+      → AreAnswered (AreReplies others.answers) lines p a b
   answered lines a b p h =
       record { replies = h.replies; each = others_reply lines h.replies h.each; written = h.written; any = h.any }
 
-  begun : (lines : List (List ℕ)) (a b : Option (List ℕ)) → AreBegun replies.answers lines a b → AreBegun others.answers lines a b
+  begun : (lines : List (List ℕ)) (a b : Option (List ℕ)) → AreBegun (AreReplies replies.answers) lines a b
+      → AreBegun (AreReplies others.answers) lines a b
   begun lines a b h = record {
     begun = h.begun;
     unseen = h.unseen;
@@ -34,16 +35,16 @@ module _ (replies others : Replies) (within : AreWithin replies others) where
     written = h.written;
   }
 
-  short : (lines : List (List ℕ)) (a b : Option (List ℕ)) → AreCutShort replies.answers replies.may_want lines a b
-      → AreCutShort others.answers others.may_want lines a b
+  short : (lines : List (List ℕ)) (a b : Option (List ℕ))
+      → AreCutShort (λ done given line. AreReplies replies.answers done given × replies.may_want line) lines a b
+      → AreCutShort (λ done given line. AreReplies others.answers done given × others.may_want line) lines a b
   short lines a b h = record {
     done = h.done;
     line = h.line;
     unseen = h.unseen;
     split = h.split;
-    cause = within.wants h.line h.cause;
     replies = h.replies;
-    each = others_reply h.done h.replies h.each;
+    cause = (others_reply h.done h.replies h.cause.0, within.wants h.line h.cause.1);
     written = h.written;
   }
 

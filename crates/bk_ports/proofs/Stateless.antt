@@ -7,7 +7,7 @@ use Rattle.bk_ports.specs.Lines.{kept_front}
 use Rattle.bk_ports.specs.WrittenAnswer.{IsAnswerBegun}
 use Rattle.bk_ports.specs.Answered.{AreAnswered, AreBegun, AreCutShort, Replies, answers_of}
 use Rattle.bk_ports.specs.Ending.{EndsWith, Streams}
-use Rattle.bk_ports.specs.Entering.{AreAllEntered, AreEntered, Entering, IsEntryBegun, IsEntryWanting, entries_of}
+use Rattle.bk_ports.specs.Entering.{AreAllEntered, AreEntered, CanBeEntered, Entering, MayWantBehind, entering_from, entries_of}
 use Rattle.bk_ports.specs.declared.Ended.{Ended}
 use Rattle.bk_ports.proofs.OtherOutputs.{ends_as}
 
@@ -20,7 +20,8 @@ pub record AnswersAlike {State : Type 0} (rules : Entering State) (serves : Stat
   pub wants : (s : State) (n : ℕ) (line : List ℕ) → serves s → rules.may_want s n (kept_front line) → answers.may_want line
 
 module _ {State : Type 0} (rules : Entering State) (serves : State → Type 0) (answers : Replies) (alike : AnswersAlike rules serves answers) where
-  replies : (s l : State) (n : ℕ) (lines : List (List ℕ)) (rs : List Reply) → serves s → AreEntered rules s n lines rs l → AreReplies answers.answers lines rs
+  replies : (s l : State) (n : ℕ) (lines : List (List ℕ)) (rs : List Reply) → serves s → AreEntered (entering_from rules s n) lines rs l
+      → AreReplies answers.answers lines rs
   replies s l n [] [] served are = tt
   replies s l n [] (r ∷ rs) served are = absurd are
   replies s l n (x ∷ xs) [] served are = absurd are
@@ -29,45 +30,49 @@ module _ {State : Type 0} (rules : Entering State) (serves : State → Type 0) (
     replies are.0 l (n + 1) xs rs (alike.goes_on s are.0 n x r.pieces r.refused served are.1) are.2,
   )
 
-  served_last : (s l : State) (n : ℕ) (lines : List (List ℕ)) (rs : List Reply) → serves s → AreEntered rules s n lines rs l → serves l
+  served_last : (s l : State) (n : ℕ) (lines : List (List ℕ)) (rs : List Reply) → serves s → AreEntered (entering_from rules s n) lines rs l → serves l
   served_last s l n [] [] served are = subst serves (sym are) served
   served_last s l n [] (r ∷ rs) served are = absurd are
   served_last s l n (x ∷ xs) [] served are = absurd are
   served_last s l n (x ∷ xs) (r ∷ rs) served are =
       served_last are.0 l (n + 1) xs rs (alike.goes_on s are.0 n x r.pieces r.refused served are.1) are.2
 
-  all_answered : (s l : State) (n : ℕ) (lines : List (List ℕ)) (a b : Option (List ℕ)) (p : Bool) → serves s → AreAllEntered rules s n lines a b p l
-      → AreAnswered answers.answers lines a b p
+  all_answered : (s l : State) (n : ℕ) (lines : List (List ℕ)) (a b : Option (List ℕ)) (p : Bool) → serves s
+      → AreAllEntered (entering_from rules s n) l lines p a b
+      → AreAnswered (AreReplies answers.answers) lines p a b
   all_answered s l n lines a b p served h = record { replies = h.replies; each = replies s l n lines h.replies served h.each; written = h.written; any = h.any }
 
-  begun : (s : State) (n : ℕ) (lines : List (List ℕ)) (a b : Option (List ℕ)) → serves s → IsEntryBegun rules s n lines a b → AreBegun answers.answers lines a b
+  begun : (s : State) (n : ℕ) (lines : List (List ℕ)) (a b : Option (List ℕ)) → serves s → AreBegun (CanBeEntered (entering_from rules s n)) lines a b
+      → AreBegun (AreReplies answers.answers) lines a b
   begun s n lines a b served h = record {
     begun = h.begun;
     unseen = h.unseen;
     split = h.split;
     replies = h.replies;
-    each = replies s h.last n h.begun h.replies served h.each;
+    each = replies s h.each.0 n h.begun h.replies served h.each.1;
     written = h.written;
   }
 
-  short : (s : State) (n : ℕ) (lines : List (List ℕ)) (a b : Option (List ℕ)) → serves s → IsEntryWanting rules s n lines a b
-      → AreCutShort answers.answers answers.may_want lines a b
+  short : (s : State) (n : ℕ) (lines : List (List ℕ)) (a b : Option (List ℕ)) → serves s → AreCutShort (MayWantBehind (entering_from rules s n)) lines a b
+      → AreCutShort (λ done given line. AreReplies answers.answers done given × answers.may_want line) lines a b
   short s n lines a b served h = record {
     done = h.done;
     line = h.line;
     unseen = h.unseen;
     split = h.split;
-    cause = alike.wants h.last (n + length h.done) h.line (served_last s h.last n h.done h.replies served h.each) h.cause;
     replies = h.replies;
-    each = replies s h.last n h.done h.replies served h.each;
+    cause = (
+      replies s h.cause.0 n h.done h.replies served h.cause.1,
+      alike.wants h.cause.0 (n + length h.done) h.line (served_last s h.cause.0 n h.done h.replies served h.cause.1) h.cause.2,
+    );
     written = h.written;
   }
 
   -- each ending of the one is the same ending of the other
-  pub ends_alike : (s l : State) (streams : Streams) (ended : Ended) → serves s → EndsWith (entries_of rules s l) streams ended
+  pub ends_alike : (s l : State) (streams : Streams) (ended : Ended) → serves s → EndsWith (entries_of (entering_from rules s 1) l) streams ended
       → EndsWith (answers_of answers) streams ended
   ends_alike s l streams ended served =
-      ends_as (entries_of rules s l) (answers_of answers)
+      ends_as (entries_of (entering_from rules s 1) l) (answers_of answers)
       (record {
         stops = record {
           lines = λ lines p a b. all_answered s l 1 lines a b p served;

@@ -44,29 +44,18 @@ pub record Output : Type 1 where
   -- where memory was wanting at one of these lines
   pub short : List (List ℕ) → OfWritten
 
--- what a run writes that writes nothing behind its lines
-abbrev pub lines_alone : (List (List ℕ) → Bool → OfWritten) → (List (List ℕ) → OfWritten) → (List (List ℕ) → OfWritten)
-    → Output
-lines_alone lines begun short = record {
-  lines = lines;
-  whole = lines;
-  begun = begun;
-  begun_behind = λ all before after. ⊥;
-  short = short;
-}
-
 -- the lines that were read where these bytes were taken: those that a line feed ends, and at the end of the input the
 -- line that it ends, too
 abbrev pub AreRead : Option (List ℕ) → List ℕ → List (List ℕ) → Type 0
 AreRead left input lines = (lines ≡ closed_lines [] input) ⊎ (IsAtEnd left × (lines ≡ lines_of input))
 
--- the input was read to its end, and the whole output stands there
-pub record IsWholeOutput (output : Output) (streams : Streams) (refused : Bool) : Type 0 where
+-- the whole input was read, and so stands written what is said of all its lines
+pub record IsReadWhole (Stands : List (List ℕ) → OfWritten) (streams : Streams) : Type 0 where
   pub input : List ℕ
   pub taken : Consumes streams.left streams.left_after input
   pub at_end : IsAtEnd streams.left_after
   pub within : length input ≤ 2 ^ 30
-  pub written : output.whole (lines_of input) refused streams.written streams.written_after
+  pub written : Stands (lines_of input) streams.written streams.written_after
 
 -- a read failed: what is written for the lines whose line feed was taken stands there, and nothing else
 pub record IsCutOff (output : Output) (streams : Streams) : Type 0 where
@@ -87,39 +76,22 @@ pub record IsTooMany (output : Output) (streams : Streams) : Type 0 where
   pub refused : Bool
   pub written : output.lines (closed_lines [] first) refused streams.written streams.written_after
 
--- a write failed at a line that was read
-pub record IsBroken (output : Output) (streams : Streams) : Type 0 where
+-- the run stopped at a line that was read, and so stands written what is said of the lines that were read
+pub record IsStoppedAt (Stands : List (List ℕ) → OfWritten) (streams : Streams) : Type 0 where
   pub input : List ℕ
   pub taken : Consumes streams.left streams.left_after input
   pub within : length input ≤ 2 ^ 30
   pub lines : List (List ℕ)
   pub read : AreRead streams.left_after input lines
-  pub begun : output.begun lines streams.written streams.written_after
-
--- a write failed behind the lines
-pub record IsBrokenBehind (output : Output) (streams : Streams) : Type 0 where
-  pub input : List ℕ
-  pub taken : Consumes streams.left streams.left_after input
-  pub at_end : IsAtEnd streams.left_after
-  pub within : length input ≤ 2 ^ 30
-  pub begun : output.begun_behind (lines_of input) streams.written streams.written_after
-
--- memory was wanting at a line that was read
-pub record IsCutShort (output : Output) (streams : Streams) : Type 0 where
-  pub input : List ℕ
-  pub taken : Consumes streams.left streams.left_after input
-  pub within : length input ≤ 2 ^ 30
-  pub lines : List (List ℕ)
-  pub read : AreRead streams.left_after input lines
-  pub short : output.short lines streams.written streams.written_after
+  pub written : Stands lines streams.written streams.written_after
 
 -- what each ending says
 abbrev pub EndsWith : Output → Streams → Ended → Type 0
-EndsWith output streams NoneRefused = IsWholeOutput output streams false
-EndsWith output streams SomeRefused = IsWholeOutput output streams true
+EndsWith output streams NoneRefused = IsReadWhole (λ lines. output.whole lines false) streams
+EndsWith output streams SomeRefused = IsReadWhole (λ lines. output.whole lines true) streams
 EndsWith output streams ReadFailed = IsCutOff output streams
-EndsWith output streams WriteFailed = IsBroken output streams ⊎ IsBrokenBehind output streams
-EndsWith output streams NoMemory = IsCutShort output streams
+EndsWith output streams WriteFailed = IsStoppedAt output.begun streams ⊎ IsReadWhole output.begun_behind streams
+EndsWith output streams NoMemory = IsStoppedAt output.short streams
 EndsWith output streams TooMany = IsTooMany output streams
 
 -- how a run ends that read its input to the end, where some of it is refused or none

@@ -1,6 +1,7 @@
 -- Bytes cut into lines. A line ends at a line feed, which isn't part of it, or at the end of the bytes.
 -- Example (LineExamples): the bytes `ab`, two line feeds, `cde` have the lines `ab`, one without bytes, and `cde`.
-use Rattle.std.specs.Prelude.{ℕ, true, false, ◌==◌, List, [], ◌∷◌, ◌++◌, take}
+use Rattle.std.specs.Prelude.{ℕ, true, false, ◌+◌, ◌==◌, List, [], ◌∷◌, ◌++◌, take}
+use Rattle.bk_ports.specs.declared.line.TheConstants.{LONGEST_LINE}
 
 -- where a line has begun with some bytes and more bytes follow: the lines that a line feed ends
 abbrev pub closed_lines : List ℕ → List ℕ → List (List ℕ)
@@ -24,4 +25,4 @@ lines_of bytes = closed_lines [] bytes ++ line_at_end (open_line [] bytes)
 
 -- what is kept of a line. A line of more than 8,192 bytes is too long, whatever follows its first 8,193 bytes.
 abbrev pub kept_front : List ℕ → List ℕ
-kept_front line = take 8193 line
+kept_front line = take (LONGEST_LINE + 1) line

@@ -8,19 +8,13 @@ pub record Reply : Type 0 where
   pub pieces : List (List ℕ)
   pub refused : Bool
 
-abbrev pub reply_text : Reply → List ℕ
-reply_text reply = concat reply.pieces
-
-abbrev pub is_refused : Reply → Bool
-is_refused reply = reply.refused
-
 -- what is written for replies, one after another
 abbrev pub text_of : List Reply → List ℕ
-text_of replies = flat_map reply_text replies
+text_of replies = flat_map (λ (reply : Reply). concat reply.pieces) replies
 
 -- at least one line is refused
 abbrev pub some_refused : List Reply → Bool
-some_refused replies = list_any is_refused replies
+some_refused replies = list_any (λ (reply : Reply). reply.refused) replies
 
 -- each line has its reply, in the order of the lines, where `answers` says which replies a line may have
 abbrev pub AreReplies : (List ℕ → List (List ℕ) → Bool → Type 0) → List (List ℕ) → List Reply → Type 0

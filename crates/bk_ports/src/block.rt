@@ -3,7 +3,7 @@
 ghost use Rattle.std.specs.Prelude.{◌≡◌, ◌≤◌, ◌+◌, ◌^◌, length, IfOk, IfErr, OnOk};
 ghost use Rattle.bk_ports.specs.Lines.{closed_lines, open_line, kept_front};
 ghost use Rattle.bk_ports.specs.Answered.{CountFits};
-ghost use Rattle.bk_ports.specs.Entering.{AreAllEntered, IsEntryStopped};
+ghost use Rattle.bk_ports.specs.Entering.{AreAllEntered, IsEntryStopped, entering_from};
 
 use crate::line::{OpenLine, Stop, close_line, keep};
 use crate::{Register, Sink};
@@ -22,11 +22,13 @@ pub fn enter_block<R: Register, O: Sink>(
     requires early { kept.old.number + length block.now ≤ 2 ^ 31 }
     requires ready { R.is_ready register.old kept.old.number }
     ensures entered { IfOk result
-        (λ refused. AreAllEntered (record { enters = R.enters; may_want = R.may_want }) register.old
-        kept.old.number (closed_lines kept.old.front.items block.now) (O.written out.old) (O.written out.new) refused register.new) }
+        (λ refused. AreAllEntered
+        (entering_from (record { enters = R.enters; may_want = R.may_want }) register.old kept.old.number) register.new
+        (closed_lines kept.old.front.items block.now) refused (O.written out.old) (O.written out.new)) }
     ensures stopped { IfErr result
-        (λ stop. IsEntryStopped (record { enters = R.enters; may_want = R.may_want }) register.old
-        kept.old.number (closed_lines kept.old.front.items block.now) (O.written out.old) (O.written out.new) stop) }
+        (λ stop. IsEntryStopped
+        (entering_from (record { enters = R.enters; may_want = R.may_want }) register.old kept.old.number) stop
+        (closed_lines kept.old.front.items block.now) (O.written out.old) (O.written out.new)) }
     ensures count { CountFits (O.faults out.old) (O.faults out.new) result }
     ensures ready { OnOk result (R.is_ready register.new kept.new.number) }
     ensures number { OnOk result (kept.new.number

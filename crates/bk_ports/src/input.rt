@@ -7,7 +7,7 @@ ghost use Rattle.bk_ports.specs.Lines.{line_at_end};
 ghost use Rattle.bk_ports.specs.ReadSize.{asked_count};
 ghost use Rattle.bk_ports.specs.Answered.{CountFits};
 ghost use Rattle.bk_ports.specs.Ending.{EndsWith, ended_of, streams_between, verdict_of};
-ghost use Rattle.bk_ports.specs.Entering.{AreAllEntered, IsEntryStopped, entries_of};
+ghost use Rattle.bk_ports.specs.Entering.{AreAllEntered, IsEntryStopped, entering_from, entries_of};
 ghost use Rattle.bk_ports.specs.Faults.{CountsTell, IsCalm, IsDoneOrWanting, faults_between};
 
 use crate::block::enter_block;
@@ -33,7 +33,7 @@ pub fn enter_lines<R: Register, S: Source, O: Sink>(
 
     // What each ending says of the bytes and of the register.
     ensures ending { EndsWith
-        (entries_of (record { enters = R.enters; may_want = R.may_want }) register.old register.new)
+        (entries_of (entering_from (record { enters = R.enters; may_want = R.may_want }) register.old 1) register.new)
         (streams_between S.left O.written (source.old, out.old) (source.new, out.new))
         result }
 
@@ -93,7 +93,7 @@ fn read_block<S: Source>(
     taken: usize,
 ) -> Result<usize, Failed>
     requires { taken ≤ 2 ^ 30 }
-    ensures count { IfOk result (λ n. n ≤ 16384) }
+    ensures count { IfOk result (λ n. n ≤ BLOCK) }
     ensures within { IfOk result (λ n. taken < 2 ^ 30 → taken + n ≤ 2 ^ 30) }
     ensures one { IfOk result (λ n. taken ≡ 2 ^ 30 → n ≤ 1) }
     ensures bytes { ReadConsumes (S.left source.old) (S.left source.new) result block.new }
@@ -123,11 +123,13 @@ fn enter_last<R: Register, O: Sink>(
     requires early { kept.now.number ≤ 2 ^ 31 }
     requires ready { R.is_ready register.old kept.now.number }
     ensures entered { IfOk result
-        (λ refused. AreAllEntered (record { enters = R.enters; may_want = R.may_want }) register.old
-        kept.now.number (line_at_end kept.now.front.items) (O.written out.old) (O.written out.new) refused register.new) }
+        (λ refused. AreAllEntered
+        (entering_from (record { enters = R.enters; may_want = R.may_want }) register.old kept.now.number) register.new
+        (line_at_end kept.now.front.items) refused (O.written out.old) (O.written out.new)) }
     ensures stopped { IfErr result
-        (λ stop. IsEntryStopped (record { enters = R.enters; may_want = R.may_want }) register.old
-        kept.now.number (line_at_end kept.now.front.items) (O.written out.old) (O.written out.new) stop) }
+        (λ stop. IsEntryStopped
+        (entering_from (record { enters = R.enters; may_want = R.may_want }) register.old kept.now.number) stop
+        (line_at_end kept.now.front.items) (O.written out.old) (O.written out.new)) }
     ensures count { CountFits (O.faults out.old) (O.faults out.new) result }
 {
     if kept.front.is_empty() {

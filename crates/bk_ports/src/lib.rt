@@ -7,13 +7,12 @@
 ghost use Rattle.std.specs.Prelude.{ℕ, [], ◌+◌, ◌<◌, ◌^◌, ◌≤◌, Bool, List, false, length, IfOk, OnOk, OnErr, Option};
 ghost use Rattle.std.specs.Io.KnownBytes.{Appends, ReadConsumes};
 ghost use Rattle.bk_ports.specs.WrittenAnswer.{HasOutcome, IsAnswerBegun};
-ghost use Rattle.bk_ports.specs.Answered.{answers_of, of_fronts};
-ghost use Rattle.bk_ports.specs.CallLaws.{AfterAFailedCallTheOtherStreamIsLeft, EachLineIsAnsweredBeforeTheNextRead};
 ghost use Rattle.bk_ports.specs.Causes.{HasCause, AppendsPrefix};
 
 mod block;
 mod flushed;
 mod input;
+mod laws;
 mod line;
 mod memory;
 mod standard;
@@ -21,6 +20,9 @@ mod steady;
 
 use bk_grammar::AnswerBuffer;
 pub use input::enter_lines;
+pub use laws::{
+    after_a_failed_call_the_other_stream_is_left, each_line_is_answered_before_the_next_read,
+};
 pub use line::LONGEST_LINE;
 pub use memory::{FillSource, MemSink, MemSource};
 pub use standard::{StandardError, StandardOutput, StdSink, StdSource};
@@ -95,7 +97,7 @@ pub trait Answerer {
         buffer: &mut AnswerBuffer,
         out: &mut O,
     ) -> Result<Outcome, Failed>
-        requires { length line.now ≤ 8193 }
+        requires { length line.now ≤ LONGEST_LINE + 1 }
         ensures outcome { IfOk result (λ o. HasOutcome (answers self.now line.now) (may_want self.now line.now)
             (O.written out.old) (O.written out.new) o) }
         ensures failed { OnErr result
@@ -127,7 +129,7 @@ pub trait Register {
         buffer: &mut AnswerBuffer,
         out: &mut O,
     ) -> Result<Outcome, Failed>
-        requires short { length line.now ≤ 8193 }
+        requires short { length line.now ≤ LONGEST_LINE + 1 }
         requires early { number ≤ 2 ^ 31 }
         requires ready { is_ready self.old number }
         ensures outcome { IfOk result
@@ -164,16 +166,3 @@ pub enum Ended {
     /// answered.
     TooMany,
 }
-
-/// A program whose runs end as those of `answer_lines` do, whichever of its calls fail, answers each line whose line
-/// feed it took before it reads again.
-pub fn each_line_is_answered_before_the_next_read<A: Answerer>(_answerer: &A)
-    ensures { EachLineIsAnsweredBeforeTheNextRead
-        (answers_of (of_fronts (record { answers = A.answers _answerer.now; may_want = A.may_want _answerer.now }))) }
-{}
-
-/// Such a program writes nothing after a failed read, and reads nothing after a failed write.
-pub fn after_a_failed_call_the_other_stream_is_left<A: Answerer>(_answerer: &A)
-    ensures { AfterAFailedCallTheOtherStreamIsLeft
-        (answers_of (of_fronts (record { answers = A.answers _answerer.now; may_want = A.may_want _answerer.now }))) }
-{}

@@ -4,7 +4,7 @@ ghost use Rattle.std.specs.Prelude.{◌≡◌, ◌≤◌, ◌+◌, ◌^◌, ◌+
 ghost use Rattle.bk_ports.specs.Lines.{kept_front};
 ghost use Rattle.bk_ports.specs.WrittenAnswer.{IsWritten, IsStopped};
 ghost use Rattle.bk_ports.specs.Answered.{CountFits};
-ghost use Rattle.bk_ports.specs.Entering.{AreAllEntered, IsEntryStopped};
+ghost use Rattle.bk_ports.specs.Entering.{AreAllEntered, IsEntryStopped, entering_from};
 
 use crate::{Failed, Outcome, Register, Sink};
 use arrayvec::ArrayVec;
@@ -51,7 +51,7 @@ pub fn enter_line<R: Register, O: Sink>(
     buffer: &mut AnswerBuffer,
     out: &mut O,
 ) -> Result<bool, Stop>
-    requires short { length line.now ≤ 8193 }
+    requires short { length line.now ≤ LONGEST_LINE + 1 }
     requires early { number ≤ 2 ^ 31 }
     requires ready { R.is_ready register.old number }
     ensures entered { IfOk result
@@ -85,11 +85,13 @@ pub fn close_line<R: Register, O: Sink>(
     requires early { kept.old.number ≤ 2 ^ 31 }
     requires ready { R.is_ready register.old kept.old.number }
     ensures entered { IfOk result
-        (λ refused. AreAllEntered (record { enters = R.enters; may_want = R.may_want }) register.old
-        kept.old.number ((kept.old.front.items ++ end.now) ∷ []) (O.written out.old) (O.written out.new) refused register.new) }
+        (λ refused. AreAllEntered
+        (entering_from (record { enters = R.enters; may_want = R.may_want }) register.old kept.old.number) register.new
+        ((kept.old.front.items ++ end.now) ∷ []) refused (O.written out.old) (O.written out.new)) }
     ensures stopped { IfErr result
-        (λ stop. IsEntryStopped (record { enters = R.enters; may_want = R.may_want }) register.old
-        kept.old.number ((kept.old.front.items ++ end.now) ∷ []) (O.written out.old) (O.written out.new) stop) }
+        (λ stop. IsEntryStopped
+        (entering_from (record { enters = R.enters; may_want = R.may_want }) register.old kept.old.number) stop
+        ((kept.old.front.items ++ end.now) ∷ []) (O.written out.old) (O.written out.new)) }
     ensures count { CountFits (O.faults out.old) (O.faults out.new) result }
     ensures ready { OnOk result (R.is_ready register.new kept.new.number) }
     ensures next { kept.new.number ≡ kept.old.number + 1 }

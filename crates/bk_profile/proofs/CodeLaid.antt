@@ -10,7 +10,7 @@ use Rattle.bk_tiling.specs.Tiling.{IsTiling, Tiling}
 use Rattle.bk_tiling.specs.declared.Segment.{Segment}
 use Rattle.bk_tiling.specs.declared.Square.{Square}
 use Rattle.bk_code.specs.Code.{Code, flat}
-use Rattle.bk_code.specs.KeptCode.{IsKeptCode, IsSideGroup}
+use Rattle.bk_code.specs.KeptCode.{IsSideGroup}
 use Rattle.bk_profile.proofs.CodeLaying.{a_code_is_laid}
 use Rattle.bk_profile.proofs.LaidGroups.{AreGroups, IsLaid, laid_groups, laid_none, tiling_from_laid}
 use Rattle.bk_profile.proofs.LayingOnce.{Halves, gap_of_none, gap_unique, lays_length, lays_sides, lays_split, lays_unique}
@@ -66,7 +66,7 @@ positive [] good = tt
 positive (s ∷ sides) good = (good.0.0, positive sides good.1)
 
 -- groups of sides that a square may have are groups of positive sides
-pub are_groups : (code : Code) → AllByRecursion IsSideGroup code → AreGroups code
+are_groups : (code : Code) → AllByRecursion IsSideGroup code → AreGroups code
 are_groups [] good = tt
 are_groups (group ∷ code) good = ((good.0.0, positive group good.0.1), are_groups code good.1)
 
@@ -100,11 +100,3 @@ sum_bounds (s ∷ sides) good =
     let rest : (sum sides ≤ length sides * 999_999_999_999_999) × (length sides ≤ sum sides) = sum_bounds sides good.1 in
     let total : sum (s ∷ sides) ≡ s + sum sides = sum_by-cons (λ (n : ℕ). n) s sides in
     (omega (arith, good.0.1, rest.0), omega (arith, good.0.0, rest.1))
-
--- the width of a code
-pub width_bounds : (code : Code) → IsKeptCode code → 0 < length code → (0 < first_sum code) × (first_sum code ≤ 200000000000000000)
-width_bounds [] kept some = absurd (omega arith)
-width_bounds (group ∷ code) kept some =
-    let b : (sum group ≤ length group * 999_999_999_999_999) × (length group ≤ sum group) = sum_bounds group kept.groups.0.1 in
-    let few : length group ≤ 200 = omega (arith, kept.few, length-append group (flat code)) in
-    (omega (arith, b.1, kept.groups.0.0), omega (arith, b.0, few))

@@ -31,17 +31,17 @@ next_goes_on : (n s : ℕ) (sides : List ℕ) → s < n → next_group n (s ∷ 
 next_goes_on n s sides h = ap (λ (b : Bool). s ∷ cond b [] (next_group (n - s) sides)) (lt-leb n s h)
 
 -- the prefix with which the sum reaches a number
-pub reaches : (n : ℕ) (sides : List ℕ) (i : ℕ) → i < length sides → sum (take i sides) < n → n ≤ sum (take (i + 1) sides)
+pub next_group-of_sum_reached : (n : ℕ) (sides : List ℕ) (i : ℕ) → i < length sides → sum (take i sides) < n → n ≤ sum (take (i + 1) sides)
     → take (i + 1) sides ≡ next_group n sides
-reaches n [] i l short enough = absurd (omega arith)
-reaches n (s ∷ sides) zero l short enough = sym (next_ends n s sides (omega (arith, enough, sum_by-cons (λ (k : ℕ). k) s [])))
-reaches n (s ∷ sides) (suc i) l short enough =
+next_group-of_sum_reached n [] i l short enough = absurd (omega arith)
+next_group-of_sum_reached n (s ∷ sides) zero l short enough = sym (next_ends n s sides (omega (arith, enough, sum_by-cons (λ (k : ℕ). k) s [])))
+next_group-of_sum_reached n (s ∷ sides) (suc i) l short enough =
     let less : s + sum (take i sides) < n = omega (arith, short, sum_by-cons (λ (k : ℕ). k) s (take i sides)) in
     let place : suc i + 1 ≡ suc (i + 1) = omega arith in
     let more : n ≤ s + sum (take (i + 1) sides) =
     omega (arith, enough, sum_by-cons (λ (k : ℕ). k) s (take (i + 1) sides), ap (λ k. sum (take k (s ∷ sides))) place) in
     ap (λ k. take k (s ∷ sides)) place
-    ∙ ap (λ (l : List ℕ). s ∷ l) (reaches (n - s) sides i (omega arith) (omega (arith, less)) (omega (arith, more)))
+    ∙ ap (λ (l : List ℕ). s ∷ l) (next_group-of_sum_reached (n - s) sides i (omega arith) (omega (arith, less)) (omega (arith, more)))
     ∙ sym (next_goes_on n s sides (omega (arith, less)))
 
 -- all sides, where their sum reaches no further

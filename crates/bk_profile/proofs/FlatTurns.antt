@@ -18,7 +18,7 @@ use Rattle.bk_profile.proofs.Division.{falls_short, flat_refused_has_none}
 use Rattle.bk_profile.proofs.LayingOnce.{gap_of_none, gap_unique, lays_length, lays_push}
 use Rattle.bk_profile.proofs.Turns.{misfits_at}
 use Rattle.bk_profile.specs.Gap.{Divides, FitsGap, IsGap, LaysTo, done, fits, laid_with_group, misfit, next_group}
-use Rattle.bk_profile.specs.Laid.{IsLaidOut, IsLaidTiling, IsUneven, Laid, LaysGroup, MisfitsGap}
+use Rattle.bk_profile.specs.Laid.{IsLaidOut, IsLaidTiling, IsUneven, Laid, LaysNextGroup, MisfitsNextGroup}
 use Rattle.bk_profile.specs.Refused.{HasFlat, IsFlatRefused, IsOpen}
 use Rattle.bk_profile.specs.declared.laying.Refusal.{Refusal}
 use Rattle.bk_profile.specs.declared.laying.Refusal.TheVariants.{Gap, Open}
@@ -37,24 +37,17 @@ pub record Dividing (width : ℕ) (sides : List ℕ) (number : ℕ) (p : Laid) (
   pub good : AllByRecursion IsSideGroup code
   pub goes_on : (more : Code) → Divides width p.squares rest more → Divides width [] sides (code ++ more)
 
--- the next group of the sides that are left, as long as the gap takes, and what is left behind it
-pub record IsNextGroup (p : Laid) (rest group left : List ℕ) (gap : Segment) : Type 0 where
-  pub is : IsGap p.width p.squares gap
-  pub next : group ≡ next_group gap.width rest
-  pub some : 0 < length rest
-  pub split : group ++ left ≡ rest
-  pub long : 0 < length group
-
--- as many of the sides as the next group has are the next group
-pub next_group_is : (p : Laid) (rest group left : List ℕ) (gap : Segment) (n : ℕ) → IsGap p.width p.squares gap → group ≡ take n rest → left ≡ drop n rest
-    → take n rest ≡ next_group gap.width rest → 0 < n → n ≤ length rest → IsNextGroup p rest group left gap
-next_group_is p rest group left gap n is front back next some within = record {
-  is = is;
-  next = front ∙ next;
-  some = omega (arith, some, within);
-  split = (λ i. front i ++ back i) ∙ take-append-drop n rest;
-  long = omega (arith, some, ap length front, length-take-le n rest within);
+-- the next group, of another sum than the gap's width, misfits the gap
+pub misfits_next : (p : Laid) (sides : List ℕ) (gap : Segment) (n total : ℕ) → IsGap p.width p.squares gap → take n sides ≡ next_group gap.width sides
+    → total ≡ sum (take n sides) → (total ≡ gap.width → ⊥) → MisfitsNextGroup p sides gap.width total
+misfits_next p sides gap n total is next whole unequal = record {
+  gap = gap;
+  is_gap = is;
+  misfits = record { gap = gap; is_gap = is; width = refl; total_is = sym total_is; misfit = λ e. unequal (total_is ∙ e) };
 }
+  where
+    total_is : total ≡ sum (next_group gap.width sides)
+    total_is = whole ∙ ap (λ (l : List ℕ). sum l) next
 
 module _ (width : ℕ) (sides : List ℕ) (number : ℕ) (p : Laid) (rest : List ℕ) (turn : Dividing width sides number p rest) (few : length sides ≤ 200)
     (good : AllByRecursion IsSide sides) where
@@ -66,65 +59,77 @@ module _ (width : ℕ) (sides : List ℕ) (number : ℕ) (p : Laid) (rest : List
   rest_good = all_right IsSide (flat turn.code) rest (subst (AllByRecursion IsSide) (sym turn.flat_is) good)
 
   -- the number of the next group is at most one more than the sides
-  pub numbers : number ≤ length sides + 1
-  numbers = omega (arith, turn.number_is, count, groups turn.code turn.good, lays_length width [] turn.code p.squares turn.lays)
+  pub number-at_most_one_more : number ≤ length sides + 1
+  number-at_most_one_more = omega (arith, turn.number_is, count, groups turn.code turn.good, lays_length width [] turn.code p.squares turn.lays)
     where
       groups : (code : Code) → AllByRecursion IsSideGroup code → length code ≤ length (flat code)
       groups [] all = omega arith
       groups (group ∷ code) all = omega (arith, all.0.0, groups code all.1, length-append group (flat code))
 
-  -- the next group
-  module _ (group left : List ℕ) (gap : Segment) (its : IsNextGroup p rest group left gap) where
-    pub group_good : AllByRecursion IsSide group
-    group_good = all_left IsSide group left (subst (AllByRecursion IsSide) (sym its.split) rest_good)
+  -- the sides that are left have room beside what is laid
+  pub rest_room : length p.squares + length rest ≤ 200
+  rest_room = omega (arith, count, few)
 
-    pub group_room : length p.squares + length group ≤ 200
-    group_room = omega (arith, count, few, ap length its.split, length-append group left)
+  here : (gap : Segment) → IsGap p.width p.squares gap → IsGap width p.squares gap
+  here gap is = subst (λ n. IsGap n p.squares gap) turn.width_is is
 
-    here : IsGap width p.squares gap
-    here = subst (λ n. IsGap n p.squares gap) turn.width_is its.is
+  divides_fit : (rest group left : List ℕ) (gap : Segment) (code : Code) → IsGap p.width p.squares gap → 0 < length rest
+      → group ≡ next_group gap.width rest → group ++ left ≡ rest → FitsGap gap group
+      → Divides width (laid_with_group p.squares gap group) left code → Divides width p.squares rest (group ∷ code)
+  divides_fit [] group left gap code is some next split fit more = absurd (omega arith)
+  divides_fit (s ∷ rest) group left gap code is some next split fit more = fits left gap (here gap is) next fit (sym split) more
 
-    divides_fit : (group rest left : List ℕ) (code : Code) → 0 < length rest → group ≡ next_group gap.width rest → group ++ left ≡ rest
-        → FitsGap gap group → Divides width (laid_with_group p.squares gap group) left code → Divides width p.squares rest (group ∷ code)
-    divides_fit group [] left code some next split fit more = absurd (omega arith)
-    divides_fit group (s ∷ rest) left code some next split fit more = fits left gap here next fit (sym split) more
+  divides_misfit : (rest : List ℕ) (gap : Segment) → IsGap p.width p.squares gap → 0 < length rest → (FitsGap gap (next_group gap.width rest) → ⊥)
+      → Divides width p.squares rest (next_group gap.width rest ∷ [])
+  divides_misfit [] gap is some not = absurd (omega arith)
+  divides_misfit (s ∷ rest) gap is some not = misfit gap (here gap is) refl not
 
-    divides_misfit : (group rest : List ℕ) → 0 < length rest → group ≡ next_group gap.width rest → (FitsGap gap group → ⊥)
-        → Divides width p.squares rest (group ∷ [])
-    divides_misfit group [] some next not = absurd (omega arith)
-    divides_misfit group (s ∷ rest) some next not = misfit gap here next not
+  -- with the next group laid, one more group is laid, and the sides behind it are left
+  pub next_turn : (new : Laid) (n : ℕ) (left : List ℕ) → left ≡ drop n rest → LaysNextGroup p rest n new → Dividing width sides (number + 1) new left
+  next_turn new n left back lay = subst (λ (q : Laid). Dividing width sides (number + 1) q left) (sym moved) (record {
+    code = turn.code ++ group ∷ [];
+    width_is = turn.width_is;
+    lays = lays_push width [] turn.code p.squares group lay.gap turn.lays (here lay.gap lay.is_gap) fit;
+    number_is = omega (arith, turn.number_is, length-append turn.code (group ∷ []));
+    flat_is = ap (λ (l : List ℕ). l ++ left) (flat_more turn.code group) ∙ append_assoc (flat turn.code) group left
+        ∙ ap (λ (l : List ℕ). flat turn.code ++ l) split ∙ turn.flat_is;
+    good = all_more turn.code group turn.good
+        (omega (arith, lay.some, length-take-le n rest lay.within), all_left IsSide group left (subst (AllByRecursion IsSide) (sym split) rest_good));
+    goes_on = λ more d. subst (λ (c : Code). Divides width [] sides c) (sym (append_assoc turn.code (group ∷ []) more))
+        (turn.goes_on (group ∷ more)
+        (divides_fit rest group left lay.gap more lay.is_gap (omega (arith, lay.some, lay.within)) lay.next split fit d));
+  })
+    where
+      group : List ℕ
+      group = take n rest
 
-    pub next_turn : (new : Laid) → LaysGroup p group new → Dividing width sides (number + 1) new left
-    next_turn new lay = subst (λ (q : Laid). Dividing width sides (number + 1) q left) (sym moved) (record {
-      code = turn.code ++ group ∷ [];
-      width_is = turn.width_is;
-      lays = lays_push width [] turn.code p.squares group gap turn.lays here fit;
-      number_is = omega (arith, turn.number_is, length-append turn.code (group ∷ []));
-      flat_is = ap (λ (l : List ℕ). l ++ left) (flat_more turn.code group) ∙ append_assoc (flat turn.code) group left
-          ∙ ap (λ (l : List ℕ). flat turn.code ++ l) its.split ∙ turn.flat_is;
-      good = all_more turn.code group turn.good (its.long, group_good);
-      goes_on = λ more d. subst (λ (c : Code). Divides width [] sides c) (sym (append_assoc turn.code (group ∷ []) more))
-          (turn.goes_on (group ∷ more) (divides_fit group rest left more its.some its.next its.split fit d));
-    })
-      where
-        same : lay.gap ≡ gap
-        same = gap_unique p.width p.squares lay.gap gap lay.is_gap its.is
+      split : group ++ left ≡ rest
+      split = ap (λ (l : List ℕ). group ++ l) back ∙ take-append-drop n rest
 
-        fit : FitsGap gap group
-        fit = lay.fits ∙ ap (λ (g : Segment). g.width) same
+      same : (lay.lays).gap ≡ lay.gap
+      same = gap_unique p.width p.squares (lay.lays).gap lay.gap (lay.lays).is_gap lay.is_gap
 
-        moved : new ≡ record { width = p.width; squares = laid_with_group p.squares gap group }
-        moved = lay.laid ∙ ap (λ (g : Segment). record { width = p.width; squares = laid_with_group p.squares g group }) same
+      fit : FitsGap lay.gap group
+      fit = (lay.lays).fits ∙ ap (λ (g : Segment). g.width) same
 
-    pub misfit_turn : (gap_width total : ℕ) → MisfitsGap p group gap_width total → IsFlatRefused width sides (Gap number gap_width total)
-    misfit_turn gap_width total m = record {
-      code = turn.code ++ group ∷ [];
-      divided = turn.goes_on (group ∷ []) (divides_misfit group rest its.some its.next (λ fit. m.misfit (fit ∙ ap (λ (g : Segment). g.width) (sym same))));
-      refused = misfits_at width (turn.code ++ group ∷ []) turn.code [] group number p gap_width total refl turn.number_is turn.width_is turn.lays m;
-    }
-      where
-        same : m.gap ≡ gap
-        same = gap_unique p.width p.squares m.gap gap m.is_gap its.is
+      moved : new ≡ record { width = p.width; squares = laid_with_group p.squares lay.gap group }
+      moved = (lay.lays).laid ∙ ap (λ (g : Segment). record { width = p.width; squares = laid_with_group p.squares g group }) same
+
+  -- where the next group misfits the gap, the list is refused
+  pub misfit_turn : (gap_width total : ℕ) → 0 < length rest → MisfitsNextGroup p rest gap_width total
+      → IsFlatRefused width sides (Gap number gap_width total)
+  misfit_turn gap_width total some m = record {
+    code = turn.code ++ group ∷ [];
+    divided = turn.goes_on (group ∷ [])
+        (divides_misfit rest m.gap m.is_gap some (λ fit. (m.misfits).misfit (fit ∙ ap (λ (g : Segment). g.width) (sym same))));
+    refused = misfits_at width (turn.code ++ group ∷ []) turn.code [] group number p gap_width total refl turn.number_is turn.width_is turn.lays m.misfits;
+  }
+    where
+      group : List ℕ
+      group = next_group (m.gap).width rest
+
+      same : (m.misfits).gap ≡ m.gap
+      same = gap_unique p.width p.squares (m.misfits).gap m.gap (m.misfits).is_gap m.is_gap
 
 -- after the last turn
 module _ (width : ℕ) (sides : List ℕ) (number : ℕ) (p : Laid) (rest : List ℕ) (turn : Dividing width sides number p rest) (few : length sides ≤ 200)

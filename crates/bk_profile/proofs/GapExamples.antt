@@ -6,6 +6,7 @@ use Rattle.bk_tiling.specs.declared.Segment.{Segment}
 use Rattle.bk_tiling.specs.declared.Square.{Square}
 use Rattle.bk_code.specs.Code.{code_of}
 use Rattle.bk_profile.proofs.GapTest.{by_tests}
+use Rattle.bk_profile.proofs.LayingOnce.{lays_push}
 use Rattle.bk_profile.specs.OutlineRuns.{run_start, runs_under_group}
 use Rattle.bk_profile.specs.Gap.{Divides, FitsGap, IsGap, LaysTo, fits, laid_with_group, misfit, next_group}
 
@@ -25,9 +26,29 @@ two_groups = laid_with_group one_group (segment 18 15 15) (7 ∷ 8 ∷ [])
 abbrev pub three_groups : List Square
 three_groups = laid_with_group two_groups (segment 0 18 18) (14 ∷ 4 ∷ [])
 
+-- and 10, 1 beside 4
+abbrev pub four_groups : List Square
+four_groups = laid_with_group three_groups (segment 14 11 22) (10 ∷ 1 ∷ [])
+
+-- the first gap is the whole width
+pub first_gap : IsGap 33 [] (segment 0 33 0)
+first_gap = by_tests _ _ _ refl refl refl refl refl refl
+
+-- the second gap is under the square of side 15
+pub second_gap : IsGap 33 one_group (segment 18 15 15)
+second_gap = by_tests _ _ _ refl refl refl refl refl refl
+
 -- the third gap is over the first 18 columns, at level 18
 pub third_gap : IsGap 33 two_groups (segment 0 18 18)
 third_gap = by_tests _ _ _ refl refl refl refl refl refl
+
+-- the fourth gap has 11 columns, at level 22
+pub fourth_gap : IsGap 33 three_groups (segment 14 11 22)
+fourth_gap = by_tests _ _ _ refl refl refl refl refl refl
+
+-- the fifth gap has 9 columns, at level 23
+pub fifth_gap : IsGap 33 four_groups (segment 24 9 23)
+fifth_gap = by_tests _ _ _ refl refl refl refl refl refl
 
 -- under the first group a run that ends a column before the wall is no gap: the depth there is no greater
 pub cut_short : IsGap 33 one_group (segment 18 14 15) → ⊥
@@ -51,34 +72,21 @@ ten_is_not_eleven h = omega arith
 -- the fourth group is all that is left, and does not fill its gap of 11 columns
 pub fourth_does_not_fit : Divides 33 [] (18 ∷ 15 ∷ 7 ∷ 8 ∷ 14 ∷ 4 ∷ 10 ∷ []) ((18 ∷ 15 ∷ []) ∷ (7 ∷ 8 ∷ []) ∷ (14 ∷ 4 ∷ []) ∷ (10 ∷ []) ∷ [])
 fourth_does_not_fit =
-    fits (7 ∷ 8 ∷ 14 ∷ 4 ∷ 10 ∷ []) (segment 0 33 0) (by_tests _ _ _ refl refl refl refl refl refl) refl refl refl
-    (fits (14 ∷ 4 ∷ 10 ∷ []) (segment 18 15 15) (by_tests _ _ _ refl refl refl refl refl refl) refl refl refl
-    (fits (10 ∷ []) (segment 0 18 18) (by_tests _ _ _ refl refl refl refl refl refl) refl refl refl
-    (misfit (segment 14 11 22) (by_tests _ _ _ refl refl refl refl refl refl) refl (λ h. absurd (omega arith)))))
+    fits (7 ∷ 8 ∷ 14 ∷ 4 ∷ 10 ∷ []) (segment 0 33 0) first_gap refl refl refl (fits (14 ∷ 4 ∷ 10 ∷ []) (segment 18 15 15) second_gap refl refl refl
+    (fits (10 ∷ []) (segment 0 18 18) third_gap refl refl refl (misfit (segment 14 11 22) fourth_gap refl (λ h. absurd (omega arith)))))
+
+-- the first three groups of the rectangle 33x32 fit
+pub lays_three : LaysTo 33 [] ((18 ∷ 15 ∷ []) ∷ (7 ∷ 8 ∷ []) ∷ (14 ∷ 4 ∷ []) ∷ []) three_groups
+lays_three = (segment 0 33 0, first_gap, refl, (segment 18 15 15, second_gap, refl, (segment 0 18 18, third_gap, refl, refl)))
+
+-- so does its fourth group
+pub lays_four : LaysTo 33 [] ((18 ∷ 15 ∷ []) ∷ (7 ∷ 8 ∷ []) ∷ (14 ∷ 4 ∷ []) ∷ (10 ∷ 1 ∷ []) ∷ []) four_groups
+lays_four = lays_push 33 [] ((18 ∷ 15 ∷ []) ∷ (7 ∷ 8 ∷ []) ∷ (14 ∷ 4 ∷ []) ∷ []) three_groups (10 ∷ 1 ∷ []) (segment 14 11 22) lays_three fourth_gap refl
 
 -- all five groups of the rectangle fit, and its squares are laid as they stand in it
 pub all_laid : LaysTo 33 [] (code_of rectangle_33x32) rectangle_33x32.squares
-all_laid = (
-  segment 0 33 0,
-  by_tests _ _ _ refl refl refl refl refl refl,
-  refl,
-  (
-    segment 18 15 15,
-    by_tests _ _ _ refl refl refl refl refl refl,
-    refl,
-    (
-      segment 0 18 18,
-      by_tests _ _ _ refl refl refl refl refl refl,
-      refl,
-      (
-        segment 14 11 22,
-        by_tests _ _ _ refl refl refl refl refl refl,
-        refl,
-        (segment 24 9 23, by_tests _ _ _ refl refl refl refl refl refl, refl, refl),
-      ),
-    ),
-  ),
-)
+all_laid =
+    lays_push 33 [] ((18 ∷ 15 ∷ []) ∷ (7 ∷ 8 ∷ []) ∷ (14 ∷ 4 ∷ []) ∷ (10 ∷ 1 ∷ []) ∷ []) four_groups (9 ∷ []) (segment 24 9 23) lays_four fifth_gap refl
 
 -- after two groups, the first column is filled to level 18
 pub depths : depth two_groups 0 ≡ 18

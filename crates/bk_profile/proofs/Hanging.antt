@@ -42,16 +42,22 @@ level_kept laid new x (r ∷ runs) all same =
 
 -- the runs under a group
 under_level : (new : List Square) (x y : ℕ) (sides : List ℕ)
-    → ((q : Square) → IsOneOf q (laid_group x y sides) → (c : ℕ) → q.x ≤ c → c < q.x + q.s → depth new c ≡ q.y + q.s) → AreLevel new x (runs_under_group y sides)
+    → ((q : Square) → IsOneOf q (laid_group x y sides) → (c : ℕ) → q.x ≤ c → c < q.x + q.s → depth new c ≡ q.y + q.s)
+    → AreLevel new x (runs_under_group y sides)
 under_level new x y [] at = tt
 under_level new x y (s ∷ sides) at =
     (λ c l h. at (record { x = x; y = y; s = s }) (inl refl) c l h, under_level new (x + s) y sides (λ q k c l h. at q (inr k) c l h))
 
 -- level runs under sides are as wide as the sides together
-pub width_under : (level : ℕ) (sides : List ℕ) → width_of (runs_under_group level sides) ≡ sum sides
+width_under : (level : ℕ) (sides : List ℕ) → width_of (runs_under_group level sides) ≡ sum sides
 width_under level [] = refl
 width_under level (s ∷ sides) =
-    omega (arith, sum_by-cons (λ (r : Run). r.width) (run_under_side level s) (runs_under_group level sides), sum_by-cons (λ (n : ℕ). n) s sides, width_under level sides)
+    omega (
+      arith,
+      sum_by-cons (λ (r : Run). r.width) (run_under_side level s) (runs_under_group level sides),
+      sum_by-cons (λ (n : ℕ). n) s sides,
+      width_under level sides,
+    )
 
 -- there is a run for each side
 pub length_under : (level : ℕ) (sides : List ℕ) → length (runs_under_group level sides) ≡ length sides

@@ -18,7 +18,7 @@ use Rattle.bk_tiling.specs.declared.Segment.{Segment}
 use Rattle.bk_tiling.specs.declared.Square.{Square}
 use Rattle.bk_code.proofs.GroupSteps.{before, groups_cons, groups_some, side_groups}
 use Rattle.bk_code.specs.Code.{Code}
-use Rattle.bk_profile.proofs.Storing.{there}
+use Rattle.bk_profile.proofs.Storing.{depth_in_filled_gap}
 use Rattle.bk_profile.specs.Gap.{FitsGap, IsGap, LaysTo, laid_with_group}
 
 -- the square is the last of these
@@ -136,7 +136,7 @@ module _ (w : ℕ) (laid : List Square) (code : Code) (gap : Segment) (group : L
   under c a b = let o : HasOver gap.level c more = over_group gap.x gap.level group c a b in
       omega (
         arith,
-        depth_under laid gap.x gap.level group (there w laid gap group is fits) c o.square o.is o.left o.right,
+        depth_under laid gap.x gap.level group (depth_in_filled_gap w laid gap group is fits) c o.square o.is o.left o.right,
         o.top,
         group_sides gap.x gap.level group good o.square o.is,
       )
@@ -187,9 +187,9 @@ module _ (w : ℕ) (laid : List Square) (code : Code) (gap : Segment) (group : L
       long = omega (arith, go gap.x group, some)
 
   -- with a further group laid into its gap, what is laid is that of the groups with it
-  pub laid_step : IsLaid w (laid_with_group laid gap group) (code ++ group ∷ [])
+  laid_step : IsLaid w (laid_with_group laid gap group) (code ++ group ∷ [])
   laid_step = record {
-    filled = filled_group laid gap.x gap.level group (there w laid gap group is fits) w is_laid.filled;
+    filled = filled_group laid gap.x gap.level group (depth_in_filled_gap w laid gap group is fits) w is_laid.filled;
     stands = λ q h. stands q (from_append laid more q h);
     ordered = order_append laid more is_laid.ordered (group_ordered gap.x gap.level group good) old_first;
     groups = groups_append laid gap.x gap.level group some cut ∙ ap (λ (c : Code). c ++ group ∷ []) is_laid.groups;
@@ -211,7 +211,8 @@ laid_groups w laid done [] end is_laid good lays =
     subst (λ (l : List Square). IsLaid w l (done ++ [])) lays (subst (IsLaid w laid) (sym (append-nil done)) is_laid)
 laid_groups w laid done (group ∷ code) end is_laid good (gap, is, fits, lays) =
     subst (IsLaid w end) (append_assoc done (group ∷ []) code)
-    (laid_groups w (laid_with_group laid gap group) (done ++ group ∷ []) code end (laid_step w laid done gap group is_laid is fits good.0.1 good.0.0) good.1 lays)
+    (laid_groups w (laid_with_group laid gap group) (done ++ group ∷ []) code end
+    (laid_step w laid done gap group is_laid is fits good.0.1 good.0.0) good.1 lays)
 
 -- what is laid tiles where its outline is even
 pub tiling_from_laid : (w h : ℕ) (laid : List Square) (code : Code) → IsLaid w laid code → 0 < length laid → ((c : ℕ) → c < w → depth laid c ≡ h)

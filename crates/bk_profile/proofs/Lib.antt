@@ -8,6 +8,7 @@ pub mod LaidGroups
 pub mod LayingOnce
 pub mod CodeLaid
 pub mod Turns
+pub mod FirstGroup
 pub mod Division
 pub mod FlatTurns
 pub mod OneRefusal

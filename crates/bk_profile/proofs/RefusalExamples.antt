@@ -1,12 +1,11 @@
 -- Codes and flat lists that no tiling has, with the reason.
-use Rattle.std.proofs.Common.{List, [], arith, nat_le, refl, ◌∷◌, ◌≡◌}
+use Rattle.std.proofs.Common.{[], arith, nat_le, refl, ◌∷◌, ◌≡◌}
 use Rattle.std.proofs.lemmas.Bool.{leb-true}
 use Rattle.bk_laws.proofs.Tests.{each_below}
 use Rattle.bk_tiling.specs.Column.{depth}
-use Rattle.bk_tiling.specs.declared.Square.{Square}
-use Rattle.bk_profile.proofs.GapExamples.{fourth_does_not_fit, one_group, segment, ten_is_not_eleven, three_groups}
-use Rattle.bk_profile.proofs.GapTest.{by_tests}
-use Rattle.bk_profile.specs.Gap.{FitsGap, LaysTo, laid_with_group}
+use Rattle.bk_profile.proofs.GapExamples.{first_gap, four_groups, fourth_does_not_fit, fourth_gap, lays_four, lays_three, one_group}
+use Rattle.bk_profile.proofs.GapExamples.{second_gap, segment, ten_is_not_eleven, three_groups}
+use Rattle.bk_profile.specs.Gap.{FitsGap}
 use Rattle.bk_profile.specs.OutlineRuns.{run_start, runs_under_group}
 use Rattle.bk_profile.specs.Refused.{EndsOpen, IsFlatRefused, Misfits, first_sum}
 use Rattle.bk_profile.specs.declared.laying.Refusal.TheVariants.{Gap}
@@ -26,47 +25,13 @@ second_does_not_fit = record {
   split = refl;
   place = refl;
   laid = one_group;
-  lays = (segment 0 33 0, by_tests _ _ _ refl refl refl refl refl refl, refl, refl);
+  lays = (segment 0 33 0, first_gap, refl, refl);
   gap = segment 18 15 15;
-  is_gap = by_tests _ _ _ refl refl refl refl refl refl;
+  is_gap = second_gap;
   gap_is = refl;
   total_is = refl;
   misfit = not_sixteen;
 }
-
-abbrev four_groups : List Square
-four_groups = laid_with_group three_groups (segment 14 11 22) (10 ∷ 1 ∷ [])
-
-lays_four : LaysTo 33 [] ((18 ∷ 15 ∷ []) ∷ (7 ∷ 8 ∷ []) ∷ (14 ∷ 4 ∷ []) ∷ (10 ∷ 1 ∷ []) ∷ []) four_groups
-lays_four = (
-  segment 0 33 0,
-  by_tests _ _ _ refl refl refl refl refl refl,
-  refl,
-  (
-    segment 18 15 15,
-    by_tests _ _ _ refl refl refl refl refl refl,
-    refl,
-    (
-      segment 0 18 18,
-      by_tests _ _ _ refl refl refl refl refl refl,
-      refl,
-      (segment 14 11 22, by_tests _ _ _ refl refl refl refl refl refl, refl, refl),
-    ),
-  ),
-)
-
-lays_three : LaysTo 33 [] ((18 ∷ 15 ∷ []) ∷ (7 ∷ 8 ∷ []) ∷ (14 ∷ 4 ∷ []) ∷ []) three_groups
-lays_three = (
-  segment 0 33 0,
-  by_tests _ _ _ refl refl refl refl refl refl,
-  refl,
-  (
-    segment 18 15 15,
-    by_tests _ _ _ refl refl refl refl refl refl,
-    refl,
-    (segment 0 18 18, by_tests _ _ _ refl refl refl refl refl refl, refl, refl),
-  ),
-)
 
 -- a flat list whose fourth group, all that is left, doesn't fit into its gap of 11 columns
 pub seven_are_refused : IsFlatRefused 33 (18 ∷ 15 ∷ 7 ∷ 8 ∷ 14 ∷ 4 ∷ 10 ∷ []) (Gap 4 11 10)
@@ -82,7 +47,7 @@ seven_are_refused = record {
     laid = three_groups;
     lays = lays_three;
     gap = segment 14 11 22;
-    is_gap = by_tests _ _ _ refl refl refl refl refl refl;
+    is_gap = fourth_gap;
     gap_is = refl;
     total_is = refl;
     misfit = ten_is_not_eleven;

@@ -30,7 +30,7 @@ start_le (r ∷ runs) (suc j) (suc k) h =
     omega (arith, start_le runs j k (omega arith), sum_by-cons (λ (s : Run). s.width) r (take j runs), sum_by-cons (λ (s : Run). s.width) r (take k runs))
 
 -- past the last run begins what is behind all of them
-pub start_all : (runs : List Run) (n : ℕ) → length runs ≤ n → run_start runs n ≡ width_of runs
+start_all : (runs : List Run) (n : ℕ) → length runs ≤ n → run_start runs n ≡ width_of runs
 start_all runs n h = ap width_of (take_all n runs h)
 
 -- no run begins behind all of them
@@ -61,14 +61,14 @@ pub record Lies (x : ℕ) (runs : List Run) (c : ℕ) : Type 0 where
   pub to : c < x + run_start runs (place + 1)
 
 -- over each column lies a run
-pub lies : (x : ℕ) (runs : List Run) (c : ℕ) → x ≤ c → c < x + width_of runs → Lies x runs c
-lies x [] c l h = absurd (omega arith)
-lies x (r ∷ runs) c l h =
+run_over_column : (x : ℕ) (runs : List Run) (c : ℕ) → x ≤ c → c < x + width_of runs → Lies x runs c
+run_over_column x [] c l h = absurd (omega arith)
+run_over_column x (r ∷ runs) c l h =
     let whole : width_of (r ∷ runs) ≡ r.width + width_of runs = sum_by-cons (λ (s : Run). s.width) r runs in
     ⊎_elim
     (λ (k : c < x + r.width). record { place = 0; below = omega arith; from = omega arith; to = omega (arith, start_more (r ∷ runs) 0 no_run (omega arith)) })
     (λ (k : x + r.width ≤ c).
-    let rest : Lies (x + r.width) runs c = lies (x + r.width) runs c k (omega arith) in
+    let rest : Lies (x + r.width) runs c = run_over_column (x + r.width) runs c k (omega arith) in
     record {
       place = suc rest.place;
       below = omega (arith, rest.below);
@@ -125,7 +125,7 @@ gap_from_runs w laid runs a b gap outline lowest x end level = record {
     first = omega (arith, lowest.some, lowest.within)
 
     over : (c : ℕ) → c < width_of runs → Lies 0 runs c
-    over c h = lies 0 runs c (omega arith) (omega (arith, h))
+    over c h = run_over_column 0 runs c (omega arith) (omega (arith, h))
 
     not_left : (c : ℕ) (at : Lies 0 runs c) → gap.x ≤ c → a ≤ at.place
     not_left c at l = ⊎_elim (λ (k : at.place < a). absurd (omega (arith, at.to, x, l, start_le runs (at.place + 1) a (omega arith))))
@@ -156,7 +156,7 @@ least_depth w laid runs a b outline lowest = record {
   within = (in_width w laid runs a outline first).0;
   there = (in_width w laid runs a outline first).1;
   below = λ c h.
-      let at : Lies 0 runs c = lies 0 runs c (omega arith) (omega (arith, h, outline.whole)) in
+      let at : Lies 0 runs c = run_over_column 0 runs c (omega arith) (omega (arith, h, outline.whole)) in
       omega (
         arith,
         level_at w laid runs at.place no_run c outline at.below (omega (arith, at.from)) (omega (arith, at.to)),
@@ -176,7 +176,7 @@ greatest_depth w laid runs k greatest outline most below at = record {
   within = (in_width w laid runs k outline below).0;
   there = (in_width w laid runs k outline below).1 ∙ at no_run;
   above = λ c h.
-      let over : Lies 0 runs c = lies 0 runs c (omega arith) (omega (arith, h, outline.whole)) in
+      let over : Lies 0 runs c = run_over_column 0 runs c (omega arith) (omega (arith, h, outline.whole)) in
       omega (
         arith,
         level_at w laid runs over.place no_run c outline over.below (omega (arith, over.from)) (omega (arith, over.to)),

@@ -2,15 +2,16 @@
 -- Examples (LaidExamples): in the width 33 with the group 18, 15 laid the group 7, 8 is laid next, and 7, 9 is not, of
 -- sum 16 at a gap of 15 columns; laid one after another the five groups of the rectangle 33x32 are that tiling.
 -- (RefusalExamples): after [18,15][7,8][14,4][10,1] the depths lie between 23 and 32.
-use Rattle.std.specs.Prelude.{List, [], length, sum, ℕ, ◌<◌, ◌≡◌, ◌≤◌}
+use Rattle.std.specs.Prelude.{List, [], length, sum, take, ℕ, ◌<◌, ◌≡◌, ◌≤◌}
 use Rattle.bk_tiling.specs.Column.{IsFilled, depth}
 use Rattle.bk_tiling.specs.Tiling.{IsTiling, Tiling}
 use Rattle.bk_tiling.specs.declared.Segment.{Segment}
 use Rattle.bk_tiling.specs.declared.Square.{Square}
 use Rattle.bk_code.specs.Code.{Code}
 use Rattle.bk_code.specs.KeptCode.{IsKeptCode}
-use Rattle.bk_profile.specs.Gap.{FitsGap, IsGap, LaysTo, laid_with_group}
+use Rattle.bk_profile.specs.Gap.{FitsGap, IsGap, LaysTo, laid_with_group, next_group}
 use Rattle.bk_tiling.specs.declared.TheConstants.{MOST_SQUARES}
+use Rattle.bk_profile.specs.declared.profile.TheConstants.{WIDEST_PROFILE}
 
 -- a width, and the squares laid in it, in the order of laying
 pub record Laid : Type 0 where
@@ -20,7 +21,7 @@ pub record Laid : Type 0 where
 -- what holds of each `Profile`
 pub record IsProfile (p : Laid) : Type 0 where
   pub some : 0 < p.width
-  pub narrow : p.width ≤ 200_000_000_000_000_000
+  pub narrow : p.width ≤ WIDEST_PROFILE
   pub few : length p.squares ≤ MOST_SQUARES
   -- each cell above a column's depth lies in exactly one of the squares
   pub filled : IsFilled p.width p.squares
@@ -39,6 +40,21 @@ pub record MisfitsGap (old : Laid) (group : List ℕ) (gap_width total : ℕ) : 
   pub width : gap.width ≡ gap_width
   pub total_is : sum group ≡ total
   pub misfit : FitsGap gap group → ⊥
+
+-- the first `taken` of the sides are the next group, which fits into the gap, and is laid there
+pub record LaysNextGroup (old : Laid) (sides : List ℕ) (taken : ℕ) (new : Laid) : Type 0 where
+  pub some : 0 < taken
+  pub within : taken ≤ length sides
+  pub gap : Segment
+  pub is_gap : IsGap old.width old.squares gap
+  pub next : take taken sides ≡ next_group gap.width sides
+  pub lays : LaysGroup old (take taken sides) new
+
+-- the next group of the sides doesn't fit into the gap
+pub record MisfitsNextGroup (old : Laid) (sides : List ℕ) (gap_width total : ℕ) : Type 0 where
+  pub gap : Segment
+  pub is_gap : IsGap old.width old.squares gap
+  pub misfits : MisfitsGap old (next_group gap.width sides) gap_width total
 
 -- the least depth of a column
 pub record IsLeastDepth (p : Laid) (least : ℕ) : Type 0 where

@@ -4,6 +4,7 @@ use Rattle.std.specs.List.{All}
 use Rattle.std.specs.Prelude.{List, [], length, map, slice_index_or, sum_by, take, ℕ, ⊤, ◌*◌, ◌+◌, ◌<◌, ◌∷◌, ◌≡◌, ◌≤◌}
 use Rattle.bk_tiling.specs.Column.{depth}
 use Rattle.bk_tiling.specs.declared.Square.{Square}
+use Rattle.bk_profile.specs.declared.runs.LowestRuns.{LowestRuns}
 use Rattle.bk_profile.specs.declared.runs.Run.{Run}
 use Rattle.bk_tiling.specs.declared.TheConstants.{LONGEST_SIDE}
 
@@ -37,6 +38,13 @@ pub record IsLowest (runs : List Run) (n a b : ℕ) : Type 0 where
   pub least : (k : ℕ) (d : Run) → k < n → (slice_index_or runs a d).level ≤ (slice_index_or runs k d).level
   pub left : (k : ℕ) (d : Run) → k < a → (slice_index_or runs a d).level < (slice_index_or runs k d).level
   pub right : (d : Run) → b < n → (slice_index_or runs a d).level < (slice_index_or runs b d).level
+
+-- the leftmost runs of least level that touch, and the segment that they make
+pub record AreLowestRuns (runs : List Run) (lowest : LowestRuns) : Type 0 where
+  pub places : IsLowest runs (length runs) lowest.first lowest.end
+  pub x : lowest.segment.x ≡ run_start runs lowest.first
+  pub end : lowest.segment.x + lowest.segment.width ≡ run_start runs lowest.end
+  pub level : (d : Run) → lowest.segment.level ≡ (slice_index_or runs lowest.first d).level
 
 -- the run that a square of this side leaves under it
 abbrev pub run_under_side : ℕ → ℕ → Run

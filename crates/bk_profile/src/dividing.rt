@@ -1,27 +1,30 @@
 //! Laying flat lists of sides, whose groups are found by laying.
 
 ghost use Rattle.std.specs.List.{AllByRecursion};
-ghost use Rattle.std.specs.Prelude.{IfErr, IfOk, IsOk, IsOkAnd, OnErr, OnOk, length, take, ◌<◌, ◌≡◌, ◌≤◌};
+ghost use Rattle.std.specs.Prelude.{IfErr, IfOk, IsOk, IsOkAnd, OnErr, OnOk, length, ◌<◌, ◌≡◌, ◌≤◌};
 ghost use Rattle.bk_tiling.specs.KeptTiling.{IsSide};
 ghost use Rattle.bk_tiling.specs.Tiling.{Tiling as Tiled};
-ghost use Rattle.bk_profile.specs.Gap.{next_group};
 ghost use Rattle.bk_profile.specs.Refused.{HasFlat, IsFlatRefused};
+ghost use Rattle.bk_profile.specs.declared.dividing.TheConstants.{LARGEST_WIDTH};
 
 use crate::laying::{Refusal, even_height};
 use crate::profile::Profile;
 use bk_tiling::{LONGEST_SIDE, MOST_SQUARES, Tiling, sum_of};
 
+/// The greatest width that a flat list is laid under.
+pub const LARGEST_WIDTH: u64 = 999_999_999_999_999_999;
+
 /// No 200 sides have a greater sum.
 const WIDEST: u64 = MOST_SQUARES as u64 * LONGEST_SIDE;
 
-/// Divides a flat list of sides into groups and lays them under a width of 1 to 999,999,999,999,999,999: the next group
+/// Divides a flat list of sides into groups and lays them under a width of 1 to `LARGEST_WIDTH`: the next group
 /// is the shortest prefix of the sides that are left whose sum reaches the width of the gap, or all of them. The result
 /// is the one tiling that has this width and a code with this flat list. It is refused exactly where no tiling has
 /// them, with the first group that doesn't fit, or with the depths where all fit and the outline ends uneven. This
 /// division is our own.
 pub fn lay_flat(width: u64, sides: &[u64]) -> Result<Tiling, Refusal>
     requires wide { 0 < width }
-    requires narrow { width ≤ 999_999_999_999_999_999 }
+    requires narrow { width ≤ LARGEST_WIDTH }
     requires some { 0 < length sides.now }
     requires few { length sides.now ≤ MOST_SQUARES }
     requires sides { AllByRecursion IsSide sides.now }
@@ -47,7 +50,7 @@ pub fn lay_flat_in(
     tiling: &mut Tiling,
 ) -> Result<(), Refusal>
     requires wide { 0 < width }
-    requires narrow { width ≤ 999_999_999_999_999_999 }
+    requires narrow { width ≤ LARGEST_WIDTH }
     requires some { 0 < length sides.now }
     requires few { length sides.now ≤ MOST_SQUARES }
     requires sides { AllByRecursion IsSide sides.now }
@@ -67,15 +70,17 @@ pub fn lay_flat_in(
     let mut rest = sides;
     let mut group = 1;
     while !rest.is_empty() {
-        let (next, left) = rest.split_at(group_len(profile.gap().width, rest));
-        if let Err(fault) = profile.lay(next) {
-            return Err(Refusal::Gap {
-                group,
-                gap: fault.gap,
-                sum: fault.sum,
-            });
-        }
-        rest = left;
+        let count = match profile.lay_next(rest) {
+            Ok(count) => count,
+            Err(fault) => {
+                return Err(Refusal::Gap {
+                    group,
+                    gap: fault.gap,
+                    sum: fault.sum,
+                });
+            }
+        };
+        rest = &rest[count..];
         group += 1;
     }
     match even_height(profile) {
@@ -85,24 +90,4 @@ pub fn lay_flat_in(
         }
         Err(refusal) => Err(refusal),
     }
-}
-
-// How many sides the next group has: the least number of them whose sum reaches the width of the gap, or all.
-fn group_len(gap: u64, rest: &[u64]) -> usize
-    requires gap { 0 < gap }
-    requires some { 0 < length rest.now }
-    requires few { length rest.now ≤ MOST_SQUARES }
-    requires sides { AllByRecursion IsSide rest.now }
-    ensures group { take result rest.now ≡ next_group gap rest.now }
-    ensures some { 0 < result }
-    ensures within { result ≤ length rest.now }
-{
-    let mut sum = 0;
-    for i in 0..rest.len() {
-        sum += rest[i];
-        if sum >= gap {
-            return i + 1;
-        }
-    }
-    rest.len()
 }

@@ -8,7 +8,7 @@ ghost use Rattle.bk_profile.specs.Refused.{HasCode, IsOpen, IsRefused, first_sum
 
 use crate::profile::Profile;
 use bk_code::Code;
-use bk_tiling::{Tiling, sum_of};
+use bk_tiling::Tiling;
 use thiserror::Error;
 
 /// Why laying gives no tiling.
@@ -50,8 +50,8 @@ pub fn lay_code_in(code: &Code, profile: &mut Profile, tiling: &mut Tiling) -> R
     ensures same { OnErr result (tiling.new ≡ tiling.old) }
 {
     let count = code.groups();
-    profile.restart(sum_of(code.group(0)));
-    for g in 0..count {
+    profile.restart_with(code.group(0));
+    for g in 1..count {
         if let Err(fault) = profile.lay(code.group(g)) {
             return Err(Refusal::Gap {
                 group: g + 1,

@@ -1,15 +1,21 @@
 //! Squares laid gap by gap, from the top of a rectangle downwards.
 
 ghost use Rattle.std.specs.List.{AllByRecursion};
-ghost use Rattle.std.specs.Prelude.{[], IfErr, OnErr, OnOk, length, ◌+◌, ◌<◌, ◌≡◌, ◌≤◌};
+ghost use Rattle.std.specs.Prelude.{[], IfErr, IfOk, OnErr, OnOk, length, sum, take, ◌+◌, ◌<◌, ◌≡◌, ◌≤◌};
 ghost use Rattle.bk_tiling.specs.KeptTiling.{IsKept, IsSide};
-ghost use Rattle.bk_profile.specs.Gap.{IsGap};
-ghost use Rattle.bk_profile.specs.Laid.{IsGreatestDepth, IsLaidTiling, IsLeastDepth, IsProfile, LaysGroup, MisfitsGap};
+ghost use Rattle.bk_tiling.specs.SquareGroups.{laid_group};
+ghost use Rattle.bk_profile.specs.declared.profile.TheConstants.{WIDEST_PROFILE};
+ghost use Rattle.bk_profile.specs.Gap.{IsGap, next_group};
+ghost use Rattle.bk_profile.specs.Laid.{IsGreatestDepth, IsLaidTiling, IsLeastDepth, IsProfile, LaysGroup};
+ghost use Rattle.bk_profile.specs.Laid.{LaysNextGroup, MisfitsGap, MisfitsNextGroup};
 
-use crate::runs::{MOST_RUNS, Run, hang, highest, lowest, segment};
+use crate::runs::{MOST_RUNS, Run, hang, highest, lowest, lowest_runs, push_runs};
 use arrayvec::ArrayVec;
 use bk_tiling::{MOST_SQUARES, Segment, Square, Tiling, push_group, sum_of};
 use std::marker::Model;
+
+/// No profile is wider: 200 sides have no greater sum.
+pub const WIDEST_PROFILE: u64 = 200_000_000_000_000_000;
 
 /// The sum of a group isn't the width of the gap that it was to go into.
 #[derive(Clone, Copy, Debug, PartialEq, Eq)]
@@ -41,10 +47,10 @@ impl Model for Profile {
 }
 
 impl Profile {
-    /// The profile of this width, 1 to 200,000,000,000,000,000, with no square laid.
+    /// The profile of this width, 1 to `WIDEST_PROFILE`, with no square laid.
     pub fn new(width: u64) -> Profile
         requires some { 0 < width }
-        requires narrow { width ≤ 200_000_000_000_000_000 }
+        requires narrow { width ≤ WIDEST_PROFILE }
         ensures { result ≡ record { width = width; squares = [] } }
     {
         let mut outline = ArrayVec::new();
@@ -59,7 +65,7 @@ impl Profile {
     // Takes away all squares, and begins again with this width.
     pub(crate) fn restart(&mut self, width: u64)
         requires some { 0 < width }
-        requires narrow { width ≤ 200_000_000_000_000_000 }
+        requires narrow { width ≤ WIDEST_PROFILE }
         ensures { self.new ≡ record { width = width; squares = [] } }
     {
         self.width = width;
@@ -68,13 +74,32 @@ impl Profile {
         self.outline.push(Run { width, level: 0 });
     }
 
+    // Takes away all squares, and lays a first group under its sum as the width.
+    pub(crate) fn restart_with(&mut self, sides: &[u64])
+        requires some { 0 < length sides.now }
+        requires few { length sides.now ≤ MOST_SQUARES }
+        requires sides { AllByRecursion IsSide sides.now }
+        ensures { self.new ≡ record { width = sum sides.now; squares = laid_group 0 0 sides.now } }
+    {
+        let width = sum_of(sides);
+        let top = Segment {
+            x: 0,
+            width,
+            level: 0,
+        };
+        self.width = width;
+        self.laid.clear();
+        push_group(&mut self.laid, top, sides);
+        self.outline.clear();
+        push_runs(&mut self.outline, 0, sides);
+    }
+
     /// The gap: the leftmost maximal run of columns of least depth (Bouwkamp 1946-47).
     pub fn gap(&self) -> Segment
         ensures gap { IsGap self.now.width self.now.squares result }
         ensures kept { IsProfile self.now }
     {
-        let (first, end) = lowest(&self.outline);
-        segment(&self.outline, first, end)
+        lowest_runs(&self.outline).segment
     }
 
     /// Lays a group from left to right under the gap, with the gap's level as the top level of its squares. It fits
@@ -87,8 +112,8 @@ impl Profile {
         ensures err { IfErr result (λ fault. MisfitsGap self.old sides.now fault.gap fault.sum) }
         ensures same { OnErr result (self.new ≡ self.old) }
     {
-        let (first, end) = lowest(&self.outline);
-        let gap = segment(&self.outline, first, end);
+        let runs = lowest_runs(&self.outline);
+        let gap = runs.segment;
         let sum = sum_of(sides);
         if sum != gap.width {
             return Err(GapFault {
@@ -96,9 +121,33 @@ impl Profile {
                 sum,
             });
         }
-        hang(&mut self.outline, first, end, gap.level, sides);
+        hang(&mut self.outline, runs.first, runs.end, gap.level, sides);
         push_group(&mut self.laid, gap, sides);
         Ok(())
+    }
+
+    // Lays the next group of a flat list, the shortest prefix of the sides whose sum reaches the gap's width, or all of
+    // them, and tells how many sides it has. It fits exactly where its sum is the gap's width.
+    pub(crate) fn lay_next(&mut self, sides: &[u64]) -> Result<usize, GapFault>
+        requires some { 0 < length sides.now }
+        requires sides { AllByRecursion IsSide sides.now }
+        requires room { length self.old.squares + length sides.now ≤ MOST_SQUARES }
+        ensures ok { IfOk result (λ taken. LaysNextGroup self.old sides.now taken self.new) }
+        ensures err { IfErr result (λ fault. MisfitsNextGroup self.old sides.now fault.gap fault.sum) }
+    {
+        let runs = lowest_runs(&self.outline);
+        let gap = runs.segment;
+        let (count, sum) = next_group(gap.width, sides);
+        if sum != gap.width {
+            return Err(GapFault {
+                gap: gap.width,
+                sum,
+            });
+        }
+        let group = &sides[..count];
+        hang(&mut self.outline, runs.first, runs.end, gap.level, group);
+        push_group(&mut self.laid, gap, group);
+        Ok(count)
     }
 
     /// The squares laid, in the order of laying.
@@ -139,4 +188,26 @@ impl Profile {
     {
         highest(&self.outline)
     }
+}
+
+// The next group of a flat list: how many sides it has, the least number of them whose sum reaches the width of the
+// gap, or all; and their sum.
+fn next_group(gap: u64, sides: &[u64]) -> (usize, u64)
+    requires gap { 0 < gap }
+    requires some { 0 < length sides.now }
+    requires few { length sides.now ≤ MOST_SQUARES }
+    requires sides { AllByRecursion IsSide sides.now }
+    ensures group { take result.0 sides.now ≡ next_group gap sides.now }
+    ensures total { result.1 ≡ sum (take result.0 sides.now) }
+    ensures some { 0 < result.0 }
+    ensures within { result.0 ≤ length sides.now }
+{
+    let mut sum = 0;
+    for i in 0..sides.len() {
+        sum += sides[i];
+        if sum >= gap {
+            return (i + 1, sum);
+        }
+    }
+    (sides.len(), sum)
 }

@@ -1,10 +1,11 @@
 //! The outline of laid squares as level runs of columns, side by side.
 
 ghost use Rattle.std.specs.List.{All, AllByRecursion, HoldsAt};
-ghost use Rattle.std.specs.Prelude.{drop, length, slice_index_or, slice_set, sum, take, ℕ, ◌+◌, ◌++◌, ◌<◌, ◌^◌, ◌≡◌};
+ghost use Rattle.std.specs.Prelude.{drop, length, slice_set, sum, take, ℕ, ◌+◌, ◌++◌, ◌<◌, ◌^◌, ◌≡◌};
 ghost use Rattle.std.specs.Prelude.{◌≤◌};
 ghost use Rattle.bk_tiling.specs.KeptTiling.{IsSide};
-ghost use Rattle.bk_profile.specs.OutlineRuns.{IsLowest, run_start, run_under_side, runs_under_group, width_of};
+ghost use Rattle.bk_profile.specs.OutlineRuns.{AreLowestRuns, IsLowest, run_start, run_under_side, runs_under_group};
+ghost use Rattle.bk_profile.specs.OutlineRuns.{width_of};
 
 use arrayvec::ArrayVec;
 use bk_tiling::{MOST_SQUARES, Segment};
@@ -17,6 +18,31 @@ pub(crate) const MOST_RUNS: usize = MOST_SQUARES + 1;
 pub(crate) struct Run {
     pub(crate) width: u64,
     pub(crate) level: u64,
+}
+
+// The leftmost runs of least level that touch: their places, and the segment that they make.
+#[derive(Clone, Copy)]
+pub(crate) struct LowestRuns {
+    // The place of the first of them.
+    pub(crate) first: usize,
+    // The place after the last of them.
+    pub(crate) end: usize,
+    // The segment that they make.
+    pub(crate) segment: Segment,
+}
+
+// The leftmost runs of least level that touch.
+pub(crate) fn lowest_runs(outline: &[Run]) -> LowestRuns
+    requires some { 0 < length outline.now }
+    requires narrow { width_of outline.now < 2 ^ 63 }
+    ensures { AreLowestRuns outline.now result }
+{
+    let (first, end) = lowest(outline);
+    LowestRuns {
+        first,
+        end,
+        segment: segment(outline, first, end),
+    }
 }
 
 // The places of the leftmost runs of least level that touch: the first of them, and the one after the last.
@@ -40,13 +66,13 @@ pub(crate) fn lowest(outline: &[Run]) -> (usize, usize)
 }
 
 // The segment of the runs from one place up to another.
-pub(crate) fn segment(outline: &[Run], first: usize, end: usize) -> Segment
+fn segment(outline: &[Run], first: usize, end: usize) -> Segment
     requires order { first < end }
     requires within { end ≤ length outline.now }
     requires narrow { width_of outline.now < 2 ^ 63 }
     ensures x { result.x ≡ run_start outline.now first }
     ensures end { result.x + result.width ≡ run_start outline.now end }
-    ensures level { (d : Run) → result.level ≡ (slice_index_or outline.now first d).level }
+    ensures level { HoldsAt (λ run. result.level ≡ run.level) outline.now first }
 {
     let x = columns(&outline[..first]);
     Segment {
@@ -147,5 +173,20 @@ fn put_in(outline: &mut ArrayVec<Run, MOST_RUNS>, first: usize, level: u64, side
                 level: level + *side,
             },
         );
+    }
+}
+
+// Appends the runs under a group.
+pub(crate) fn push_runs(outline: &mut ArrayVec<Run, MOST_RUNS>, level: u64, sides: &[u64])
+    requires room { length outline.old.items + length sides.now ≤ MOST_RUNS }
+    requires high { level < 2 ^ 63 }
+    requires sides { AllByRecursion IsSide sides.now }
+    ensures { outline.new.items ≡ outline.old.items ++ runs_under_group level sides.now }
+{
+    for i in 0..sides.len() {
+        outline.push(Run {
+            width: sides[i],
+            level: level + sides[i],
+        });
     }
 }

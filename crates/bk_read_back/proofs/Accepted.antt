@@ -18,7 +18,6 @@ use Rattle.bk_ports.specs.Reply.{AreReplies, Reply, some_refused, text_of}
 use Rattle.bk_answer.proofs.OneAnswer.{cause_of, command_cause, not_refused, one_answer, skip_not_stated}
 use Rattle.bk_answer.specs.Answer.{AnswersLine}
 use Rattle.bk_answer.specs.CodeAnswer.{AnswersCodeLine, answers, no_item, refuses}
-use Rattle.bk_answer.specs.CodeCommand.{by_plain}
 use Rattle.bk_answer.specs.Item.{HasItem, IsStatedBy}
 use Rattle.bk_answer.specs.declared.command.Command.TheVariants.{Plain}
 use Rattle.bk_answer.specs.declared.plain.PlainCommand.TheVariants.{Check}
@@ -35,11 +34,11 @@ record IsAccepted (t : Tiling) (pieces : List (List ℕ)) (refused : Bool) : Typ
   pieces_are : pieces ≡ line ∷ []
   not_refused_is : refused ≡ false
 
-accepted : (bytes : List ℕ) (t : Tiling) → IsReadAs bytes t → (pieces : List (List ℕ)) (refused : Bool) → AnswersCodeLine (by_plain Check) bytes pieces refused
+accepted : (bytes : List ℕ) (t : Tiling) → IsReadAs bytes t → (pieces : List (List ℕ)) (refused : Bool) → AnswersCodeLine (Plain Check) bytes pieces refused
     → IsAccepted t pieces refused
 accepted bytes t read pieces refused (no_item skip) = absurd (skip_not_stated bytes (item_of t) t skip read.item read.stated)
 accepted bytes t read pieces refused (refuses r h) =
-    absurd (not_refused bytes (item_of t) t r read.item read.stated (cause_of bytes r (check_refuses bytes r (command_cause (by_plain Check) bytes r h))))
+    absurd (not_refused bytes (item_of t) t r read.item read.stated (cause_of bytes r (check_refuses bytes r (command_cause (Plain Check) bytes r h))))
 accepted bytes t read pieces refused (answers u _ has _ (line, c, e)) = record {
   line = line;
   is = subst (λ (z : Tiling). IsCheckLine z line) (read.only u own) c;
@@ -93,7 +92,7 @@ module _ (n : ℕ) (class : Class) (small : n ≤ 16) (behind : List ℕ)
       ∙ append_assoc (entry_text e.tiling e.word) (10 ∷ []) (flat_map line_of entries ++ behind))
       ∙ first_line (entry_text e.tiling e.word) (flat_map line_of entries ++ behind) (member_printed n class e small is)
 
-  first_reply : (e : Entry) → IsEntry n class e → (r : Reply) → AnswersCodeLine (by_plain Check) (entry_text e.tiling e.word) r.pieces r.refused
+  first_reply : (e : Entry) → IsEntry n class e → (r : Reply) → AnswersCodeLine (Plain Check) (entry_text e.tiling e.word) r.pieces r.refused
       → IsAccepted e.tiling r.pieces r.refused
   first_reply e is r answer =
       let read : IsReadAs (entry_text e.tiling e.word) e.tiling = read_as n class e small is in

@@ -24,7 +24,8 @@ use Rattle.bk_lay.proofs.WordPlay.{tiling_word_is_complete}
 use Rattle.bk_read_back.proofs.SmallMembers.{members_are_small}
 use Rattle.bk_catalogue.specs.Catalogue.{Entry, IsEntry}
 use Rattle.bk_report.proofs.EntriesRead.{a_written_entry_is_read}
-use Rattle.bk_report.specs.Listings.{entry_text, entry_words}
+use Rattle.bk_report.specs.AnswerWords.{semicolon}
+use Rattle.bk_report.specs.Listings.{entry_text}
 use Rattle.bk_answer.specs.Item.{IsStatedBy}
 use Rattle.bk_read_back.proofs.PrintedBytes.{IsPrinted, code_printed, decimal_printed, joined_printed, size_printed, word_printed}
 use Rattle.bk_read_back.specs.ReadBack.{AListedEntryIsRead, IsReadAs, item_of}
@@ -89,13 +90,14 @@ module _ (t : Tiling) (w : Word) (kept : IsKept t) (legal : AreLegalFrom start w
 
   -- the entry of a kept tiling with a word has no byte at or below a line feed
   pub entry_printed : IsPrinted (entry_text t w)
-  entry_printed = joined_printed 32 (omega arith) (entry_words t w) (
-    decimal_printed (order t) (omega (arith, squares)),
-    (
-      size_printed t.width t.height (omega (arith, width)) (omega (arith, height)),
-      (code_printed (code_of t) (code_kept t kept).groups, ((omega arith, tt), (word_printed w (few_each w 200 few (omega arith)), tt))),
-    ),
-  )
+  entry_printed = joined_printed 32 (omega arith)
+      (decimal (order t) ∷ size_text t.width t.height ∷ code_text (code_of t) ∷ semicolon ∷ word_text w ∷ []) (
+        decimal_printed (order t) (omega (arith, squares)),
+        (
+          size_printed t.width t.height (omega (arith, width)) (omega (arith, height)),
+          (code_printed (code_of t) (code_kept t kept).groups, ((omega arith, tt), (word_printed w (few_each w 200 few (omega arith)), tt))),
+        ),
+      )
 
 -- the item of a tiling speaks of it alone
 own_item : (t : Tiling) → IsKept t → IsStatedBy (item_of t) t

@@ -19,10 +19,8 @@ pub check_line-33x32 : IsCheckLine rectangle_33x32 (codes "ok 9 33x32 perfect si
 check_line-33x32 = record {
   repeated = None;
   part = None;
-  verdicts = record {
-    perfect = pairs_from_test (λ q. q.s) rectangle_33x32.squares refl;
-    simple = simple_from_test rectangle_33x32 (tiling_from_test rectangle_33x32 refl) refl;
-  };
+  perfect = pairs_from_test (λ q. q.s) rectangle_33x32.squares refl;
+  simple = simple_from_test rectangle_33x32 (tiling_from_test rectangle_33x32 refl) refl;
   text = sym checked;
 }
 
@@ -50,6 +48,7 @@ pub flowing : flow_line (record { total = pos 2; currents = pos 1 ∷ negsuc 0 �
 unfolding digits
 flowing = refl
 
-pub trials : trial_line 0 2 2 1 0 272 ≡ codes "trial seed 0 count 2 ok 2 perfect 1 simple 0 squares 272" ++ 10 ∷ []
+pub trials : trial_line 0 2 (record { accepted = 2; perfect = 1; simple = 0; squares = 272 })
+    ≡ codes "trial seed 0 count 2 ok 2 perfect 1 simple 0 squares 272" ++ 10 ∷ []
 unfolding digits
 trials = refl

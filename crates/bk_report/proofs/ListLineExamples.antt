@@ -4,8 +4,9 @@ use Rattle.std.specs.Prelude.{codes, refl, ◌++◌, ◌∷◌, ◌≡◌, []}
 use Rattle.bk_tiling.proofs.ExampleTilings.{rectangle_33x32}
 use Rattle.bk_word.proofs.WordExamples.{word_33x32}
 use Rattle.bk_report.specs.ListLines.{alike_line, foreign_line, group_line, member_line, missing_line, pair_line, pairs_line, refused_line}
-use Rattle.bk_report.specs.ListLines.{repeats_line, verified_line}
+use Rattle.bk_report.specs.ListLines.{counts_in, faults, repeats_line, verified_line}
 use Rattle.bk_report.specs.declared.listing.Last.TheVariants.{End, Wide}
+use Rattle.bk_report.specs.declared.lists.ReportCounts.{ReportCounts}
 use Rattle.bk_report.specs.declared.refusal.Refused.TheVariants.{Gap, More}
 
 pub refused : refused_line 4 (Gap 2 15 16) ≡ codes "line 4 no gap 2 15 16" ++ 10 ∷ []
@@ -28,11 +29,20 @@ pub missing : missing_line rectangle_33x32 word_33x32 ≡ codes "missing 9 33x32
 unfolding digits
 missing = refl
 
-pub verified : verified_line End 9 2 1 1 1 1 [] ≡ codes "; end order 9 members 2 missing 1 foreign 1 repeated 1 refused 1" ++ 10 ∷ []
+abbrev five : ReportCounts
+five = record { members = 2; missing = 1; foreign = 1; repeated = 1; refused = 1 }
+
+pub read-in-order : counts_in (2 ∷ 1 ∷ 1 ∷ 1 ∷ 1 ∷ []) ≡ five
+read-in-order = refl
+
+pub four-faults : faults five ≡ 4
+four-faults = refl
+
+pub verified : verified_line End 9 five [] ≡ codes "; end order 9 members 2 missing 1 foreign 1 repeated 1 refused 1" ++ 10 ∷ []
 unfolding digits
 verified = refl
 
-pub verified_below : verified_line Wide 9 0 0 0 0 0 word_33x32
+pub verified_below : verified_line Wide 9 (counts_in (0 ∷ 0 ∷ 0 ∷ 0 ∷ 0 ∷ [])) word_33x32
     ≡ codes "; wide order 9 members 0 missing 0 foreign 0 repeated 0 refused 0 at 2u.2aa.2ue.2eue.1e" ++ 10 ∷ []
 unfolding digits
 verified_below = refl

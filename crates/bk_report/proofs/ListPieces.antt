@@ -37,27 +37,11 @@ pub pair_pieces : (first second size code : List ℕ)
     → ((((first ++ 32 ∷ []) ++ second) ++ 32 ∷ []) ++ spaced (size ∷ code ∷ [])) ++ 10 ∷ [] ≡ line (first ∷ second ∷ size ∷ code ∷ [])
 pair_pieces first second size code = simp append_assoc
 
--- the pieces of the counts of groups, items and refused lines, put together, make one comment line
-pub alike_pieces : (groups items refused : List ℕ)
-    → ((((((codes "; groups " ++ groups) ++ codes " items ") ++ items) ++ codes " refused ") ++ refused) ++ 10 ∷ [])
-    ≡ line (codes ";" ∷ codes "groups" ∷ groups ∷ codes "items" ∷ items ∷ codes "refused" ∷ refused ∷ [])
-alike_pieces groups items refused = simp append_assoc
-
--- the pieces of the counts of pairs, items and refused lines, put together, make one comment line
-pub pairs_pieces : (pairs items refused : List ℕ)
-    → ((((((codes "; pairs " ++ pairs) ++ codes " items ") ++ items) ++ codes " refused ") ++ refused) ++ 10 ∷ [])
-    ≡ line (codes ";" ∷ codes "pairs" ∷ pairs ∷ codes "items" ∷ items ∷ codes "refused" ∷ refused ∷ [])
-pairs_pieces pairs items refused = simp append_assoc
-
-to_the_right : (name order members missing foreign repeated refused wide : List ℕ)
-    → ((((((((((((((codes "; " ++ name) ++ codes " order ") ++ order) ++ codes " members ") ++ members) ++ codes " missing ") ++ missing)
-    ++ codes " foreign ") ++ foreign)
-    ++ codes " repeated ") ++ repeated) ++ codes " refused ") ++ refused) ++ wide) ++ 10 ∷ []
-    ≡ (codes ";" ++ ((32 ∷ name) ++ ((32 ∷ codes "order")
-    ++ ((32 ∷ order) ++ ((32 ∷ codes "members") ++ ((32 ∷ members) ++ ((32 ∷ codes "missing") ++ ((32 ∷ missing)
-    ++ ((32 ∷ codes "foreign") ++ ((32 ∷ foreign)
-    ++ ((32 ∷ codes "repeated") ++ ((32 ∷ repeated) ++ ((32 ∷ codes "refused") ++ ((32 ∷ refused) ++ wide)))))))))))))) ++ 10 ∷ []
-to_the_right name order members missing foreign repeated refused wide = simp append_assoc
+-- a name and the counts of what was gathered, of the items and of the refused lines, put together, are the name and a line
+pub gathered_pieces : (name count items refused : List ℕ)
+    → ((((((name ++ count) ++ codes " items ") ++ items) ++ codes " refused ") ++ refused) ++ 10 ∷ [])
+    ≡ name ++ line (count ∷ codes "items" ∷ items ∷ codes "refused" ∷ refused ∷ [])
+gathered_pieces name count items refused = simp append_assoc
 
 -- the pieces of a verified list's name, order and counts, put together, make its last line
 pub verified_pieces : (name order members missing foreign repeated refused : List ℕ) (wide : List (List ℕ))
@@ -71,3 +55,13 @@ verified_pieces name order members missing foreign repeated refused wide =
     ∙ ap (λ (l : List ℕ). l ++ 10 ∷ []) (blanks_before (codes ";")
     (name ∷ codes "order" ∷ order ∷ codes "members" ∷ members ∷ codes "missing" ∷ missing ∷ codes "foreign" ∷ foreign
     ∷ codes "repeated" ∷ repeated ∷ codes "refused" ∷ refused ∷ wide))
+  where
+    to_the_right : (name order members missing foreign repeated refused wide : List ℕ)
+        → ((((((((((((((codes "; " ++ name) ++ codes " order ") ++ order) ++ codes " members ") ++ members) ++ codes " missing ") ++ missing)
+        ++ codes " foreign ") ++ foreign)
+        ++ codes " repeated ") ++ repeated) ++ codes " refused ") ++ refused) ++ wide) ++ 10 ∷ []
+        ≡ (codes ";" ++ ((32 ∷ name) ++ ((32 ∷ codes "order")
+        ++ ((32 ∷ order) ++ ((32 ∷ codes "members") ++ ((32 ∷ members) ++ ((32 ∷ codes "missing") ++ ((32 ∷ missing)
+        ++ ((32 ∷ codes "foreign") ++ ((32 ∷ foreign)
+        ++ ((32 ∷ codes "repeated") ++ ((32 ∷ repeated) ++ ((32 ∷ codes "refused") ++ ((32 ∷ refused) ++ wide)))))))))))))) ++ 10 ∷ []
+    to_the_right name order members missing foreign repeated refused wide = simp append_assoc

@@ -7,14 +7,15 @@ use Rattle.bk_text.proofs.WhatWasRead.{read_is_line}
 use Rattle.bk_text.specs.CodeLine.{IsLine, Item}
 use Rattle.bk_word.proofs.WordExamples.{word_33x32}
 use Rattle.bk_word.specs.declared.Class.TheVariants.{Imperfect, Perfect}
-use Rattle.bk_report.specs.Listings.{entry_line, entry_text, last_line, word_line}
+use Rattle.bk_report.specs.Answers.{line}
+use Rattle.bk_report.specs.Listings.{entry_text, last_line, word_line}
 use Rattle.bk_report.specs.declared.listing.Last.TheVariants.{End, Limit, Wide}
 
 pub the_word : word_line word_33x32 ≡ codes "2u.2aa.2ue.2eue.1e" ++ 10 ∷ []
 unfolding digits
 the_word = refl
 
-pub the_entry : entry_line rectangle_33x32 word_33x32 ≡ codes "9 33x32 [18,15][7,8][14,4][10,1][9] ; 2u.2aa.2ue.2eue.1e" ++ 10 ∷ []
+pub the_entry : line (entry_text rectangle_33x32 word_33x32 ∷ []) ≡ codes "9 33x32 [18,15][7,8][14,4][10,1][9] ; 2u.2aa.2ue.2eue.1e" ++ 10 ∷ []
 unfolding digits
 the_entry = refl
 

@@ -11,11 +11,6 @@ pub entry_pieces : (front number size code word : List ℕ)
     ≡ front ++ spaced (number ∷ size ∷ code ∷ codes ";" ∷ word ∷ [])
 entry_pieces front number size code word = simp append_assoc
 
-to_the_right : (name order class listed wide : List ℕ)
-    → (((((((codes "; " ++ name) ++ codes " order ") ++ order) ++ class) ++ codes " listed ") ++ listed) ++ wide) ++ 10 ∷ []
-    ≡ (codes ";" ++ ((32 ∷ name) ++ ((32 ∷ codes "order") ++ ((32 ∷ order) ++ (class ++ ((32 ∷ codes "listed") ++ ((32 ∷ listed) ++ wide))))))) ++ 10 ∷ []
-to_the_right name order class listed wide = simp append_assoc
-
 -- the pieces of a listing's last line are its name, order, class, number of entries and wide words
 pub last_pieces : (name order listed : List ℕ) (class wide : List (List ℕ))
     → (((((((codes "; " ++ name) ++ codes " order ") ++ order) ++ flat_map (λ l. 32 ∷ l) class) ++ codes " listed ") ++ listed)
@@ -26,3 +21,8 @@ last_pieces name order listed class wide =
     ∙ ap (λ (l : List ℕ). (codes ";" ++ ((32 ∷ name) ++ ((32 ∷ codes "order") ++ ((32 ∷ order) ++ l)))) ++ 10 ∷ [])
     (sym (flat_map-append (λ (l : List ℕ). 32 ∷ l) class (codes "listed" ∷ listed ∷ wide)))
     ∙ ap (λ (l : List ℕ). l ++ 10 ∷ []) (blanks_before (codes ";") (name ∷ codes "order" ∷ order ∷ class ++ (codes "listed" ∷ listed ∷ wide)))
+  where
+    to_the_right : (name order class listed wide : List ℕ)
+        → (((((((codes "; " ++ name) ++ codes " order ") ++ order) ++ class) ++ codes " listed ") ++ listed) ++ wide) ++ 10 ∷ []
+        ≡ (codes ";" ++ ((32 ∷ name) ++ ((32 ∷ codes "order") ++ ((32 ∷ order) ++ (class ++ ((32 ∷ codes "listed") ++ ((32 ∷ listed) ++ wide))))))) ++ 10 ∷ []
+    to_the_right name order class listed wide = simp append_assoc

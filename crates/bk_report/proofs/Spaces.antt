@@ -56,11 +56,6 @@ pub flow_pieces : {A : Type 0} (f : A → List ℕ) (total : List ℕ) (xs : Lis
 flow_pieces f total xs =
     ap (λ (l : List ℕ). (total ++ l) ++ 10 ∷ []) (flat_map-blanks f xs) ∙ ap (λ (l : List ℕ). l ++ 10 ∷ []) (blanks_before total (map f xs))
 
-to_the_right : (nodes wires height sides numbers count : List ℕ)
-    → ((((((((nodes ++ wires) ++ codes " ; ") ++ height) ++ sides) ++ codes " ;") ++ numbers) ++ codes " ; ") ++ count) ++ 10 ∷ []
-    ≡ (nodes ++ (wires ++ (codes " ; " ++ (height ++ (sides ++ (codes " ;" ++ (numbers ++ (codes " ; " ++ count)))))))) ++ 10 ∷ []
-to_the_right nodes wires height sides numbers count = simp append_assoc
-
 -- a Smith diagram, `;`, pieces, `;` and a number: the pieces of a dual diagram, one after another
 pub dual_pieces : {A B C : Type 0} (f : A → List ℕ) (g : B → List ℕ) (h : C → List ℕ) (nodes height count : List ℕ) (xs : List A) (ys : List B) (zs : List C)
     → ((((((((nodes ++ flat_map (λ x. 32 ∷ f x) xs) ++ codes " ; ") ++ height) ++ flat_map (λ y. 32 ∷ g y) ys) ++ codes " ;")
@@ -80,6 +75,11 @@ dual_pieces f g h nodes height count xs ys zs =
     ∙ ap (λ (l : List ℕ). (nodes ++ (wires ++ (codes " ; " ++ (height ++ l)))) ++ 10 ∷ []) (flat_map-blanks_then_pieces g ys third)
     ∙ ap (λ (l : List ℕ). (nodes ++ l) ++ 10 ∷ []) (flat_map-blanks_then_pieces f xs second)
     ∙ ap (λ (l : List ℕ). l ++ 10 ∷ []) (blanks_before nodes (map f xs ++ second))
+  where
+    to_the_right : (nodes wires height sides numbers count : List ℕ)
+        → ((((((((nodes ++ wires) ++ codes " ; ") ++ height) ++ sides) ++ codes " ;") ++ numbers) ++ codes " ; ") ++ count) ++ 10 ∷ []
+        ≡ (nodes ++ (wires ++ (codes " ; " ++ (height ++ (sides ++ (codes " ;" ++ (numbers ++ (codes " ; " ++ count)))))))) ++ 10 ∷ []
+    to_the_right nodes wires height sides numbers count = simp append_assoc
 
 -- the number of a node, or of a square, has at most three digits
 pub short_node : (n : ℕ) → n ≤ 999 → length (decimal n) ≤ 3

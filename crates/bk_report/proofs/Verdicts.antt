@@ -50,6 +50,6 @@ one_part t (Some r) (Some s) tiling p q = ap Some (one_first_part t r s tiling p
 pub one_check_line : (t : Tiling) (line other : List ℕ) → IsTiling t → IsCheckLine t line → IsCheckLine t other → line ≡ other
 one_check_line t line other tiling p q =
     p.text
-    ∙ ap (λ (o : Option ℕ). verdict_line t o p.part) (one_side t p.repeated q.repeated p.verdicts.perfect q.verdicts.perfect)
-    ∙ ap (λ (o : Option Rectangle). verdict_line t q.repeated o) (one_part t p.part q.part tiling p.verdicts.simple q.verdicts.simple)
+    ∙ ap (λ (o : Option ℕ). verdict_line t o p.part) (one_side t p.repeated q.repeated p.perfect q.perfect)
+    ∙ ap (λ (o : Option Rectangle). verdict_line t q.repeated o) (one_part t p.part q.part tiling p.simple q.simple)
     ∙ sym q.text

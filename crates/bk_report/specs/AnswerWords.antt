@@ -18,10 +18,6 @@ imperfect_word = codes "imperfect"
 abbrev pub simple_word : List ℕ
 simple_word = codes "simple"
 
--- an item is refused for its text or its numbers
-abbrev pub no_word : List ℕ
-no_word = codes "no"
-
 -- a number would be too large
 abbrev pub wide_word : List ℕ
 wide_word = codes "wide"

@@ -34,22 +34,19 @@ simple_text None = simple_word
 simple_text (Some r) =
     spaced (codes "compound" ∷ (decimal r.x ++ codes "," ++ decimal r.y) ∷ size_text r.width r.height ∷ [])
 
--- the two verdicts on a tiling: the least side that occurs twice, and none where it is perfect; the first
--- rectangle that some of its squares form, and none where it is simple
-pub record AreVerdicts (t : Tiling) (repeated : Option ℕ) (part : Option Rectangle) : Type 0 where
-  pub perfect : MatchOption repeated (IsPerfect t) (IsLeastRepeated t)
-  pub simple : MatchOption part (IsSimple t) (IsFirstPart t)
-
--- the order, the size and the verdicts of a tiling as a line
+-- the order, the size and the two verdicts on a tiling as a line: a side that occurs twice, if there is one; and a
+-- rectangle that some of its squares form, if there is one
 abbrev pub verdict_line : Tiling → Option ℕ → Option Rectangle → List ℕ
 verdict_line t repeated part = line (ok_word ∷ decimal (order t) ∷ size_text t.width t.height
     ∷ perfect_text repeated ∷ simple_text part ∷ [])
 
--- check: the bytes are that line of a tiling
+-- check: the bytes are that line of a tiling. The side is the least one that occurs twice, and none where the tiling is
+-- perfect; the rectangle is the first one that some of its squares form, and none where it is simple
 pub record IsCheckLine (t : Tiling) (bytes : List ℕ) : Type 0 where
   pub repeated : Option ℕ
   pub part : Option Rectangle
-  pub verdicts : AreVerdicts t repeated part
+  pub perfect : MatchOption repeated (IsPerfect t) (IsLeastRepeated t)
+  pub simple : MatchOption part (IsSimple t) (IsFirstPart t)
   pub text : bytes ≡ verdict_line t repeated part
 
 -- canon, each line of images, and solve

@@ -1,15 +1,17 @@
 -- The texts about the lines of a list that is read: what is said of one line, and what stands after all of them.
--- Example (ListLineExamples): `line 2 repeats 1`.
-use Rattle.std.specs.Prelude.{List, [], codes, decimal, ℕ, ◌∷◌}
+-- Example (ListLineExamples): `line 2 repeats 1`. Of the counts 2, 1, 1, 1 and 1 three are of lines that are foreign,
+-- repeated and refused, and one member is missing, so there are four faults.
+use Rattle.std.specs.Prelude.{List, [], codes, decimal, slice_index, ℕ, ◌+◌, ◌∷◌}
 use Rattle.bk_tiling.specs.Tiling.{Tiling}
 use Rattle.bk_code.specs.Code.{code_of}
 use Rattle.bk_text.specs.CodeText.{code_text, size_text}
 use Rattle.bk_word.specs.Word.{Word}
 use Rattle.bk_report.specs.AnswerWords.{foreign_word, items_word, missing_word, order_word, refused_word, semicolon}
 use Rattle.bk_report.specs.Answers.{line}
-use Rattle.bk_report.specs.Listings.{entry_words, last_name, wide_words}
+use Rattle.bk_report.specs.Listings.{entry_text, last_name, wide_words}
 use Rattle.bk_report.specs.Refusals.{refusal_text}
 use Rattle.bk_report.specs.declared.listing.Last.{Last}
+use Rattle.bk_report.specs.declared.lists.ReportCounts.{ReportCounts}
 use Rattle.bk_report.specs.declared.refusal.Refused.{Refused}
 
 -- what is said of the line of a number
@@ -30,18 +32,33 @@ foreign_line number = about_line number (foreign_word ∷ [])
 
 -- a member of the catalogue that no line has, as an entry
 abbrev pub missing_line : Tiling → Word → List ℕ
-missing_line t w = line (missing_word ∷ entry_words t w)
+missing_line t w = line (missing_word ∷ entry_text t w ∷ [])
 
--- the last line of a list that was held against a catalogue: how that ended, the order, how many members the catalogue
--- has, how many are missing, how many lines are foreign, repeated and refused, and a wide word
-abbrev pub verified_line : Last → ℕ → ℕ → ℕ → ℕ → ℕ → ℕ → Word → List ℕ
-verified_line last n members missing foreign repeated refused w = line (semicolon ∷ last_name last
+-- the five counts in the order of the last line: how many members the catalogue has, how many are missing, and how many
+-- lines are foreign, repeated and refused
+abbrev pub counts_in : List ℕ → ReportCounts
+counts_in counts = record {
+  members = slice_index counts 0;
+  missing = slice_index counts 1;
+  foreign = slice_index counts 2;
+  repeated = slice_index counts 3;
+  refused = slice_index counts 4;
+}
+
+-- how many things a list has too few or too many, or wrong
+abbrev pub faults : ReportCounts → ℕ
+faults counts = counts.missing + counts.foreign + counts.repeated + counts.refused
+
+-- the last line of a list that was held against a catalogue: how that ended, the order, the five counts, and a wide
+-- word
+abbrev pub verified_line : Last → ℕ → ReportCounts → Word → List ℕ
+verified_line last n counts w = line (semicolon ∷ last_name last
     ∷ order_word ∷ decimal n
-    ∷ codes "members" ∷ decimal members
-    ∷ missing_word ∷ decimal missing
-    ∷ foreign_word ∷ decimal foreign
-    ∷ codes "repeated" ∷ decimal repeated
-    ∷ refused_word ∷ decimal refused ∷ wide_words last w)
+    ∷ codes "members" ∷ decimal counts.members
+    ∷ missing_word ∷ decimal counts.missing
+    ∷ foreign_word ∷ decimal counts.foreign
+    ∷ codes "repeated" ∷ decimal counts.repeated
+    ∷ refused_word ∷ decimal counts.refused ∷ wide_words last w)
 
 -- the size of a group and how many items it has
 abbrev pub group_line : ℕ → ℕ → ℕ → List ℕ

@@ -18,17 +18,9 @@ abbrev pub word_line : Word → List ℕ
 word_line w = line (word_text w ∷ [])
 
 -- an entry: the number of squares, the size, the code, and after a semicolon the word
-abbrev pub entry_words : Tiling → Word → List (List ℕ)
-entry_words t w =
-    decimal (order t) ∷ size_text t.width t.height ∷ code_text (code_of t) ∷ semicolon ∷ word_text w ∷ []
-
--- its text, with a blank between each two of these
 abbrev pub entry_text : Tiling → Word → List ℕ
-entry_text t w = spaced (entry_words t w)
-
--- the text of an entry as a line
-abbrev pub entry_line : Tiling → Word → List ℕ
-entry_line t w = entry_text t w ++ 10 ∷ []
+entry_text t w =
+    spaced (decimal (order t) ∷ size_text t.width t.height ∷ code_text (code_of t) ∷ semicolon ∷ word_text w ∷ [])
 
 -- how a listing ended, in one word
 abbrev pub last_name : Last → List ℕ

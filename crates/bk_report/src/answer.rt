@@ -5,7 +5,6 @@ ghost use Rattle.arrayvec.specs.ArrayVec.{array_vec_len};
 ghost use Rattle.bk_code.specs.Code.{code_of};
 ghost use Rattle.bk_simple.specs.Border.{rectangle_of};
 ghost use Rattle.bk_text.specs.CodeText.{code_text, size_text};
-ghost use Rattle.bk_report.specs.CheckLineLaw.{ATilingHasOneCheckLine};
 ghost use Rattle.bk_report.specs.Answers.{IsCheckLine, perfect_text, simple_text, spaced, tiling_line, verdict_line};
 
 use crate::trial::push_named;
@@ -56,11 +55,6 @@ pub(crate) fn push_code(tiling: &Tiling, out: &mut AnswerBuffer)
     prove!(0 < order);
     write_code(&code_of(tiling), out);
 }
-
-/// A tiling has one line of `check`.
-pub fn a_tiling_has_one_check_line()
-    ensures { ATilingHasOneCheckLine }
-{}
 
 // Appends the order, the size and the verdicts of a tiling as a line.
 fn push_verdicts(

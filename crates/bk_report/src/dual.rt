@@ -2,6 +2,7 @@
 
 ghost use Rattle.std.specs.Prelude.{All, decimal, flat_map, length, ◌+◌, ◌++◌, ◌*◌, ◌≡◌, ◌≤◌, ◌∷◌};
 ghost use Rattle.arrayvec.specs.ArrayVec.{array_vec_len};
+ghost use Rattle.bk_tiling.specs.declared.TheConstants.{MOST_SQUARES};
 ghost use Rattle.bk_report.specs.Answers.{dual_line};
 
 use crate::net::{push_net, push_node, push_sides};
@@ -30,7 +31,7 @@ pub fn write_dual(tiling: &Tiling, out: &mut AnswerBuffer)
 
 // Appends the numbers with a blank before each.
 fn push_places(numbers: &[u16], out: &mut AnswerBuffer)
-    requires few { length numbers.now ≤ 200 }
+    requires few { length numbers.now ≤ MOST_SQUARES }
     requires small { All (λ n. n ≤ 999) numbers.now }
     requires room { array_vec_len out.old ≤ 7000 }
     ensures text { out.new.items ≡ out.old.items ++ flat_map (λ n. 32 ∷ decimal n) numbers.now }

@@ -3,6 +3,7 @@
 ghost use Rattle.std.specs.Fmt.{signed_decimal};
 ghost use Rattle.std.specs.Prelude.{flat_map, length, ◌+◌, ◌++◌, ◌≡◌, ◌≤◌, ◌∷◌};
 ghost use Rattle.arrayvec.specs.ArrayVec.{array_vec_len};
+ghost use Rattle.bk_net.specs.declared.TheConstants.{MOST_WIRES};
 ghost use Rattle.bk_report.specs.Answers.{flow_line};
 
 use bk_flow::Flow;
@@ -22,7 +23,7 @@ pub fn write_flow(flow: &Flow, out: &mut AnswerBuffer)
 
 // Appends currents with a blank before each.
 fn push_currents(currents: &[i128], out: &mut AnswerBuffer)
-    requires few { length currents.now ≤ 200 }
+    requires few { length currents.now ≤ MOST_WIRES }
     requires room { array_vec_len out.old ≤ 40 }
     ensures text { out.new.items ≡ out.old.items ++ flat_map (λ c. 32 ∷ signed_decimal c) currents.now }
     ensures short { array_vec_len out.new ≤ array_vec_len out.old + 8200 }

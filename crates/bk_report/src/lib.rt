@@ -5,6 +5,7 @@
 mod answer;
 mod dual;
 mod flow;
+mod laws;
 mod listing;
 mod lists;
 mod net;
@@ -12,15 +13,16 @@ mod refusal;
 mod trial;
 mod word;
 
-pub use answer::{a_tiling_has_one_check_line, write_check, write_tiling};
+pub use answer::{write_check, write_tiling};
 pub use dual::write_dual;
 pub use flow::write_flow;
-pub use listing::{Last, a_written_entry_is_read, write_entry, write_last};
+pub use laws::{a_tiling_has_one_check_line, a_written_entry_is_read};
+pub use listing::{Last, write_entry, write_last};
 pub use lists::{
-    write_alike, write_foreign, write_group, write_line_refused, write_member, write_missing,
-    write_pair, write_pairs, write_repeats, write_verified,
+    ReportCounts, write_alike, write_foreign, write_group, write_line_refused, write_member,
+    write_missing, write_pair, write_pairs, write_repeats, write_verified,
 };
 pub use net::write_net;
 pub use refusal::{Refused, write_refused};
-pub use trial::write_trial;
+pub use trial::{TrialCounts, write_trial};
 pub use word::write_word_line;

@@ -1,11 +1,10 @@
 //! The lines of listings.
 
-ghost use Rattle.std.specs.Prelude.{flat_map, length, ◌+◌, ◌++◌, ◌<◌, ◌∷◌, ◌≡◌, ◌≤◌};
+ghost use Rattle.std.specs.Prelude.{[], flat_map, length, ◌+◌, ◌++◌, ◌<◌, ◌∷◌, ◌≡◌, ◌≤◌};
 ghost use Rattle.arrayvec.specs.ArrayVec.{array_vec_len};
 ghost use Rattle.bk_code.specs.Code.{code_of};
-ghost use Rattle.bk_report.specs.Answers.{spaced};
-ghost use Rattle.bk_report.specs.EntryLaws.{AWrittenEntryIsRead};
-ghost use Rattle.bk_report.specs.Listings.{class_words, entry_line, entry_words, last_line, last_name, wide_words};
+ghost use Rattle.bk_report.specs.Answers.{line};
+ghost use Rattle.bk_report.specs.Listings.{class_words, entry_text, last_line, last_name, wide_words};
 
 use crate::answer::push_tiling;
 use crate::trial::push_named;
@@ -30,7 +29,7 @@ pub enum Last {
 pub fn write_entry(tiling: &Tiling, code: &Code, word: &Word, out: &mut AnswerBuffer)
     requires code { code.now ≡ code_of tiling.now }
     requires some { 0 < length word.now }
-    ensures { out.new.items ≡ entry_line tiling.now word.now }
+    ensures { out.new.items ≡ line (entry_text tiling.now word.now ∷ []) }
 {
     out.clear();
     push_entry(tiling, code, word, out);
@@ -42,7 +41,7 @@ pub(crate) fn push_entry(tiling: &Tiling, code: &Code, word: &Word, out: &mut An
     requires code { code.now ≡ code_of tiling.now }
     requires some { 0 < length word.now }
     requires room { array_vec_len out.old ≤ 4000 }
-    ensures text { out.new.items ≡ out.old.items ++ spaced (entry_words tiling.now word.now) }
+    ensures text { out.new.items ≡ out.old.items ++ entry_text tiling.now word.now }
     ensures short { array_vec_len out.new ≤ array_vec_len out.old + 4600 }
 {
     push_number(tiling.order() as u64, out);
@@ -51,12 +50,6 @@ pub(crate) fn push_entry(tiling: &Tiling, code: &Code, word: &Word, out: &mut An
     push_bytes(b" ; ", out);
     write_word(word, out);
 }
-
-/// The entry of a tiling is in the grammar of lines of codes (`bk_text`), and stands for the order, the size and the
-/// code of the tiling. So what is written of an entry is read again.
-pub fn a_written_entry_is_read()
-    ensures { AWrittenEntryIsRead }
-{}
 
 /// Writes the last line of a listing: `; end`, `; limit` or `; wide`, the order, the class unless that is the perfect
 /// one, how many entries were listed, and for `wide` the word at which it ended. That word must then have a move.

@@ -1,10 +1,11 @@
 //! The lines about a list that is read.
 
-ghost use Rattle.std.specs.Prelude.{length, slice_index, ◌<◌, ◌≡◌};
+ghost use Rattle.std.specs.Prelude.{IsTrue, [], decimal, length, ◌++◌, ◌<◌, ◌∷◌, ◌≡◌, ◌≤◌, ◌↔◌};
+ghost use Rattle.bk_report.specs.AnswerWords.{items_word, refused_word};
+ghost use Rattle.bk_report.specs.Answers.{line};
 ghost use Rattle.bk_report.specs.ListLines.{alike_line, foreign_line, group_line, member_line, missing_line, pair_line};
-ghost use Rattle.bk_report.specs.ListLines.{pairs_line, refused_line};
+ghost use Rattle.bk_report.specs.ListLines.{counts_in, faults, pairs_line, refused_line, repeats_line, verified_line};
 ghost use Rattle.bk_code.specs.Code.{code_of};
-ghost use Rattle.bk_report.specs.ListLines.{repeats_line, verified_line};
 
 use crate::answer::{push_code, push_tiling};
 use crate::listing::{Last, push_entry, push_name, push_wide};
@@ -59,24 +60,64 @@ pub fn write_missing(tiling: &Tiling, code: &Code, word: &Word, out: &mut Answer
     out.push(b'\n');
 }
 
+/// What is counted of a list that is held against a catalogue.
+#[derive(Clone, Copy)]
+pub struct ReportCounts {
+    /// How many members the catalogue has.
+    pub members: u64,
+    /// How many of them are missing.
+    pub missing: u64,
+    /// How many lines have no member of the catalogue.
+    pub foreign: u64,
+    /// How many lines repeat an earlier one.
+    pub repeated: u64,
+    /// How many lines are refused.
+    pub refused: u64,
+}
+
+impl ReportCounts {
+    /// The five counts in the order in which the last line has them.
+    pub fn in_order(&self) -> [u64; 5]
+        ensures { counts_in result ≡ self.now }
+    {
+        [
+            self.members,
+            self.missing,
+            self.foreign,
+            self.repeated,
+            self.refused,
+        ]
+    }
+
+    /// Whether something is missing, foreign, repeated or refused.
+    pub fn has_fault(&self) -> bool
+        ensures { IsTrue result ↔ 0 < faults self.now }
+    {
+        if self.missing > 0 || self.foreign > 0 {
+            return true;
+        }
+        self.repeated > 0 || self.refused > 0
+    }
+}
+
 /// Writes the last line of a list that was held against a catalogue: how that ended, which is never at a limit, the
 /// order, five counts, and for `wide` the word at which it ended. The counts are how many members there are, how many
 /// of them are missing, and how many lines are foreign, repeated and refused. That word must then have a move.
 pub fn write_verified(last: Last, order: u8, counts: [u64; 5], word: &Word, out: &mut AnswerBuffer)
     requires ended { last ≡ Last.Limit → ⊥ }
     requires some { last ≡ Last.Wide → 0 < length word.now }
-    ensures { let count = slice_index counts in
-        out.new.items ≡ verified_line last order (count 0) (count 1) (count 2) (count 3) (count 4) word.now }
+    ensures { out.new.items ≡ verified_line last order (counts_in counts) word.now }
 {
+    let [members, missing, foreign, repeated, refused] = counts;
     out.clear();
     push_bytes(b"; ", out);
     push_name(last, out);
     push_named(b" order ", u64::from(order), out);
-    push_named(b" members ", counts[0], out);
-    push_named(b" missing ", counts[1], out);
-    push_named(b" foreign ", counts[2], out);
-    push_named(b" repeated ", counts[3], out);
-    push_named(b" refused ", counts[4], out);
+    push_named(b" members ", members, out);
+    push_named(b" missing ", missing, out);
+    push_named(b" foreign ", foreign, out);
+    push_named(b" repeated ", repeated, out);
+    push_named(b" refused ", refused, out);
     push_wide(last, word, out);
     out.push(b'\n');
 }
@@ -118,19 +159,24 @@ pub fn write_pair(first: u64, second: u64, tiling: &Tiling, out: &mut AnswerBuff
 pub fn write_alike(groups: u64, items: u64, refused: u64, out: &mut AnswerBuffer)
     ensures { out.new.items ≡ alike_line groups items refused }
 {
-    out.clear();
-    push_named(b"; groups ", groups, out);
-    push_named(b" items ", items, out);
-    push_named(b" refused ", refused, out);
-    out.push(b'\n');
+    write_gathered(b"; groups ", groups, items, refused, out);
 }
 
 /// Writes the last line behind pairs: how many pairs and items there are, and how many lines were refused.
 pub fn write_pairs(pairs: u64, items: u64, refused: u64, out: &mut AnswerBuffer)
     ensures { out.new.items ≡ pairs_line pairs items refused }
 {
+    write_gathered(b"; pairs ", pairs, items, refused, out);
+}
+
+// Writes a name and a count, and then how many items there are and how many lines were refused.
+fn write_gathered(name: &[u8], count: u64, items: u64, refused: u64, out: &mut AnswerBuffer)
+    requires { length name.now ≤ 20 }
+    ensures { out.new.items ≡ name.now
+        ++ line (decimal count ∷ items_word ∷ decimal items ∷ refused_word ∷ decimal refused ∷ []) }
+{
     out.clear();
-    push_named(b"; pairs ", pairs, out);
+    push_named(name, count, out);
     push_named(b" items ", items, out);
     push_named(b" refused ", refused, out);
     out.push(b'\n');

@@ -6,6 +6,19 @@ ghost use Rattle.bk_report.specs.Trial.{trial_line};
 
 use bk_grammar::{AnswerBuffer, push_bytes, push_number};
 
+/// What is counted of trial codes.
+#[derive(Clone, Copy)]
+pub struct TrialCounts {
+    /// How many of them are accepted.
+    pub accepted: u64,
+    /// How many of their tilings are perfect.
+    pub perfect: u64,
+    /// How many of their tilings are simple.
+    pub simple: u64,
+    /// How many squares their tilings have together.
+    pub squares: u64,
+}
+
 /// Writes a line about `count` trial codes of a seed: how many of them were accepted, how many were perfect and how
 /// many simple (Brooks, Smith, Stone and Tutte 1940), and how many squares they had together.
 pub fn write_trial(
@@ -17,7 +30,8 @@ pub fn write_trial(
     squares: u64,
     out: &mut AnswerBuffer,
 )
-    ensures { out.new.items ≡ trial_line seed count ok perfect simple squares }
+    ensures { out.new.items
+        ≡ trial_line seed count (record { accepted = ok; perfect = perfect; simple = simple; squares = squares }) }
 {
     out.clear();
     push_named(b"trial seed ", seed, out);

@@ -386,3 +386,34 @@ fn with_equations<L: Ledger>(rt: &impl Abort, alloc: Global, blank: Blank)
 fn equations_lose_no_member(rt: HostRuntime) {
     with_equations::<Brand>(&rt, rt.alloc(), Blank::new(1));
 }
+
+// The number of perfect members of order 16.
+const PERFECT_OF_16: usize = 9_016;
+
+// How many members a walk gives, or the most that a table has room for.
+fn count_members<L: Ledger>(walk: &mut Walk, steps: &mut Steps<L>) -> usize {
+    for count in 0..MOST_MEMBERS {
+        if is_over(walk, steps) {
+            return count;
+        }
+    }
+    MOST_MEMBERS
+}
+
+// A whole walk of order 16 gives all its members, and pushes few moves for each. It makes one table: one that made a
+// table at each call would search as often as there are members, and would take many times as long as a test may.
+fn whole_order_16<L: Ledger>(rt: &impl Abort, alloc: Global, blank: Blank)
+    requires name { blank.name ≡ L.name }
+    requires parts { blank.parts ≡ L.parts }
+    requires some { 0 < L.parts }
+{
+    let mut steps: Steps<L> = Steps::new(blank);
+    let mut walk = walk_from(rt, alloc, 16, Class::Perfect, None);
+    assert!(rt; count_members(&mut walk, &mut steps) == PERFECT_OF_16);
+    assert!(rt; walk.pushes() <= 128 + 16 * PERFECT_OF_16 as u64);
+}
+
+#[test]
+fn lists_all_of_order_16(rt: HostRuntime) {
+    whole_order_16::<Brand>(&rt, rt.alloc(), Blank::new(1));
+}

@@ -84,6 +84,15 @@ impl<T: Copy, const N: usize> Short<T, N> {
         self.len += 1;
     }
 
+    /// Takes the last item away. There must be one.
+    #[inline]
+    pub fn pop(&mut self)
+        requires { 0 < length self.old.items }
+        ensures { self.new.items ≡ take (length self.old.items - 1) self.old.items }
+    {
+        self.len -= 1;
+    }
+
     /// Appends the items of another list. There must be room for all its places, which are copied whatever its length
     /// is.
     #[inline(always)]

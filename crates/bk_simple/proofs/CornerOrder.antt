@@ -14,7 +14,7 @@ use Rattle.bk_simple.specs.Simple.{IsPart, bottom_right, top_left}
 use Rattle.bk_simple.specs.CornerSquares.{IsBetween}
 use Rattle.bk_simple.proofs.UncutParts.{inside_means, one_over, side_at, within_at}
 use Rattle.bk_simple.proofs.PartCorners.{covers_first}
-use Rattle.bk_simple.proofs.Parts.{across, between_corners, bottom_right_below, count_of_part, top_left_below}
+use Rattle.bk_simple.proofs.Parts.{between_corners, bottom_right_below, count_of_part, no_square_across_part, top_left_below}
 
 module _ (t : Tiling) (r : Rectangle) (tiling : IsTiling t) (part : IsPart t r) where
   abbrev none : Square
@@ -37,12 +37,13 @@ module _ (t : Tiling) (r : Rectangle) (tiling : IsTiling t) (part : IsPart t r) 
       corners = between_corners t r tiling part none
 
       inside : is_inside r q ≡ true
-      inside = true_from_ne_false (is_inside r q) (λ cut. across t r tiling part (bottom_right t r) none (bottom_right_below t r tiling part) cut (record {
-        left = omega (arith, corners.right, corners.wide);
-        right = omega (arith, corners.right, side_at t tiling (bottom_right t r) none (bottom_right_below t r tiling part));
-        top = omega (arith, corners.bottom, corners.high);
-        bottom = omega (arith, corners.bottom, side_at t tiling (bottom_right t r) none (bottom_right_below t r tiling part));
-      }))
+      inside = true_from_ne_false (is_inside r q) (λ cut. no_square_across_part t r tiling part (bottom_right t r) none
+          (bottom_right_below t r tiling part) cut (record {
+            left = omega (arith, corners.right, corners.wide);
+            right = omega (arith, corners.right, side_at t tiling (bottom_right t r) none (bottom_right_below t r tiling part));
+            top = omega (arith, corners.bottom, corners.high);
+            bottom = omega (arith, corners.bottom, side_at t tiling (bottom_right t r) none (bottom_right_below t r tiling part));
+          }))
 
       not_before : comes_before q p ≡ true → ⊥
       not_before e = let within = inside_means r q inside in grind (arith, nat_tests, e, within.left, within.top, corners.left, corners.top)

@@ -4,6 +4,7 @@ pub mod SimpleExamples
 pub mod Counting
 pub mod TwoParts
 pub mod UncutParts
+pub mod KeptEdges
 pub mod PartCorners
 pub mod Parts
 pub mod CornerOrder

@@ -9,7 +9,7 @@ use Rattle.bk_simple.specs.Border.{IsUncut, is_inside}
 use Rattle.bk_simple.specs.Simple.{IsFirstPart, IsPart, IsSimple, bottom_right, top_left}
 use Rattle.bk_simple.specs.CornerSquares.{IsBetween, IsFirstPartFrom, IsHeldBetween, IsPartAt}
 use Rattle.bk_simple.specs.Reach.{NoneHigher, NoneWider}
-use Rattle.bk_simple.proofs.Parts.{across, between_corners, bottom_right_below, count_of_part, top_left_below, uncut_part}
+use Rattle.bk_simple.proofs.Parts.{between_corners, bottom_right_below, count_of_part, no_square_across_part, top_left_below, uncut_part}
 use Rattle.bk_simple.proofs.PartCorners.{between-one, bottom_right_at, top_left_at}
 use Rattle.bk_simple.proofs.UncutParts.{inside_means, part_from_count, side_at, within_at}
 use Rattle.bk_simple.proofs.CornerOrder.{corners_apart}
@@ -45,7 +45,7 @@ module _ (t : Tiling) (tiling : IsTiling t) (i j : ℕ) (d : Square) where
       holds_first =
           let side = side_at t tiling i d first in
           inside_means r (get_or t.squares i d) (true_from_ne_false (is_inside r (get_or t.squares i d))
-          (λ cut. across t r tiling p.part i d first cut (record {
+          (λ cut. no_square_across_part t r tiling p.part i d first cut (record {
             left = omega (arith, c.left, side);
             right = omega (arith, c.left, c.wide);
             top = omega (arith, c.top, side);
@@ -55,7 +55,8 @@ module _ (t : Tiling) (tiling : IsTiling t) (i j : ℕ) (d : Square) where
       holds_last : IsWithin r (get_or t.squares j d)
       holds_last =
           let side = side_at t tiling j d last in
-          inside_means r (get_or t.squares j d) (true_from_ne_false (is_inside r (get_or t.squares j d)) (λ cut. across t r tiling p.part j d last cut (record {
+          inside_means r (get_or t.squares j d) (true_from_ne_false (is_inside r (get_or t.squares j d))
+          (λ cut. no_square_across_part t r tiling p.part j d last cut (record {
             left = omega (arith, c.right, c.wide);
             right = omega (arith, c.right, side);
             top = omega (arith, c.bottom, c.high);

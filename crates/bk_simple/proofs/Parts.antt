@@ -72,8 +72,8 @@ module _ (t : Tiling) (r : Rectangle) (tiling : IsTiling t) (part : IsPart t r) 
   count_of_part = sym (length-filter (is_inside r) t.squares) ∙ sym (ap length (same_selection t r tiling part))
 
   -- a square that shares a cell with a part lies in it
-  pub across : (k : ℕ) (d : Square) → k < length t.squares → is_inside r (get_or t.squares k d) ≡ false → Meets r (get_or t.squares k d) → ⊥
-  across k d few cut m =
+  pub no_square_across_part : (k : ℕ) (d : Square) → k < length t.squares → is_inside r (get_or t.squares k d) ≡ false → Meets r (get_or t.squares k d) → ⊥
+  no_square_across_part k d few cut m =
       let q : Square = get_or t.squares k d in
       let w : IsWithin (whole t) q = within_at t tiling k d few in
       let some : 0 < q.s = side_at t tiling k d few in
@@ -102,4 +102,4 @@ module _ (t : Tiling) (r : Rectangle) (tiling : IsTiling t) (part : IsPart t r) 
           → is_inside r (get_or t.squares k d) || is_outside r (get_or t.squares k d) ≡ true
       each k d few (inl h) other = or_left _ _ h
       each k d few (inr h) (inl o) = or_right _ _ o
-      each k d few (inr h) (inr o) = absurd (across k d few h (meets_from r (get_or t.squares k d) o))
+      each k d few (inr h) (inr o) = absurd (no_square_across_part k d few h (meets_from r (get_or t.squares k d) o))

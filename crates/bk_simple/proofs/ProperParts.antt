@@ -15,7 +15,7 @@ use Rattle.bk_simple.specs.Simple.{IsPart, IsPerfect, IsSimple, bottom_right, to
 use Rattle.bk_simple.specs.LargeParts.{HasNoLargePart}
 use Rattle.bk_simple.proofs.CornerOrder.{corners_apart}
 use Rattle.bk_simple.proofs.PartCorners.{covers_first}
-use Rattle.bk_simple.proofs.Parts.{across, between_corners, bottom_right_below, top_left_below, uncut_part}
+use Rattle.bk_simple.proofs.Parts.{between_corners, bottom_right_below, no_square_across_part, top_left_below, uncut_part}
 use Rattle.bk_simple.proofs.UncutParts.{Meets, inside_from, inside_means, one_over, outside_means, part_from_count, side_at, within_at}
 
 -- not all are counted where one isn't
@@ -72,7 +72,7 @@ module _ (t : Tiling) (tiling : IsTiling t) where
   -- a square of a tiling that meets a part lies in it
   pub lies_within : (r : Rectangle) → IsPart t r → (k : ℕ) → k < length t.squares → Meets r (at k) → IsWithin r (at k)
   lies_within r part k few meets =
-      inside_means r (at k) (true_from_ne_false (is_inside r (at k)) (λ cut. across t r tiling part k none few cut meets))
+      inside_means r (at k) (true_from_ne_false (is_inside r (at k)) (λ cut. no_square_across_part t r tiling part k none few cut meets))
 
   -- so does one over a cell of it
   pub over_within : (r : Rectangle) → IsPart t r → (c j k : ℕ) → k < length t.squares → covers c j (at k) ≡ true
@@ -94,8 +94,8 @@ module _ (t : Tiling) (tiling : IsTiling t) where
     pub high : 0 < r.height
 
   -- a part lies within the rectangle and has a cell
-  pub bounded : (r : Rectangle) → IsPart t r → IsBounded r
-  bounded r part =
+  pub part_is_bounded : (r : Rectangle) → IsPart t r → IsBounded r
+  part_is_bounded r part =
       let c = between_corners t r tiling part none in
       let last = within_at t tiling (bottom_right t r) none (bottom_right_below t r tiling part) in
       record { right = omega (arith, c.right, last.right); bottom = omega (arith, c.bottom, last.bottom); wide = c.wide; high = c.high }
@@ -109,10 +109,10 @@ module _ (t : Tiling) (tiling : IsTiling t) where
     pub side : 0 < (at (top_left t r)).s
 
   -- the square at the top left of a part begins at its corner and lies in it
-  pub corner : (r : Rectangle) → IsPart t r → IsCorner r
-  corner r part =
+  pub part_has_corner : (r : Rectangle) → IsPart t r → IsCorner r
+  part_has_corner r part =
       let c = between_corners t r tiling part none in
-      let b = bounded r part in
+      let b = part_is_bounded r part in
       let few = top_left_below t r tiling part in
       let s = side_at t tiling (top_left t r) none few in
       record {
@@ -169,7 +169,7 @@ module _ (t : Tiling) (tiling : IsTiling t) where
   first_not_inside r u part rests = false_from_ne_true _ (λ e. apart (inside_means u (at (top_left t r)) e) (outside_means u (at (top_left t r)) rests.apart))
     where
       c : IsCorner r
-      c = corner r part
+      c = part_has_corner r part
 
       apart : IsWithin u (at (top_left t r)) → (((at (top_left t r)).x + (at (top_left t r)).s ≤ u.x) ⊎ (u.x + u.width ≤ (at (top_left t r)).x))
           ⊎ (((at (top_left t r)).y + (at (top_left t r)).s ≤ u.y) ⊎ (u.y + u.height ≤ (at (top_left t r)).y)) → ⊥
@@ -183,10 +183,10 @@ module _ (t : Tiling) (tiling : IsTiling t) where
   rest_is_part r u part rests k l apart few low one other =
       part_from_count t tiling u (omega (arith, b.right, rests.right)) (omega (arith, b.bottom, rests.bottom)) (rest_uncut r u part rests)
       (several (cases_lt k l))
-      (counts_not_all (is_inside u) t.squares (top_left t r) none (corner r part).below (first_not_inside r u part rests))
+      (counts_not_all (is_inside u) t.squares (top_left t r) none (part_has_corner r part).below (first_not_inside r u part rests))
     where
       b : IsBounded r
-      b = bounded r part
+      b = part_is_bounded r part
 
       several : (k < l) ⊎ (l ≤ k) → 2 ≤ count_by (is_inside u) t.squares
       several (inl h) = count_two (is_inside u) t.squares k l none h low one other
@@ -214,10 +214,10 @@ module _ (t : Tiling) (tiling : IsTiling t) where
     p = at (top_left t r)
 
     own : IsCorner r
-    own = corner r part
+    own = part_has_corner r part
 
     b : IsBounded r
-    b = bounded r part
+    b = part_is_bounded r part
 
     -- another square of the part shares no cell with the first
     apart_from : (k : ℕ) → k < length t.squares → (k ≡ top_left t r → ⊥) → IsWithin r (at k) → (at k).x < p.x + p.s → (at k).y < p.y + p.s → ⊥

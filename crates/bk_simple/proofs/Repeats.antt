@@ -110,4 +110,8 @@ module _ (t : Tiling) (sides : List ℕ) (same : IsPermutation (sides_of t) side
   -- nothing is found among the ascending sides exactly if the tiling is perfect
   pub none_if_perfect : (r : Option ℕ) → IfNone r (NoneTwice sides (length sides)) → IfSome r (IsFirstTwice sides) → IsNone r ↔ IsPerfect t
   none_if_perfect None none first = ((λ _. perfect_from_none t sides same sorted none), (λ _. refl))
-  none_if_perfect (Some side) none first = ((λ e. cc), (λ perfect. absurd (imperfect t side (least_from_first t sides same sorted side first).0 perfect)))
+  none_if_perfect (Some side) none first = (
+    (λ e. cc),
+    (λ perfect. absurd (imperfect t side
+        (least_from_first t sides same sorted side first).0 perfect)),
+  )

@@ -15,7 +15,7 @@ use Rattle.bk_tiling.specs.declared.Square.{Square}
 use Rattle.bk_simple.specs.Border.{is_inside}
 use Rattle.bk_simple.specs.CornerSquares.{IsBetween}
 use Rattle.bk_simple.specs.Simple.{IsPart, bottom_right, top_left}
-use Rattle.bk_simple.proofs.Parts.{across, between_corners, bottom_right_below, count_of_part, top_left_below}
+use Rattle.bk_simple.proofs.Parts.{between_corners, bottom_right_below, count_of_part, no_square_across_part, top_left_below}
 use Rattle.bk_simple.proofs.Seams.{IsRunTo}
 use Rattle.bk_simple.proofs.UncutParts.{Meets, inside_from, inside_means, one_over, side_at, within_at}
 
@@ -105,7 +105,7 @@ module _ (t : Tiling) (tiling : IsTiling t) (d : Square) where
 
     -- a square that meets it lies in it
     pub lies : (k : ℕ) → k < length t.squares → Meets p (at k) → IsWithin p (at k)
-    lies k few meets = inside_means p (at k) (true_from_ne_false (is_inside p (at k)) (λ cut. across t p tiling u.part k d few cut meets))
+    lies k few meets = inside_means p (at k) (true_from_ne_false (is_inside p (at k)) (λ cut. no_square_across_part t p tiling u.part k d few cut meets))
 
     -- and stands no earlier than the first
     no_earlier : (m : ℕ) → m < length t.squares → IsWithin p (at m) → i ≤ m

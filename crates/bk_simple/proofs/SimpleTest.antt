@@ -55,8 +55,8 @@ rectangle-same : (a b : Rectangle) → a.x ≡ b.x → a.y ≡ b.y → a.width �
 rectangle-same a b ex ey ew eh = λ i. record { x = ex i; y = ey i; width = ew i; height = eh i }
 
 -- the rectangle from the top left corner of the first square to the bottom right corner of the second
-abbrev pub between : Square → Square → Rectangle
-between p q = record { x = p.x; y = p.y; width = q.x + q.s - p.x; height = q.y + q.s - p.y }
+abbrev pub rectangle_between : Square → Square → Rectangle
+rectangle_between p q = record { x = p.x; y = p.y; width = q.x + q.s - p.x; height = q.y + q.s - p.y }
 
 -- some rectangle from the top left corner of one square to the bottom right corner of another is a part
 abbrev pub part_test : Tiling → Rectangle → Bool
@@ -65,7 +65,7 @@ part_test t r = (nat_le 2 (length (filter (within_test r) t.squares)) && nat_lt 
 
 -- no such rectangle is a part
 abbrev pub simple_test : Tiling → Bool
-simple_test t = list_all (λ p. list_all (λ q. not (part_test t (between p q))) t.squares) t.squares
+simple_test t = list_all (λ p. list_all (λ q. not (part_test t (rectangle_between p q))) t.squares) t.squares
 
 -- the cell lies in a square that is covered
 covers_cell : (q : Square) (i j : ℕ) → IsTrue (covers i j q) → (q.x ≤ i) × (i < q.x + q.s) × (q.y ≤ j) × (j < q.y + q.s)
@@ -120,7 +120,7 @@ module _ (t : Tiling) (r : Rectangle) (tiling : IsTiling t) (part : IsPart t r) 
       (let one = part.tiled.once (r.x + r.width - 1) (r.y + r.height - 1) (omega (arith, has_cell.0)) (omega (arith, has_cell.0))
       (omega (arith, has_cell.1)) (omega (arith, has_cell.1)) in omega (arith, one))
 
-  corners : between (at first_corner.0) (at last_corner.0) ≡ r
+  corners : rectangle_between (at first_corner.0) (at last_corner.0) ≡ r
   corners =
       let p = selected_within first_corner.0 first_corner.1 first_corner.2 in
       let q = selected_within last_corner.0 last_corner.1 last_corner.2 in
@@ -131,8 +131,9 @@ module _ (t : Tiling) (r : Rectangle) (tiling : IsTiling t) (part : IsPart t r) 
 
   no_part : IsTrue (simple_test t) → ⊥
   no_part test =
-      let outer = list_all-get_or (λ p. list_all (λ q. not (part_test t (between p q))) t.squares) t.squares first_corner.0 none test first_corner.1 in
-      let inner = list_all-get_or (λ q. not (part_test t (between (at first_corner.0) q))) t.squares last_corner.0 none outer last_corner.1 in
+      let outer = list_all-get_or (λ p. list_all (λ q. not (part_test t
+      (rectangle_between p q))) t.squares) t.squares first_corner.0 none test first_corner.1 in
+      let inner = list_all-get_or (λ q. not (part_test t (rectangle_between (at first_corner.0) q))) t.squares last_corner.0 none outer last_corner.1 in
       let fails : part_test t r ≡ false = subst (λ s. part_test t s ≡ false) corners (not-true _ inner) in
       both_ways (part_test t r) fails part_passes
 

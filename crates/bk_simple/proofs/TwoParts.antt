@@ -10,28 +10,28 @@ use Rattle.bk_tiling.specs.declared.Square.{Square}
 use Rattle.bk_simple.specs.Border.{IsUncut, is_inside, is_outside}
 
 -- the squares from a place on, as they are passed
-abbrev pub from : ℕ → List Square → List Square
-from k squares = take (length squares - k) (drop k squares)
+abbrev pub squares_from : ℕ → List Square → List Square
+squares_from k squares = take (length squares - k) (drop k squares)
 
-from_is_drop : (k : ℕ) (squares : List Square) → from k squares ≡ drop k squares
+from_is_drop : (k : ℕ) (squares : List Square) → squares_from k squares ≡ drop k squares
 from_is_drop k squares = take_all (length squares - k) (drop k squares) (omega (arith, length-drop k squares))
 
--- in both parts none lies across the border where none of all does
-pub uncut_parts : (r : Rectangle) (k : ℕ) (squares : List Square) → IsUncut r squares → IsUncut r (take k squares) × IsUncut r (from k squares)
+-- where none of all lies across the border, none of either part does
+pub uncut_parts : (r : Rectangle) (k : ℕ) (squares : List Square) → IsUncut r squares → IsUncut r (take k squares) × IsUncut r (squares_from k squares)
 uncut_parts r k squares uncut =
     let whole : IsUncut r (take k squares ++ drop k squares) = subst (IsUncut r) (sym (take-append-drop k squares)) uncut in
     let both = and_parts _ _ (sym (list_all-append (λ q. is_inside r q || is_outside r q) (take k squares) (drop k squares)) ∙ whole) in
     (both.0, subst (IsUncut r) (sym (from_is_drop k squares)) both.1)
 
--- and the other way round
-pub uncut_whole : (r : Rectangle) (k : ℕ) (squares : List Square) → IsUncut r (take k squares) → IsUncut r (from k squares) → IsUncut r squares
+-- where none of either part lies across the border, none of all does
+pub uncut_whole : (r : Rectangle) (k : ℕ) (squares : List Square) → IsUncut r (take k squares) → IsUncut r (squares_from k squares) → IsUncut r squares
 uncut_whole r k squares front back =
     let rest : IsUncut r (drop k squares) = subst (IsUncut r) (from_is_drop k squares) back in
     subst (IsUncut r) (take-append-drop k squares)
     (list_all-append (λ q. is_inside r q || is_outside r q) (take k squares) (drop k squares) ∙ cc)
 
--- those that lie inside are those of both parts
+-- the squares that lie inside are those of both parts
 pub inside_parts : (r : Rectangle) (k : ℕ) (squares : List Square)
-    → count_by (is_inside r) (take k squares) + count_by (is_inside r) (from k squares) ≡ count_by (is_inside r) squares
+    → count_by (is_inside r) (take k squares) + count_by (is_inside r) (squares_from k squares) ≡ count_by (is_inside r) squares
 inside_parts r k squares =
     ap (λ z. count_by (is_inside r) (take k squares) + count_by (is_inside r) z) (from_is_drop k squares) ∙ sum_by-take-drop _ squares k

@@ -6,7 +6,6 @@ ghost use Rattle.std.specs.List.Sorted.{IsNonDecreasing, IsPermutation};
 ghost use Rattle.std.specs.Prelude.{AllPairs, IfNone, IfSome, IsNone, IsSome, IsTrue, count_by, false, length, nat_le};
 ghost use Rattle.std.specs.Prelude.{◌&&◌, ◌+◌, ◌++◌, ◌<◌, ◌^◌, ◌||◌, ◌↔◌, ◌≡◌, ◌≢◌, ◌≤◌, ◌⊎◌};
 ghost use Rattle.bk_simple.specs.Border.{IsUncut, is_inside, is_outside, rectangle_of};
-ghost use Rattle.bk_simple.specs.FirstLaws.{AFirstPartIsOne, ALeastRepeatedSideIsOne};
 ghost use Rattle.bk_simple.specs.Neighbours.{IsFirstTwice, NoneTwice};
 ghost use Rattle.bk_simple.specs.Simple.{IsFirstPart, IsLeastRepeated, IsPart, IsPerfect, IsSimple, top_left};
 ghost use Rattle.bk_simple.specs.CornerSquares.{IsFirstPartFrom, IsHeldBetween, IsPartAt};
@@ -15,8 +14,11 @@ ghost use Rattle.bk_simple.specs.Reach.{NoneHigher, NoneWider, square_of};
 ghost use Rattle.bk_tiling.specs.Sharing.{EdgesFit};
 ghost use Rattle.bk_tiling.specs.Tiling.{IsTiling, Rectangle, order, sides_of};
 
+mod laws;
+
 use arrayvec::ArrayVec;
 use bk_tiling::{MOST_SQUARES, Square, Tiling};
+pub use laws::{a_first_part_is_one, a_least_repeated_side_is_one};
 
 /// A rectangle within a tiling. Levels grow downwards.
 #[derive(Clone, Copy, PartialEq, Eq)]
@@ -375,13 +377,3 @@ fn is_apart(a: u64, n: u64, b: u64, m: u64) -> bool
 {
     a + n <= b || b + m <= a
 }
-
-/// A tiling has at most one first part.
-pub fn a_first_part_is_one()
-    ensures { AFirstPartIsOne }
-{}
-
-/// A tiling has at most one least repeated side.
-pub fn a_least_repeated_side_is_one()
-    ensures { ALeastRepeatedSideIsOne }
-{}

@@ -50,7 +50,8 @@ pub record LaysMove (width : ℕ) (laid : List Square) (numbers : List ℕ) (fir
 
 -- where the move can be laid, it has that
 pub lays_move : {width : ℕ} {laid : List Square} {numbers : List ℕ} {first end : ℕ} {signs : List Sign} {new : List ℕ}
-    → (o : Outline) × CanLay width laid numbers first end signs new o → LaysMove width laid numbers first end signs new
+    → (o : Outline) × CanLay (record { width = width; laid = laid; numbers = numbers })
+    (record { first = first; end = end; signs = signs; sides = new }) o → LaysMove width laid numbers first end signs new
 lays_move {width} {laid} {numbers} {first} {end} {signs} {new} (o, c) = record {
   valley = gap width laid numbers first end signs new o c;
   order = order width laid numbers first end signs new o c;

@@ -25,7 +25,7 @@ use Rattle.bk_word_net.specs.LaidOutline.{IsNumber, back_of, bottom_at, front_of
 use Rattle.bk_skel.proofs.PlacingTurn.{parts, known, front_is, back_is, low_level}
 
 module _ (width : ℕ) (laid : List Square) (numbers : List ℕ) (first end : ℕ) (signs : List Sign) (new : List ℕ) (o : Outline)
-    (c : CanLay width laid numbers first end signs new o) where
+    (c : CanLay (record { width = width; laid = laid; numbers = numbers }) (record { first = first; end = end; signs = signs; sides = new }) o) where
   abbrev gap : Segment
   gap = (sees width laid o ((c.board).shows) ((c.board).some)).valley
 

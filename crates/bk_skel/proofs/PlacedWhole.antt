@@ -14,7 +14,7 @@ use Rattle.bk_word.specs.Outline.{start}
 use Rattle.bk_word.specs.Play.{IsComplete, IsLegal, after_moves, outline_of}
 use Rattle.bk_word.specs.Word.{Word, order_of}
 use Rattle.bk_lay.specs.TilingWord.{MovesFollow}
-use Rattle.bk_word_net.specs.WordFlow.{LaidAlong}
+use Rattle.bk_word_net.specs.WordFlow.{LaidAlong, laid_so_far}
 use Rattle.bk_word_net.proofs.TilingWords.TilingOfTurns.{Turns, all_deep, built, follow_turns, is_tiling}
 use Rattle.bk_word_net.specs.LaidTiling.{IsLaidWith}
 use Rattle.bk_skel.specs.Board.{IsBoard, IsClosed}
@@ -87,6 +87,6 @@ module _ (given : List ℕ) (all_sides : AllByRecursion IsSide given) (few : len
     sides = sides_are;
   }
     where
-      followed : MovesFollow the_tiling [] w × ((all_levels : List ℕ) × LaidAlong the_tiling [] [] w laid all_levels)
+      followed : MovesFollow the_tiling [] w × ((all_levels : List ℕ) × LaidAlong the_tiling (laid_so_far [] []) w (laid_so_far laid all_levels))
       followed = follow_turns the_tiling tiling laid (λ q h. in_order laid q h)
           (all_deep (first_width w given) board.some laid (outline_of w) board.shows complete.one some) w [] [] turns

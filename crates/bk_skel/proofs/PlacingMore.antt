@@ -57,7 +57,8 @@ module _ (given : List ℕ) (all_sides : AllByRecursion IsSide given) (few : len
     same_move = sym (λ j. record { count = long j; signs = m.signs })
 
     -- the move can be laid
-    pub can_lay : CanLay (first_width w given) laid numbers first end m.signs (take m.count (drop (length laid) given)) (after_moves start (take i w))
+    pub can_lay : CanLay (record { width = first_width w given; laid = laid; numbers = numbers })
+        (record { first = first; end = end; signs = m.signs; sides = take m.count (drop (length laid) given) }) (after_moves start (take i w))
     can_lay = record {
       board = s.board;
       legal = subst (IsLegalMove (after_moves start (take i w))) same_move legal_here;

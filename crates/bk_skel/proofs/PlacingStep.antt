@@ -56,14 +56,14 @@ module _ (w : Word) (legal : IsLegal w) (given : List ℕ) (all_sides : AllByRec
     own_signs = sym (signs_are (get_some w i below).0 at)
 
     -- the move can be laid
-    pub step_can : (o : Outline) × CanLay width laid numbers first (first + closed) signs new o
+    pub step_can : (o : Outline) × CanLay (record { width = width; laid = laid; numbers = numbers })
+        (record { first = first; end = first + closed; signs = signs; sides = new }) o
     step_can = (
       after_moves start (take i w),
-      subst (λ (n : ℕ). CanLay n laid numbers first (first + closed) signs new (after_moves start (take i w))) (sym width_is)
-          (subst (λ (gs : List Sign). CanLay (first_width w given) laid numbers first (first + closed) gs new (after_moves start (take i w))) own_signs
-          (subst (λ (ns : List ℕ). CanLay (first_width w given) laid numbers first (first + closed) (get_some w i below).0.signs ns
-          (after_moves start (take i w))) (sym taken)
-          (can_lay given all_sides few w legal i laid numbers s (get_some w i below).0 at first (first + closed) place end))),
+      subst (λ (p : (ℕ × List Sign) × List ℕ). CanLay (record { width = p.0.0; laid = laid; numbers = numbers })
+          (record { first = first; end = first + closed; signs = p.0.1; sides = p.1 }) (after_moves start (take i w)))
+          (λ j. ((sym width_is j, own_signs j), sym taken j))
+          (can_lay given all_sides few w legal i laid numbers s (get_some w i below).0 at first (first + closed) place end),
     )
 
     turn_as : (v : Segment) → FillsValley width laid (record { count = length new; signs = signs }) new v

@@ -50,7 +50,7 @@ gap_some width laid (n ∷ numbers) v h f = cases f.gap
     cases (inr top) = absurd (not_nil top.0)
 
 module _ (width : ℕ) (laid : List Square) (numbers : List ℕ) (first end : ℕ) (signs : List Sign) (new : List ℕ) (o : Outline)
-    (c : CanLay width laid numbers first end signs new o) where
+    (c : CanLay (record { width = width; laid = laid; numbers = numbers }) (record { first = first; end = end; signs = signs; sides = new }) o) where
   abbrev seen : Sees width laid o
   seen = sees width laid o ((c.board).shows) ((c.board).some)
 

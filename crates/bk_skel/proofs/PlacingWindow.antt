@@ -20,7 +20,7 @@ use Rattle.bk_skel.proofs.PlacingTurn.{known, front_is, back_is}
 use Rattle.bk_skel.proofs.NumbersAfter.{group_long, long}
 
 module _ (width : ℕ) (laid : List Square) (numbers : List ℕ) (first end : ℕ) (signs : List Sign) (new : List ℕ) (o : Outline)
-    (c : CanLay width laid numbers first end signs new o) where
+    (c : CanLay (record { width = width; laid = laid; numbers = numbers }) (record { first = first; end = end; signs = signs; sides = new }) o) where
   abbrev seen : Sees width laid o
   seen = sees width laid o ((c.board).shows) ((c.board).some)
 

@@ -34,16 +34,28 @@ pub record IsBoard (width : ℕ) (laid : List Square) (numbers : List ℕ) (o : 
   pub few : length numbers ≤ length laid
   pub low : (q : Square) → IsOneOf q laid → q.y + q.s ≤ 999_999_999_999_999 * length laid
 
+-- what is laid so far in a width, and the numbers of those squares that are open
+pub record Board : Type 0 where
+  pub width : ℕ
+  pub laid : List Square
+  pub numbers : List ℕ
+
+-- how a move is laid: between which places the numbers of its valley stand, its signs, and the sides of its squares
+pub record Laying : Type 0 where
+  pub first : ℕ
+  pub end : ℕ
+  pub signs : List Sign
+  pub sides : List ℕ
+
 -- the move of these signs, of as many squares as sides, is legal, and its valley's numbers stand from `first` up to
 -- `end`
-pub record CanLay (width : ℕ) (laid : List Square) (numbers : List ℕ) (first end : ℕ) (signs : List Sign)
-    (new : List ℕ) (o : Outline) : Type 0 where
-  pub board : IsBoard width laid numbers o
-  pub legal : IsLegalMove o (record { count = length new; signs = signs })
-  pub first_is : first ≡ length (front_of o)
-  pub end_is : end ≡ length (front_of o) + length (valley_of o)
-  pub sides : AllByRecursion IsSide new
-  pub room : length laid + length new ≤ 200
+pub record CanLay (b : Board) (m : Laying) (o : Outline) : Type 0 where
+  pub board : IsBoard b.width b.laid b.numbers o
+  pub legal : IsLegalMove o (record { count = length m.sides; signs = m.signs })
+  pub first_is : m.first ≡ length (front_of o)
+  pub end_is : m.end ≡ length (front_of o) + length (valley_of o)
+  pub sides : AllByRecursion IsSide m.sides
+  pub room : length b.laid + length m.sides ≤ 200
 
 -- all squares are laid, and one segment is left
 pub record IsClosed (width : ℕ) (laid : List Square) (numbers : List ℕ) (o : Outline) : Type 0 where

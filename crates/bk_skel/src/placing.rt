@@ -24,9 +24,25 @@ use bk_play::{Skel, splice_numbers};
 use bk_tiling::{MOST_SQUARES, Segment, Square, Tiling, push_group, put_in_order, sum_of};
 use bk_word::Sign;
 
-// The numbers of the laid squares that are open, from left to right. Squares are numbered from 1 in the order of
-// laying.
-pub(crate) type Numbers = ArrayVec<u8, MOST_SQUARES>;
+/// Room in which squares are laid move by move: the width, the squares laid so far, and the numbers of those that are
+/// open, from left to right. Squares are numbered from 1 in the order of laying.
+#[derive(Drop)]
+pub struct Board {
+    width: u64,
+    laid: ArrayVec<Square, MOST_SQUARES>,
+    numbers: ArrayVec<u8, MOST_SQUARES>,
+}
+
+impl Board {
+    /// Room for one word at a time.
+    pub fn new() -> Board {
+        Board {
+            width: 0,
+            laid: ArrayVec::new(),
+            numbers: ArrayVec::new(),
+        }
+    }
+}
 
 /// What is found of a word that is laid in room that is there.
 #[derive(Clone, Copy, PartialEq, Eq)]
@@ -48,20 +64,15 @@ pub fn placed(skel: &Skel, sides: &[u64]) -> Option<Tiling>
     ensures only { (u : Tiled) → IsLaidWith skel.now sides.now u → IsSomeAnd result (λ t. t ≡ u) }
 {
     let mut tiling = Tiling::unit();
-    let mut laid = ArrayVec::new();
-    match place(skel, sides, &mut laid, &mut tiling) {
+    let mut board = Board::new();
+    match place(skel, sides, &mut board, &mut tiling) {
         Realised::Found => Some(tiling),
         Realised::Nothing => None,
     }
 }
 
-// What `placed` answers, in room that is there: for the squares that are laid, and for the tiling.
-pub(crate) fn place(
-    skel: &Skel,
-    sides: &[u64],
-    laid: &mut ArrayVec<Square, MOST_SQUARES>,
-    tiling: &mut Tiling,
-) -> Realised
+// What `placed` answers, in room that is there: a board, and room for the tiling.
+pub(crate) fn place(skel: &Skel, sides: &[u64], board: &mut Board, tiling: &mut Tiling) -> Realised
     requires closed { IsComplete skel.now }
     requires count { length sides.now ≡ order_of skel.now }
     requires sides { AllByRecursion IsSide sides.now }
@@ -71,54 +82,56 @@ pub(crate) fn place(
 {
     let moves = skel.moves();
     let width = sum_of(&sides[..usize::from(skel.turn(0).count)]);
-    laid.clear();
-    let mut numbers = ArrayVec::new();
+    board.width = width;
+    board.laid.clear();
+    board.numbers.clear();
     for i in 0..moves {
         let turn = skel.turn(i);
-        let from = laid.len();
+        let from = board.laid.len();
         let new = &sides[from..from + usize::from(turn.count)];
         let first = usize::from(turn.first);
         let end = first + usize::from(turn.closed);
         let signs = skel.signs_at(i);
-        if !lay_move(laid, &mut numbers, width, first, end, signs, new) {
+        if !lay_move(board, first, end, signs, new) {
             return Realised::Nothing;
         }
     }
-    close(laid, &numbers, width, tiling);
+    close(&mut board.laid, &board.numbers, board.width, tiling);
     Realised::Found
 }
 
 // Lays squares of these sides in the leftmost valley, whose squares' numbers stand from `first` up to `end`. It is true
 // where they fill it and the bottoms compare as the signs say.
-pub(crate) fn lay_move(
-    laid: &mut ArrayVec<Square, MOST_SQUARES>,
-    numbers: &mut Numbers,
-    width: u64,
-    first: usize,
-    end: usize,
-    signs: &[Sign],
-    new: &[u64],
-) -> bool
-    requires { (o : Outline) × CanLay width laid.old.items numbers.old.items first end signs.now new.now o }
+fn lay_move(board: &mut Board, first: usize, end: usize, signs: &[Sign], new: &[u64]) -> bool
+    requires { (o : Outline) × CanLay
+        (record { width = board.old.width; laid = board.old.laid.items; numbers = board.old.numbers.items })
+        (record { first = first; end = end; signs = signs.now; sides = new.now }) o }
+    ensures width { board.new.width ≡ board.old.width }
     ensures turn { result ≡ true
-        → (v : Gap) × (FillsValley width laid.old.items (record { count = length new.now; signs = signs.now }) new.now v
-        × (laid.new.items ≡ laid.old.items ++ laid_group v.x v.level new.now)) }
+        → (v : Gap) × (FillsValley board.old.width board.old.laid.items
+        (record { count = length new.now; signs = signs.now }) new.now v
+        × (board.new.laid.items ≡ board.old.laid.items ++ laid_group v.x v.level new.now)) }
     ensures numbers { result ≡ true
-        → numbers.new.items ≡
-        (take first numbers.old.items ++ numbers_from (length laid.old.items + 1) (length new.now))
-        ++ drop end numbers.old.items }
+        → board.new.numbers.items
+        ≡ (take first board.old.numbers.items ++ numbers_from (length board.old.laid.items + 1) (length new.now))
+        ++ drop end board.old.numbers.items }
     ensures none { result ≡ false → (v : Gap)
-        → ¬ (FillsValley width laid.old.items (record { count = length new.now; signs = signs.now }) new.now v) }
+        → ¬ (FillsValley board.old.width board.old.laid.items
+        (record { count = length new.now; signs = signs.now }) new.now v) }
 {
-    let gap = gap_under(laid, &numbers[first..end], width);
+    let gap = gap_under(&board.laid, &board.numbers[first..end], board.width);
     if sum_of(new) != gap.width {
         return false;
     }
-    let number = (laid.len() + 1) as u8;
-    push_group(laid, gap, new);
-    splice_numbers(numbers, first, end, number, new.len() as u8);
+    let number = (board.laid.len() + 1) as u8;
+    push_group(&mut board.laid, gap, new);
+    splice_numbers(&mut board.numbers, first, end, number, new.len() as u8);
     let left = first.saturating_sub(1);
-    signs_fit(laid, &numbers[left..left + signs.len() + 1], signs)
+    signs_fit(
+        &board.laid,
+        &board.numbers[left..left + signs.len() + 1],
+        signs,
+    )
 }
 
 // Makes the tiling of all squares that are laid, whose bottoms lie at one level, and puts these in its order.

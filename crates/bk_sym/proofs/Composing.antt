@@ -141,16 +141,16 @@ pub images_of_images : ImagesOfImages
 images_of_images t a b tiling = image_after t tiling b a
 
 -- a turn and the one that undoes it leave all as it is
-pub undone : (turn : Turn) → after (undoing turn) turn ≡ Same
-undone Same = refl
-undone FlipX = refl
-undone FlipY = refl
-undone Half = refl
-undone Swap = refl
-undone SwapFlipX = refl
-undone SwapFlipY = refl
-undone SwapHalf = refl
+pub undoing_undoes : (turn : Turn) → after (undoing turn) turn ≡ Same
+undoing_undoes Same = refl
+undoing_undoes FlipX = refl
+undoing_undoes FlipY = refl
+undoing_undoes Half = refl
+undoing_undoes Swap = refl
+undoing_undoes SwapFlipX = refl
+undoing_undoes SwapFlipY = refl
+undoing_undoes SwapHalf = refl
 
 -- so a tiling is an image of each of its images
 pub images_are_undone : ImagesAreUndone
-images_are_undone t turn tiling = images_of_images t (undoing turn) turn tiling ∙ ap (λ (a : Turn). image a t) (undone turn) ∙ image-Same t tiling
+images_are_undone t turn tiling = images_of_images t (undoing turn) turn tiling ∙ ap (λ (a : Turn). image a t) (undoing_undoes turn) ∙ image-Same t tiling

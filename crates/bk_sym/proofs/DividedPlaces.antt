@@ -134,8 +134,8 @@ module _ (t : Tiling) (tiling : IsTiling t) (g : ℕ) (sides : (q : Square) → 
   y_divides q h = level (suc q.y) q h (omega arith)
 
   -- a common divisor of the sides is not 0
-  pub positive : 0 < g
-  positive = cases (cases_lt 0 g)
+  pub divisor_is_positive : 0 < g
+  divisor_is_positive = cases (cases_lt 0 g)
     where
       cases : (0 < g) ⊎ (g ≤ 0) → 0 < g
       cases (inl h) = h

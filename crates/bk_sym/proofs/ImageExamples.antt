@@ -4,6 +4,7 @@ use Rattle.std.proofs.Common.{arith, lit≤}
 use Rattle.bk_tiling.proofs.ExampleTilings.{rectangle_33x32, rectangle_3x2, rectangle_69x61, turned_33x32}
 use Rattle.bk_code.specs.Code.{code_of}
 use Rattle.bk_tiling.specs.Scale.{enlarged}
+use Rattle.bk_sym.proofs.CanonicalTests.{canonical_by_test}
 use Rattle.bk_sym.specs.Canonical.{IsCanonical, IsCanonicalOf, scaled_down_tiling}
 use Rattle.bk_sym.specs.Image.{image}
 use Rattle.bk_sym.specs.Turns.{after, undoing}
@@ -30,39 +31,11 @@ scaled-turned = refl
 
 -- its canonical tiling
 canonical-turned : IsCanonicalOf turned_33x32 rectangle_33x32
-canonical-turned = record {
-  turn = Swap;
-  image_of = refl;
-  lying = lit≤ tt;
-  greatest = elim [
-    | Same ↦ λ le. absurd (omega arith)
-    | FlipX ↦ λ le. absurd (omega arith)
-    | FlipY ↦ λ le. absurd (omega arith)
-    | Half ↦ λ le. absurd (omega arith)
-    | Swap ↦ λ le. refl
-    | SwapFlipX ↦ λ le. refl
-    | SwapFlipY ↦ λ le. refl
-    | SwapHalf ↦ λ le. refl
-  ];
-}
+canonical-turned = canonical_by_test turned_33x32 rectangle_33x32 Swap refl (lit≤ tt) refl
 
 -- the larger of the two is its own canonical tiling
 canonical-69x61 : IsCanonical rectangle_69x61
-canonical-69x61 = record {
-  turn = Same;
-  image_of = refl;
-  lying = omega arith;
-  greatest = elim [
-    | Same ↦ λ le. refl
-    | FlipX ↦ λ le. refl
-    | FlipY ↦ λ le. refl
-    | Half ↦ λ le. refl
-    | Swap ↦ λ le. absurd (omega arith)
-    | SwapFlipX ↦ λ le. absurd (omega arith)
-    | SwapFlipY ↦ λ le. absurd (omega arith)
-    | SwapHalf ↦ λ le. absurd (omega arith)
-  ];
-}
+canonical-69x61 = canonical_by_test rectangle_69x61 rectangle_69x61 Same refl (lit≤ tt) refl
 
 -- two quarter turns are a half turn, and the two quarter turns undo each other
 quarter-twice : after SwapFlipX SwapFlipX ≡ Half

@@ -53,9 +53,9 @@ pub record Moves (t : Tiling) (f : Square → Square) (width height : ℕ) : Typ
   pub same : (i j : ℕ) → i < width → j < height → (q : Square) → IsOneOf q t.squares → covers i j (f q) ≡ covers (column i j) (level i j) q
 
 -- squares moved so that each cell comes from a cell tile the rectangle that they are moved to
-pub moved : (t : Tiling) (f : Square → Square) (width height : ℕ) → IsTiling t → Moves t f width height
+pub moved_squares_tile : (t : Tiling) (f : Square → Square) (width height : ℕ) → IsTiling t → Moves t f width height
     → IsTiling (record { width = width; height = height; squares = in_code_order (map f t.squares) })
-moved t f width height tiling m = record {
+moved_squares_tile t f width height tiling m = record {
   tiles = record {
     some = some t.squares (tiling.tiles).some (λ q h. in_order (map f t.squares) (f q) (in_map f t.squares q h));
     sides = all_from (λ q. 0 < q.s) (in_code_order (map f t.squares)) (λ q h. side q (from_order (map f t.squares) q h));
@@ -103,7 +103,7 @@ turned : (t : Tiling) → IsTiling t → (turn : Turn) (width height : ℕ) (col
     → ((i j : ℕ) → i < width → j < height → (q : Square) → q.x + q.s ≤ 0 + t.width → q.y + q.s ≤ 0 + t.height
     → BothOver i j (column i j) (level i j) (image_square turn t.width t.height q) q)
     → IsTiling (record { width = width; height = height; squares = in_code_order (map (image_square turn t.width t.height) t.squares) })
-turned t tiling turn width height column level side cell within over = moved t (image_square turn t.width t.height) width height tiling (record {
+turned t tiling turn width height column level side cell within over = moved_squares_tile t (image_square turn t.width t.height) width height tiling (record {
   side = side;
   within = λ q h. within q (within_of t tiling q h).right (within_of t tiling q h).bottom;
   column = column;

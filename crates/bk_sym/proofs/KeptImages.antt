@@ -122,12 +122,12 @@ pub made : (w h : ℕ) (squares : List Square) (t : Tiling) → w ≡ t.width �
 made w h squares t ew eh es = λ i. record { width = ew i; height = eh i; squares = es i }
 
 -- a square with its place and its side divided
-abbrev pub divided : ℕ → Square → Square
-divided g q = record { x = q.x / g; y = q.y / g; s = q.s / g }
+abbrev pub divided_square : ℕ → Square → Square
+divided_square g q = record { x = q.x / g; y = q.y / g; s = q.s / g }
 
 -- the tiling scaled down, of the numbers and squares of a tiling divided by the divisor of its sides
 pub scaled_made : (t : Tiling) (g w h k : ℕ) (xs items : List Square) → g ≡ side_divisor t → w ≡ t.width → h ≡ t.height → xs ≡ t.squares
-    → length xs ≤ k → items ≡ map (divided g) (take k xs) → record { width = w / g; height = h / g; squares = items } ≡ scaled_down_tiling t
+    → length xs ≤ k → items ≡ map (divided_square g) (take k xs) → record { width = w / g; height = h / g; squares = items } ≡ scaled_down_tiling t
 scaled_made t g w h k xs items eg ew eh same all is = made (w / g) (h / g) items (scaled_down_tiling t)
     (ap (λ n. n / g) ew ∙ ap (λ n. t.width / n) eg) (ap (λ n. n / g) eh ∙ ap (λ n. t.height / n) eg)
-    (all_taken (divided g) k xs t.squares items same all is ∙ ap (λ n. map (divided n) t.squares) eg)
+    (all_taken (divided_square g) k xs t.squares items same all is ∙ ap (λ n. map (divided_square n) t.squares) eg)

@@ -1,3 +1,5 @@
+pub mod CanonicalTests
+pub mod SquaresWithin
 pub mod ImageExamples
 pub mod Images
 pub mod EnlargedBack

@@ -11,7 +11,7 @@ use Rattle.bk_frac.proofs.DivisorLaws.{gcd_of-divides}
 use Rattle.bk_frac.specs.Divisor.{gcd_of}
 use Rattle.bk_sym.specs.Canonical.{scaled_down_tiling}
 use Rattle.bk_sym.proofs.EnlargedBack.{scaled_down_is}
-use Rattle.bk_sym.proofs.DividedPlaces.{height_divides, positive, width_divides, x_divides, y_divides}
+use Rattle.bk_sym.proofs.DividedPlaces.{height_divides, divisor_is_positive, width_divides, x_divides, y_divides}
 
 -- the divisor by which a tiling is scaled down
 abbrev pub side_divisor : Tiling → ℕ
@@ -29,7 +29,7 @@ module _ (t : Tiling) (tiling : IsTiling t) where
 
   -- the greatest common divisor of the sides is not 0
   pub some_divisor : 0 < side_divisor t
-  some_divisor = positive t tiling (side_divisor t) side_divides
+  some_divisor = divisor_is_positive t tiling (side_divisor t) side_divides
 
   list : (squares : List Square) → ((q : Square) → IsOneOf q squares → IsOneOf q t.squares)
       → squares ≡ map (enlarged_square (side_divisor t))

@@ -7,17 +7,20 @@ ghost use Rattle.bk_frac.specs.Divisor.{gcd as common_divisor, gcd_of};
 ghost use Rattle.bk_sym.specs.Canonical.{BeginsWith, IsAtMost, IsCanonical, IsCanonicalOf, IsGreatestImage};
 ghost use Rattle.bk_sym.specs.Canonical.{IsGreatestOf, Lies, scaled_down_tiling};
 ghost use Rattle.bk_sym.specs.Image.{image, image_size, image_square};
-ghost use Rattle.bk_sym.specs.ImageLaws.{ACanonicalTilingIsItsOwn, ACanonicalTilingIsOne, AlikeTilingsHaveOneCanonical};
-ghost use Rattle.bk_sym.specs.ImageLaws.{ImagesAreTilings};
-ghost use Rattle.bk_sym.specs.ImageLaws.{EveryTilingHasACanonical, ImagesAreUndone, ImagesOfImages};
-ghost use Rattle.bk_sym.specs.ImageLaws.{OneCanonicalMeansAlike};
 ghost use Rattle.bk_tiling.specs.KeptTiling.{IsKept};
 ghost use Rattle.bk_tiling.specs.Scale.{IsPrimitiveTiling, enlarged};
 ghost use Rattle.bk_tiling.specs.Tiling.{sides_of};
 
+mod laws;
+
 use arrayvec::ArrayVec;
 use bk_frac::gcd;
 use bk_tiling::{Square, Tiling, put_in_order};
+pub use laws::{
+    a_canonical_tiling_is_its_own, a_canonical_tiling_is_one, alike_tilings_have_one_canonical,
+    every_tiling_has_a_canonical, images_are_tilings, images_are_undone, images_of_images,
+    one_canonical_means_alike,
+};
 use std::cmp::Ordering;
 
 /// A turn or a mirror of a rectangle.
@@ -295,7 +298,8 @@ fn is_image_at_most(tiling: &Tiling, which: Turn) -> bool
     begins_shorter(tiling, which, tiling) || is_made_image_at_most(tiling, which)
 }
 
-// The same, by the image itself. It is hardly ever needed, and its room only here.
+// Whether the flat list of sides of that image is at most the tiling's own, by the image itself. It is hardly ever
+// needed, and its room only here.
 #[inline(never)]
 fn is_made_image_at_most(tiling: &Tiling, which: Turn) -> bool
     ensures { IsTrue result ↔ IsAtMost (image which tiling.now) tiling.now }
@@ -339,44 +343,3 @@ fn compare(a: &Tiling, b: &Tiling) -> Ordering
         .map(|q| q.s)
         .cmp(b.squares().iter().map(|q| q.s))
 }
-
-/// Each image of a tiling is a tiling.
-pub fn images_are_tilings()
-    ensures { ImagesAreTilings }
-{}
-
-/// Each tiling has a canonical tiling.
-pub fn every_tiling_has_a_canonical()
-    ensures { EveryTilingHasACanonical }
-{}
-
-/// A tiling has at most one canonical tiling, and it is a tiling.
-pub fn a_canonical_tiling_is_one()
-    ensures { ACanonicalTilingIsOne }
-{}
-
-/// An image of an image is an image: the turns form a group of eight.
-pub fn images_of_images()
-    ensures { ImagesOfImages }
-{}
-
-/// A tiling is an image of each of its images.
-pub fn images_are_undone()
-    ensures { ImagesAreUndone }
-{}
-
-/// Tilings that are images of each other, up to scale, have the same canonical tiling: all images and all multiples of
-/// a tiling have.
-pub fn alike_tilings_have_one_canonical()
-    ensures { AlikeTilingsHaveOneCanonical }
-{}
-
-/// Of two tilings with the same canonical tiling each is an image of the other, up to scale.
-pub fn one_canonical_means_alike()
-    ensures { OneCanonicalMeansAlike }
-{}
-
-/// A canonical tiling is its own canonical tiling.
-pub fn a_canonical_tiling_is_its_own()
-    ensures { ACanonicalTilingIsItsOwn }
-{}

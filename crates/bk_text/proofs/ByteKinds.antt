@@ -38,8 +38,8 @@ either true one two b yes' no' = yes' refl
 either false one two b yes' no' = no'
 
 -- each byte is what its kind says
-pub means : (b : ℕ) → Means (line_kind_of b) b
-means b =
+pub line_kind_of-means : (b : ℕ) → Means (line_kind_of b) b
+line_kind_of-means b =
     either (b == 48) Zero _ b (λ h. eqb-true b 48 h) (
     either (nat_le 49 b && nat_le b 57) (Digit (b - 48)) _ b (λ h. digit_byte-positive b h) (
     either ((b == 32) || ((b == 9) || (b == 13))) Blank _ b (λ h. blank_means b h) (

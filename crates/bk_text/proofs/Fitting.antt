@@ -18,7 +18,7 @@ use Rattle.bk_text.specs.declared.reader.Place.TheVariants.{BeforeGroup, BeforeH
 use Rattle.bk_text.specs.declared.reader.Place.TheVariants.{BehindSecond, BehindSide, BehindThird, Comment as InComment, Number as InNumber, Start}
 use Rattle.bk_text.proofs.ByteKinds.{Means}
 use Rattle.bk_text.proofs.KeepingAll.{Lists, and_side, line_of, lists_after, no_lists}
-use Rattle.bk_text.proofs.FrontBytes.{nines}
+use Rattle.bk_text.proofs.FrontBytes.{most-ends_in_nine}
 
 abbrev FitsField : Field → Lists → Type 0
 FitsField First t = t ≡ no_lists
@@ -61,7 +61,7 @@ grown f v d t small h = when (nat_le v (most f / 10)) (λ e. leb-true v (most f 
 
     when : (fits : Bool) → (fits ≡ true → v ≤ most f / 10) → FitsNext (if fits then Some (InNumber f (v * 10 + d)) else None) t
     when false below = tt
-    when true below = let few = below refl in (omega (arith, h.0), tenth (most f) (nines f) few, h.2)
+    when true below = let few = below refl in (omega (arith, h.0), tenth (most f) (most-ends_in_nine f) few, h.2)
 
 number_fits : (f : Field) (v : ℕ) (k : Kind) (t : Lists) (b : ℕ) → Means k b → (0 < v) × (v ≤ most f) × FitsField f t
     → FitsNext (next_line_place (InNumber f v) k) (lists_after (InNumber f v) k t)
@@ -153,9 +153,9 @@ abbrev pub read_count : Lists → ℕ
 read_count t = length (flat t.groups) + length t.sides
 
 -- at the end of a line all sides that were read are its sides
-pub counted : (p : Place) (ending : Ending) (t : Lists) → Fits p t → line_ending_at p ≡ Some ending
+pub sides_of_line-read_count : (p : Place) (ending : Ending) (t : Lists) → Fits p t → line_ending_at p ≡ Some ending
     → length (sides_of_line (line_of ending (and_side (last_side p) t))) ≡ read_count (and_side (last_side p) t)
-counted p ending t h e = by_ending ending (and_side (last_side p) t) (fits_ending p ending t h e)
+sides_of_line-read_count p ending t h e = by_ending ending (and_side (last_side p) t) (fits_ending p ending t h e)
   where
     by_ending : (e : Ending) (u : Lists) → FitsEnding e u → length (sides_of_line (line_of e u)) ≡ read_count u
     by_ending Empty u fits = let none : read_count u ≡ 0 = ap read_count fits in omega arith

@@ -23,16 +23,16 @@ use Rattle.bk_text.proofs.ByteKinds.{Means, close_byte}
 use Rattle.bk_text.proofs.KeepingAll.{Lists, and_side, lists_after}
 use Rattle.bk_text.proofs.Rests.{CodeRest, Columns, ColumnsAfterBlanks, GroupsRest, MoreSides, Rest, RestAfter, SidesRest, item, onto, row}
 use Rattle.bk_text.proofs.FrontParts.{close_first, columns_blank, comma_first, first_blank, first_gap, group_comma, groups_blank, groups_open, line_blank}
-use Rattle.bk_text.proofs.FrontParts.{more_blank, numbered, opened, side_first, sides_rest_blank}
+use Rattle.bk_text.proofs.FrontParts.{more_blank, line-of_first_number, sides_rest-behind_bracket, side_first, sides_rest_blank}
 
 -- the greatest number of a field ends with 9
-pub nines : (field : Field) → most field / 10 * 10 + 9 ≤ most field
-nines First = omega arith
-nines (Second order) = omega arith
-nines (Height order width) = omega arith
-nines (Third order width) = omega arith
-nines (Column r) = omega arith
-nines (SideOf h bracket) = omega arith
+pub most-ends_in_nine : (field : Field) → most field / 10 * 10 + 9 ≤ most field
+most-ends_in_nine First = omega arith
+most-ends_in_nine (Second order) = omega arith
+most-ends_in_nine (Height order width) = omega arith
+most-ends_in_nine (Third order width) = omega arith
+most-ends_in_nine (Column r) = omega arith
+most-ends_in_nine (SideOf h bracket) = omega arith
 
 -- a further digit of a number
 grown : (field : Field) (v d b : ℕ) (t : Lists) (l : Line) (bs : List ℕ) → d < 10 → b ≡ 48 + d → RestAfter (field_with_digit field v d) t l bs
@@ -52,7 +52,7 @@ grown field v d b t l bs small is h = when (nat_le v (most field / 10)) (λ e. l
           (
             (omega (arith, own), digits),
             ap (λ z. digits_value_after 10 (v * 10 + z) ds) own ∙ value,
-            λ few. kept (tenth (most field) (nines field) within),
+            λ few. kept (tenth (most field) (most-ends_in_nine field) within),
           ),
           rest,
         )
@@ -103,15 +103,26 @@ behind_number First v (Open bracket) t l b bs m (ns, gs, rest, is) = (
   b ∷ bs,
   refl,
   (tt, refl, (λ few. few)),
-  inl (inl (ns ∷ gs, no_blank (Groups (ns ∷ gs) then LineEnd) (b ∷ bs) (opened bracket ns gs b bs m rest), is)),
+  inl (inl (ns ∷ gs, no_blank (Groups (ns ∷ gs) then LineEnd) (b ∷ bs) (sides_rest-behind_bracket bracket ns gs b bs m rest), is)),
 )
 behind_number (Second o) v Blank t l b bs m (height, side, ns, rest, is) =
     (v, [], b ∷ bs, refl, (tt, refl, (λ few. few)), inl (height, side, ns, gap_first (Number 18 height then Columns (side ∷ ns)) b bs m rest, is))
 behind_number (Second o) v Cross t l b bs m h = (v, [], b ∷ bs, refl, (tt, refl, (λ few. few)), inr (bs, ap (λ z. z ∷ bs) m, h))
 behind_number (Height o w) v Blank t l b bs m (code, rest, is) =
     (v, [], b ∷ bs, refl, (tt, refl, (λ few. few)), (code, blank_first (Groups code then LineEnd) b bs m rest, is))
-behind_number (Height o w) v (Open bracket) t l b bs m (ns, gs, rest, is) =
-    (v, [], b ∷ bs, refl, (tt, refl, (λ few. few)), (ns ∷ gs, no_blank (Groups (ns ∷ gs) then LineEnd) (b ∷ bs) (opened bracket ns gs b bs m rest), is))
+behind_number (Height o w) v (Open bracket) t l b bs m (ns, gs, rest, is) = (
+  v,
+  [],
+  b ∷ bs,
+  refl,
+  (tt, refl, (λ few. few)),
+  (
+    ns ∷ gs,
+    no_blank (Groups (ns ∷ gs) then LineEnd) (b ∷ bs)
+        (sides_rest-behind_bracket bracket ns gs b bs m rest),
+    is,
+  ),
+)
 behind_number (Third o w) v Blank t l b bs m (side, ns, rest, is) =
     (v, [], b ∷ bs, refl, (tt, refl, (λ few. few)), (side, ns, columns_blank (side ∷ ns) b bs m rest, is))
 behind_number (Column r) v Blank t l b bs m (ns, rest, is) =
@@ -152,10 +163,14 @@ pub behind_byte : (p : Place) (k : Kind) (t : Lists) (l : Line) (b : ℕ) (bs : 
 behind_byte (InNumber field v) k t l b bs m h = behind_number field v k t l b bs m h
 behind_byte Start Blank t l b bs m (whole, h, is) = (whole, line_blank whole b bs m h, is)
 behind_byte Start (Digit d) t l b bs m (n, ds, x, e, longer', rest) =
-    let line = numbered n (b ∷ ds) x t l (first_side 18 (most First) b d n ds (omega arith) (omega arith) m longer') rest in
+    let line = line-of_first_number n (b ∷ ds) x t l (first_side 18 (most First) b d n ds (omega arith) (omega arith) m longer') rest in
     (line.0, subst (IsLine line.0) (ap (λ z. b ∷ z) (sym e)) line.1, line.2)
-behind_byte Start (Open bracket) t l b bs m (ns, gs, rest, is) =
-    (Item None None (ns ∷ gs), no_blank (Nothing then Groups (ns ∷ gs) then LineEnd) (b ∷ bs) ([], b ∷ bs, refl, refl, opened bracket ns gs b bs m rest), is)
+behind_byte Start (Open bracket) t l b bs m (ns, gs, rest, is) = (
+  Item None None (ns ∷ gs),
+  no_blank (Nothing then Groups (ns ∷ gs) then LineEnd) (b ∷ bs)
+      ([], b ∷ bs, refl, refl, sides_rest-behind_bracket bracket ns gs b bs m rest),
+  is,
+)
 behind_byte Start Semicolon t l b bs m h = (Skip, comment_first b bs m, h)
 behind_byte (BehindFirst n) Blank t l b bs m h = first_blank n t l b bs m h
 behind_byte (BehindFirst n) (Digit d) t l b bs m (w, ds, x, e, longer', inl (height, side, ns, rest, is)) =
@@ -178,7 +193,7 @@ behind_byte (BehindFirst n) (Digit d) t l b bs m (w, ds, x, e, longer', inr (y, 
       is,
     ))
 behind_byte (BehindFirst n) (Open bracket) t l b bs m (ns, gs, rest, is) =
-    inl (ns ∷ gs, no_blank (Groups (ns ∷ gs) then LineEnd) (b ∷ bs) (opened bracket ns gs b bs m rest), is)
+    inl (ns ∷ gs, no_blank (Groups (ns ∷ gs) then LineEnd) (b ∷ bs) (sides_rest-behind_bracket bracket ns gs b bs m rest), is)
 behind_byte (BehindSecond o w) Blank t l b bs m (height, side, ns, rest, is) =
     (height, side, ns, blank_first (Number 18 height then Columns (side ∷ ns)) b bs m rest, is)
 behind_byte (BehindSecond o w) (Digit d) t l b bs m (n, ds, x, e, longer', (side, ns, rest, is)) = (
@@ -198,7 +213,7 @@ behind_byte (BehindColumn r) (Digit d) t l b bs m h = let c = columns_first r d 
 behind_byte (BehindColumn r) Semicolon t l b bs m h = ([], comment_first b bs m, h ∙ ap (row r) (sym (append-nil t.sides)))
 behind_byte (BeforeGroup g) Blank t l b bs m (code, rest, is) = (code, blank_first (Groups code then LineEnd) b bs m rest, is)
 behind_byte (BeforeGroup g) (Open bracket) t l b bs m (ns, gs, rest, is) =
-    (ns ∷ gs, no_blank (Groups (ns ∷ gs) then LineEnd) (b ∷ bs) (opened bracket ns gs b bs m rest), is)
+    (ns ∷ gs, no_blank (Groups (ns ∷ gs) then LineEnd) (b ∷ bs) (sides_rest-behind_bracket bracket ns gs b bs m rest), is)
 behind_byte (BeforeSide g c) Blank t l b bs m (ns, gs, rest, is) = (ns, gs, sides_rest_blank c ns gs b bs m rest, is)
 behind_byte (BeforeSide g c) (Digit d) t l b bs m (n, ds, x, e, longer', (ns, gs, rest, is)) = (
   n ∷ ns,

@@ -77,9 +77,9 @@ group_made Square ns f c sides close = inl (91 ∷ [], f ++ c, refl, refl, (f, c
 group_made Round ns f c sides close = inr (40 ∷ [], f ++ c, refl, refl, (f, c, refl, sides, close))
 
 -- an opening bracket in front of the sides of a group and what follows
-pub opened : (bracket : Bracket) (ns : List ℕ) (gs : List (List ℕ)) (b : ℕ) (bs : List ℕ) → b ≡ open_byte bracket → SidesRest bracket ns gs bs
-    → (Groups (ns ∷ gs) then LineEnd) (b ∷ bs)
-opened bracket ns gs b bs is (f, x, e, sides, (c, y, e', close, rest)) =
+pub sides_rest-behind_bracket : (bracket : Bracket) (ns : List ℕ) (gs : List (List ℕ)) (b : ℕ) (bs : List ℕ) → b ≡ open_byte bracket
+    → SidesRest bracket ns gs bs → (Groups (ns ∷ gs) then LineEnd) (b ∷ bs)
+sides_rest-behind_bracket bracket ns gs b bs is (f, x, e, sides, (c, y, e', close, rest)) =
     let whole : (open_byte bracket ∷ (f ++ c)) ++ y ≡ b ∷ bs =
     ap (λ z. open_byte bracket ∷ z) (append_assoc f c y ∙ ap (λ z. f ++ z) (sym e') ∙ sym e) ∙ ap (λ z. z ∷ bs) (sym is) in
     subst (Groups (ns ∷ gs) then LineEnd) whole (group_and_rest ns gs (open_byte bracket ∷ (f ++ c)) y (group_made bracket ns f c sides close) rest)
@@ -121,7 +121,7 @@ pub groups_open : (bracket : Bracket) (ns : List ℕ) (gs : List (List ℕ)) (b 
     → GroupsRest (ns ∷ gs) (b ∷ bs)
 groups_open bracket ns gs b bs is rest =
     no_blank ((Nothing or Is (codes ",") then Blanks) then Groups (ns ∷ gs) then LineEnd) (b ∷ bs)
-    ([], b ∷ bs, refl, inl refl, opened bracket ns gs b bs is rest)
+    ([], b ∷ bs, refl, inl refl, sides_rest-behind_bracket bracket ns gs b bs is rest)
 
 -- the sides of a table row
 columns_table : (n : ℕ) (ns bs : List ℕ) → Columns (n ∷ ns) bs → (TableSides (n ∷ ns) then LineEnd) bs
@@ -141,15 +141,15 @@ sized w h code bs rest =
     (λ y. regroup (Is (codes "x")) (Number 18 h) (CodeRest code) y) rest))
 
 -- a first number and what follows are a whole line
-pub numbered : (n : ℕ) (f x : List ℕ) (t : Lists) (l : Line) → Number 18 n f → NumberRest First n t l x
+pub line-of_first_number : (n : ℕ) (f x : List ℕ) (t : Lists) (l : Line) → Number 18 n f → NumberRest First n t l x
     → (whole : Line) × IsLine whole (f ++ x) × (l ≡ line_onto t whole)
-numbered n f x t l num (inl (inl (code, (a, y, e, blanks, rest), is))) = (
+line-of_first_number n f x t l num (inl (inl (code, (a, y, e, blanks, rest), is))) = (
   Item (Some n) None code,
   no_blank ((Number 18 n then Blanks) then Groups code then LineEnd) (f ++ x)
       (regroup (Number 18 n) Blanks (Groups code then LineEnd) (f ++ x) (f, x, refl, num, (a, y, e, blanks, rest))),
   is,
 )
-numbered n f x t l num (inl (inr (inl (w, h, code, rest, is)))) = (
+line-of_first_number n f x t l num (inl (inr (inl (w, h, code, rest, is)))) = (
   Item (Some n) (Some (w, h)) code,
   no_blank ((Number 18 n then SomeBlanks then Size (w, h) then Blanks) then Groups code then LineEnd) (f ++ x)
       (regroup (Number 18 n) (SomeBlanks then Size (w, h) then Blanks) (Groups code then LineEnd) (f ++ x) (
@@ -163,7 +163,7 @@ numbered n f x t l num (inl (inr (inl (w, h, code, rest, is)))) = (
       )),
   is,
 )
-numbered n f x t l num (inl (inr (inr (w, h, m, ns, rest, is)))) = (
+line-of_first_number n f x t l num (inl (inr (inr (w, h, m, ns, rest, is)))) = (
   Flat n w h (m ∷ ns),
   no_blank (Number 18 n then SomeBlanks then Number 18 w then SomeBlanks then Number 18 h then TableSides (m ∷ ns) then LineEnd) (f ++ x) (
     f,
@@ -178,7 +178,7 @@ numbered n f x t l num (inl (inr (inr (w, h, m, ns, rest, is)))) = (
   ),
   is,
 )
-numbered n f x t l num (inr (y, e, (h, code, rest, is))) = (
+line-of_first_number n f x t l num (inr (y, e, (h, code, rest, is))) = (
   Item None (Some (n, h)) code,
   no_blank ((Size (n, h) then Blanks) then Groups code then LineEnd) (f ++ x)
       (sized n h code (f ++ x) (f, x, refl, num, (120 ∷ [], y, e, refl, rest))),

@@ -147,7 +147,8 @@ same_open p q (b ∷ text) next lists h = elim h [
 -- a code behind a number and blanks is read as its groups
 pub code_behind : (p q : Place) (g : Header) (code : List (List ℕ)) (text : List ℕ) → Ends_at p q no_lists no_lists → Skips_blanks q no_lists
     → Opens q g no_lists
-    → ((c : Bracket) → next_line_place p (Open c) ≡ next_line_place q (Open c)) → ((c : Bracket) → lists_after p (Open c) no_lists ≡ lists_after q (Open c) no_lists)
+    → ((c : Bracket) → next_line_place p (Open c) ≡ next_line_place q (Open c))
+    → ((c : Bracket) → lists_after p (Open c) no_lists ≡ lists_after q (Open c) no_lists)
     → (Blanks then Groups code then LineEnd) text → read text p no_lists ≡ Some (item g code)
 code_behind p q g code text ends skips opens next lists (a, x, e, blanks, rest) =
     behind_reads p q no_lists no_lists text x ends skips (same_open p q x next lists (groups_head code x rest)) (a, blanks, e) ∙ code_read q g code x opens rest

@@ -17,8 +17,8 @@ use Rattle.bk_text.specs.declared.reader.Kind.{Kind}
 use Rattle.bk_text.specs.declared.reader.Kind.TheVariants.{Close}
 use Rattle.bk_text.specs.declared.reader.Place.{Place}
 use Rattle.bk_text.specs.declared.reader.Place.TheVariants.{BehindSide, Number as InNumber}
-use Rattle.bk_text.proofs.ByteKinds.{means}
-use Rattle.bk_text.proofs.Fitting.{Fits, FitsNext, counted, ended_is_side, fits_after, last_is_side, read_count}
+use Rattle.bk_text.proofs.ByteKinds.{line_kind_of-means}
+use Rattle.bk_text.proofs.Fitting.{Fits, FitsNext, sides_of_line-read_count, ended_is_side, fits_after, last_is_side, read_count}
 use Rattle.bk_text.proofs.KeepingAll.{Lists, and_group, and_side, line_at, line_of, lists_after}
 use Rattle.bk_text.proofs.Stopping.{Leads, leads_on, read_whole, stops_at, stops_at_end}
 use Rattle.bk_text.proofs.WhatWasRead.{read_is_line}
@@ -37,7 +37,8 @@ pub record Progress (front : List ℕ) (p : Place) (g : Gathered) : Type 0 where
   pub keeps : Keeps g lists
 
 -- a side is kept, or is one too many
-keeps_side : (n : ℕ) (g : Gathered) (t : Lists) → IsGathered g → Keeps g t → Keeps (with_gathered_side n g) (record { groups = t.groups; sides = t.sides ++ n ∷ [] })
+keeps_side : (n : ℕ) (g : Gathered) (t : Lists) → IsGathered g → Keeps g t
+    → Keeps (with_gathered_side n g) (record { groups = t.groups; sides = t.sides ++ n ∷ [] })
 keeps_side n g t is keeps = cases (nat_lt (kept_side_count g) 200) (λ e. ltb-true (kept_side_count g) 200 e) (λ e. ltb-false (kept_side_count g) 200 e)
   where
     longer : length (t.sides ++ n ∷ []) ≡ length t.sides + 1
@@ -72,8 +73,8 @@ keeps_ended None g t is keeps = keeps
 keeps_ended (Some n) g t is keeps = keeps_side n g t is keeps
 
 -- closing a group moves its sides
-pub moved : (t : Lists) → length (flat (t.groups ++ t.sides ∷ [])) + 0 ≡ read_count t
-moved t =
+pub flat-of_closed_group : (t : Lists) → length (flat (t.groups ++ t.sides ∷ [])) + 0 ≡ read_count t
+flat-of_closed_group t =
     let joined : flat (t.groups ++ t.sides ∷ []) ≡ flat t.groups ++ (t.sides ++ []) = flat_map-append (λ (x : List ℕ). x) t.groups (t.sides ∷ []) in
     let size : length (flat t.groups ++ (t.sides ++ [])) ≡ length (flat t.groups) + length t.sides =
     ap (λ (z : List ℕ). length (flat t.groups ++ z)) (append-nil t.sides) ∙ length-append (flat t.groups) t.sides in
@@ -85,7 +86,7 @@ keeps_group g t keeps = cases g.many refl
     cases : (many : Bool) → g.many ≡ many
         → Keeps (if many then g else record { groups = g.groups ++ g.sides ∷ []; sides = []; many = false })
         (record { groups = t.groups ++ t.sides ∷ []; sides = [] })
-    cases true e = record { groups = λ few. absurd (cc); sides = λ few. absurd (cc); more = λ many. omega (arith, keeps.more e, moved t) }
+    cases true e = record { groups = λ few. absurd (cc); sides = λ few. absurd (cc); more = λ many. omega (arith, keeps.more e, flat-of_closed_group t) }
     cases false e = record { groups = λ few i. keeps.groups e i ++ keeps.sides e i ∷ []; sides = λ few. refl; more = λ many. absurd (cc) }
 
 keeps_closed : (closes : Bool) (g : Gathered) (t : Lists) → Keeps g t → Keeps (with_closed closes g) (and_group closes t)
@@ -127,8 +128,9 @@ one_more front p q g b progress is next = record {
   lists = lists_after p (line_kind_of b) progress.lists;
   leads = leads_on front p q progress.lists b progress.leads next;
   fits = subst (λ (o : Option Place). FitsNext o (lists_after p (line_kind_of b) progress.lists)) next
-      (fits_after p (line_kind_of b) progress.lists b (means b) progress.fits);
-  keeps = keeps_closed (closes_group p (line_kind_of b)) (with_ended (ended_side p (line_kind_of b)) g) (and_side (ended_side p (line_kind_of b)) progress.lists)
+      (fits_after p (line_kind_of b) progress.lists b (line_kind_of-means b) progress.fits);
+  keeps = keeps_closed (closes_group p (line_kind_of b)) (with_ended (ended_side p (line_kind_of b)) g)
+      (and_side (ended_side p (line_kind_of b)) progress.lists)
       (keeps_ended (ended_side p (line_kind_of b)) g progress.lists is progress.keeps);
 }
 
@@ -177,5 +179,5 @@ many_found bs p g ending progress is ends many =
     let keeps = keeps_ended (last_side p) g progress.lists is progress.keeps in (
       line_of ending (and_side (last_side p) progress.lists),
       whole_line bs p g ending progress ends,
-      omega (arith, counted p ending progress.lists progress.fits ends, keeps.more many),
+      omega (arith, sides_of_line-read_count p ending progress.lists progress.fits ends, keeps.more many),
     )

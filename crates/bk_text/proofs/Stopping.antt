@@ -66,7 +66,8 @@ begins front p t leads =
     (c.0, (l.0, read_is_line (front ++ c.0) l.0 (leads c.0 ∙ l.1)))
 
 -- a byte behind which there is no place begins no rest of a line
-no_more : (front : List ℕ) (p : Place) (t : Lists) (b : ℕ) (x : List ℕ) → Leads front p t → next_line_place p (line_kind_of b) ≡ None → ¬ (SomeLine (front ++ b ∷ x))
+no_more : (front : List ℕ) (p : Place) (t : Lists) (b : ℕ) (x : List ℕ) → Leads front p t → next_line_place p (line_kind_of b) ≡ None
+    → ¬ (SomeLine (front ++ b ∷ x))
 no_more front p t b x leads none (l, line) =
     let read' : read (b ∷ x) p t ≡ Some l = sym (leads (b ∷ x)) ∙ line_is_read l (front ++ b ∷ x) line in
     let stopped : read (b ∷ x) p t ≡ None = ap (λ next. option_and_then (λ q. read x q (lists_after p (line_kind_of b) t)) next) none in

@@ -11,7 +11,7 @@ use Rattle.bk_text.specs.Onward.{SpellOn, at_number, onward}
 use Rattle.bk_text.specs.LineReading.{closes_group, ended_side, line_kind_of, next_line_place}
 use Rattle.bk_text.specs.declared.reader.Kind.{Kind}
 use Rattle.bk_text.specs.declared.reader.Place.{Place}
-use Rattle.bk_text.proofs.Progress.{Progress, moved, one_more, side_fits}
+use Rattle.bk_text.proofs.Progress.{Progress, flat-of_closed_group, one_more, side_fits}
 
 -- the bytes from a place on, as they are passed
 abbrev pub from : ℕ → List ℕ → List ℕ
@@ -74,7 +74,7 @@ gathered_group g is = cases g.many
     cases true = is
     cases false = record {
       each = tt;
-      few = omega (arith, is.few, moved (record { groups = g.groups; sides = g.sides }));
+      few = omega (arith, is.few, flat-of_closed_group (record { groups = g.groups; sides = g.sides }));
       full = λ e. absurd (cc);
     }
 

@@ -1,14 +1,13 @@
 //! Lines of codes.
 #![tactic(auto)]
 
-ghost use Rattle.bk_text.specs.CodeLine.{Line as LineMeant, IsLine, IsNoLine};
+ghost use Rattle.bk_text.specs.CodeLine.{IsLine};
 ghost use Rattle.bk_text.specs.GatheredSides.{line_gathered};
 ghost use Rattle.bk_text.specs.ReadLine.{IsInRange, IsTextFaultOf, stands_for};
-ghost use Rattle.bk_text.specs.TextLaws.{AWrittenCodeIsRead, AWrittenItemIsRead, AWrittenSizeAndCodeAreRead};
-ghost use Rattle.bk_text.specs.TextLaws.{AWrittenSizeIsASize};
-ghost use Rattle.std.specs.Prelude.{IfErr, IfOk, ◌≡◌, ℕ, List};
+ghost use Rattle.std.specs.Prelude.{IfErr, IfOk};
 
 mod gatherer;
+mod laws;
 mod reader;
 mod sides;
 mod writer;
@@ -17,10 +16,14 @@ use arrayvec::ArrayVec;
 use bk_code::Code;
 use bk_tiling::MOST_SQUARES;
 pub use gatherer::Gatherer;
+pub use laws::{
+    a_line_has_one_meaning, a_written_code_is_read, a_written_item_is_read,
+    a_written_size_and_code_are_read, a_written_size_is_a_size, bytes_leave_lines_at_one_place,
+};
 pub use reader::{Ending, Header, Table};
 use reader::{Place, kind_of};
 use thiserror::Error;
-pub use writer::{write_code, write_size};
+pub use writer::{LONGEST_CODE_TEXT, LONGEST_SIZE_TEXT, write_code, write_size};
 
 /// What a line of codes stands for: nothing; a code, with the order and the size that are stated; or a table row, which
 /// states an order and a size and gives the sides without groups.
@@ -99,33 +102,3 @@ pub fn read_into(line: &[u8], gatherer: &mut Gatherer) -> Result<Ending, TextFau
         None => Err(TextFault::Text { at: line.len() }),
     }
 }
-
-/// A line of codes stands for one thing only.
-pub fn a_line_has_one_meaning()
-    ensures { (bytes : List ℕ) (l m : LineMeant) → IsLine l bytes → IsLine m bytes → l ≡ m }
-{}
-
-/// Bytes that are no line leave the grammar at one place.
-pub fn bytes_leave_lines_at_one_place()
-    ensures { (bytes : List ℕ) (one two : ℕ) → IsNoLine bytes one → IsNoLine bytes two → one ≡ two }
-{}
-
-/// A written code and the end of a line are a line that stands for the code.
-pub fn a_written_code_is_read()
-    ensures { AWrittenCodeIsRead }
-{}
-
-/// A written size is a size of the two numbers.
-pub fn a_written_size_is_a_size()
-    ensures { AWrittenSizeIsASize }
-{}
-
-/// A written size, a blank, a written code and the end of a line stand for the size and the code.
-pub fn a_written_size_and_code_are_read()
-    ensures { AWrittenSizeAndCodeAreRead }
-{}
-
-/// A written order, size and code, with a blank between each two, and the end of a line stand for these three.
-pub fn a_written_item_is_read()
-    ensures { AWrittenItemIsRead }
-{}

@@ -1,62 +1,33 @@
 -- How wide and how high a tiling can be: no wider and no higher than its sides laid end to end.
 use Rattle.std.specs.List.{AllByRecursion}
-use Rattle.std.proofs.Common.{Bool, List, [], arith, cond, count_by, inl, length, min, nat_le, nat_lt, refl, suc, sum_by, zero, ℕ, ◌&&◌, ◌*◌, ◌+◌}
-use Rattle.std.proofs.Common.{◌<◌, ◌≡◌, ◌≤◌, ◌∷◌}
+use Rattle.std.proofs.Common.{List, [], arith, cond, count_by, inl, length, refl, sum_by, ℕ, ◌*◌, ◌+◌}
+use Rattle.std.proofs.Common.{◌<◌, ◌≤◌, ◌∷◌}
 use Rattle.std.proofs.lemmas.Bool.{and_from, le-leb, lt-ltb}
-use Rattle.std.proofs.lemmas.Grind.{common_steps}
 use Rattle.std.proofs.lemmas.List.Sums.{sum_by-cons}
 use Rattle.bk_tiling.proofs.Cells.{counted_one, one_counted, over_from}
 use Rattle.bk_tiling.proofs.TilingLaws.{cell_once, side_of, wide_enough, within_of}
 use Rattle.bk_tiling.specs.KeptTiling.{IsKept, IsSide}
 use Rattle.bk_tiling.specs.Tiling.{IsOneOf, IsTiling, Tiling, covers}
 use Rattle.bk_tiling.specs.declared.Square.{Square}
-
--- the sum of f at the numbers below n
-abbrev total_below : ℕ → (ℕ → ℕ) → ℕ
-total_below zero f = 0
-total_below (suc n) f = total_below n f + f n
-
-at_least_one_each : (n : ℕ) (f : ℕ → ℕ) → ((i : ℕ) → i < n → 0 < f i) → n ≤ total_below n f
-at_least_one_each zero f h = omega arith
-at_least_one_each (suc n) f h = omega (arith, at_least_one_each n f (λ i l. h i (omega arith)), h n (omega arith))
-
-sum_of_two : (n : ℕ) (f g : ℕ → ℕ) → total_below n (λ i. f i + g i) ≡ total_below n f + total_below n g
-sum_of_two zero f g = refl
-sum_of_two (suc n) f g = omega (arith, sum_of_two n f g)
-
-none_below : (n : ℕ) → total_below n (λ i. 0) ≡ 0
-none_below zero = refl
-none_below (suc n) = omega (arith, none_below n)
-
-same_terms : (n : ℕ) (f g : ℕ → ℕ) → ((i : ℕ) → f i ≡ g i) → total_below n f ≡ total_below n g
-same_terms zero f g h = refl
-same_terms (suc n) f g h = omega (arith, same_terms n f g h, h n)
-
--- the numbers from a on, s of them
-abbrev in_span : ℕ → ℕ → ℕ → Bool
-in_span a s i = nat_le a i && nat_lt i (a + s)
-
-span_below : (a s n : ℕ) → total_below n (λ i. cond {A = ℕ} (in_span a s i) 1 0) + min n a ≡ min n (a + s)
-span_below a s zero = omega arith
-span_below a s (suc n) = grind (arith, span_below a s n, common_steps)
+use Rattle.bk_laws.proofs.SumsBelow.{spans, sum_below, sum_below-add, sum_below-ge_count, sum_below-same_terms, sum_below-span_and_min, sum_below-zero_terms}
 
 -- numbers that each lie in the span of some square are no more than the sides laid end to end
 module _ (from : Square → ℕ) where
-  spans_below : (n : ℕ) (squares : List Square) → total_below n (λ i. count_by (λ q. in_span (from q) q.s i) squares) ≤ sum_by (λ q. q.s) squares
-  spans_below n [] = omega (arith, none_below n)
+  spans_below : (n : ℕ) (squares : List Square) → sum_below (λ i. count_by (λ q. spans (from q) q.s i) squares) n ≤ sum_by (λ q. q.s) squares
+  spans_below n [] = omega (arith, sum_below-zero_terms (λ i. 0) n (λ i. refl))
   spans_below n (q ∷ squares) = omega (
     arith,
-    same_terms n (λ i. count_by (λ q. in_span (from q) q.s i) (q ∷ squares))
-        (λ i. cond {A = ℕ} (in_span (from q) q.s i) 1 0 + count_by (λ q. in_span (from q) q.s i) squares)
-        (λ i. sum_by-cons (λ p. cond {A = ℕ} (in_span (from p) p.s i) 1 0) q squares),
-    sum_of_two n (λ i. cond {A = ℕ} (in_span (from q) q.s i) 1 0) (λ i. count_by (λ q. in_span (from q) q.s i) squares),
-    span_below (from q) q.s n,
+    sum_below-same_terms (λ i. count_by (λ q. spans (from q) q.s i) (q ∷ squares))
+        (λ i. cond {A = ℕ} (spans (from q) q.s i) 1 0 + count_by (λ q. spans (from q) q.s i) squares) n
+        (λ i. sum_by-cons (λ p. cond {A = ℕ} (spans (from p) p.s i) 1 0) q squares),
+    sum_below-add (λ i. cond {A = ℕ} (spans (from q) q.s i) 1 0) (λ i. count_by (λ q. spans (from q) q.s i) squares) n,
+    sum_below-span_and_min (from q) q.s n,
     spans_below n squares,
     sum_by-cons (λ (p : Square). p.s) q squares,
   )
 
-  reach : (n : ℕ) (squares : List Square) → ((i : ℕ) → i < n → 0 < count_by (λ q. in_span (from q) q.s i) squares) → n ≤ sum_by (λ q. q.s) squares
-  reach n squares h = omega (arith, at_least_one_each n (λ i. count_by (λ q. in_span (from q) q.s i) squares) h, spans_below n squares)
+  reach : (n : ℕ) (squares : List Square) → ((i : ℕ) → i < n → 0 < count_by (λ q. spans (from q) q.s i) squares) → n ≤ sum_by (λ q. q.s) squares
+  reach n squares h = omega (arith, sum_below-ge_count (λ i. count_by (λ q. spans (from q) q.s i) squares) n h, spans_below n squares)
 
 -- a tiling has a height
 pub high_enough : (t : Tiling) → IsTiling t → 0 < t.height
@@ -70,21 +41,21 @@ high_enough t tiling = go t.squares (tiling.tiles).some (λ q h. h)
 pub width_of_sides : (t : Tiling) → IsTiling t → t.width ≤ sum_by (λ (q : Square). q.s) t.squares
 width_of_sides t tiling = reach (λ q. q.x) t.width t.squares over
   where
-    over : (i : ℕ) → i < t.width → 0 < count_by (λ q. in_span q.x q.s i) t.squares
+    over : (i : ℕ) → i < t.width → 0 < count_by (λ q. spans q.x q.s i) t.squares
     over i l =
         let found = counted_one (covers i 0) t.squares (omega (arith, cell_once t tiling i 0 l (high_enough t tiling))) in
         let o = over_from i 0 found.0 found.2 in
-        one_counted (λ q. in_span q.x q.s i) t.squares found.0 found.1 (and_from _ _ (le-leb _ _ o.left) (lt-ltb _ _ o.right))
+        one_counted (λ q. spans q.x q.s i) t.squares found.0 found.1 (and_from _ _ (le-leb _ _ o.left) (lt-ltb _ _ o.right))
 
 -- and is no higher than all its sides laid end to end
 pub height_of_sides : (t : Tiling) → IsTiling t → t.height ≤ sum_by (λ (q : Square). q.s) t.squares
 height_of_sides t tiling = reach (λ q. q.y) t.height t.squares over
   where
-    over : (j : ℕ) → j < t.height → 0 < count_by (λ q. in_span q.y q.s j) t.squares
+    over : (j : ℕ) → j < t.height → 0 < count_by (λ q. spans q.y q.s j) t.squares
     over j l =
         let found = counted_one (covers 0 j) t.squares (omega (arith, cell_once t tiling 0 j (wide_enough t tiling) l)) in
         let o = over_from 0 j found.0 found.2 in
-        one_counted (λ q. in_span q.y q.s j) t.squares found.0 found.1 (and_from _ _ (le-leb _ _ o.top) (lt-ltb _ _ o.bottom))
+        one_counted (λ q. spans q.y q.s j) t.squares found.0 found.1 (and_from _ _ (le-leb _ _ o.top) (lt-ltb _ _ o.bottom))
 
 -- kept sides laid end to end are no longer than so many times the longest side that is allowed
 pub sides_end_to_end : (squares : List Square) → AllByRecursion (λ q. IsSide q.s) squares

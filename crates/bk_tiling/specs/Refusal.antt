@@ -29,6 +29,10 @@ pub record SharesCell (p q : Square) : Type 0 where
   pub in_first : covers column level p ≡ true
   pub in_second : covers column level q ≡ true
 
+-- the squares at places i and j share a cell, whatever stands for a square past the end
+abbrev pub ShareCellAt : List Square → ℕ → ℕ → Type 0
+ShareCellAt squares i j = (d : Square) → SharesCell (slice_index_or squares i d) (slice_index_or squares j d)
+
 -- i is the least place of a square of which P holds
 pub record IsFirstPlace (P : Square → Type 0) (squares : List Square) (i : ℕ) : Type 0 where
   pub below : i < length squares
@@ -43,7 +47,7 @@ IsLesserPair a b i j = (a < i) ⊎ ((a ≡ i) × (b < j))
 pub record IsFirstOverlap (squares : List Square) (i j : ℕ) : Type 0 where
   pub ascending : i < j
   pub below : j < length squares
-  pub here : (d : Square) → SharesCell (slice_index_or squares i d) (slice_index_or squares j d)
+  pub here : ShareCellAt squares i j
   pub before : (a b : ℕ) (d : Square) → a < b → b < length squares → IsLesserPair a b i j
       → ¬ (SharesCell (slice_index_or squares a d) (slice_index_or squares b d))
 

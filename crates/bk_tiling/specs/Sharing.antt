@@ -2,7 +2,7 @@
 -- Example (RefusalExamples): of the squares (0, 0, 2), (2, 0, 2), (1, 1, 2) that at place 2 is the first that shares a
 -- cell with the one at place 0.
 use Rattle.std.specs.Prelude.{List, length, slice_index_or, ℕ, ◌+◌, ◌<◌, ◌^◌}
-use Rattle.bk_tiling.specs.Refusal.{SharesCell}
+use Rattle.bk_tiling.specs.Refusal.{ShareCellAt, SharesCell}
 use Rattle.bk_tiling.specs.declared.Square.{Square}
 
 -- the square has a side, and its edges fit the types of the code
@@ -19,5 +19,5 @@ SharesWithNoneBefore squares i n =
 pub record IsFirstSharing (squares : List Square) (i j : ℕ) : Type 0 where
   pub after : i < j
   pub below : j < length squares
-  pub here : (d : Square) → SharesCell (slice_index_or squares i d) (slice_index_or squares j d)
+  pub here : ShareCellAt squares i j
   pub before : SharesWithNoneBefore squares i j

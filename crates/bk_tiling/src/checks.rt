@@ -47,12 +47,14 @@ fn first_side(squares: &[Square]) -> Option<usize>
     ensures none { IfNone result (HaveSides squares.now) }
     ensures some { IfSome result (IsFirstPlace (λ q. ¬ (IsSide q.s)) squares.now) }
 {
-    for (i, q) in squares.iter().enumerate() {
-        if q.s == 0 || q.s > LONGEST_SIDE {
-            return Some(i);
-        }
-    }
-    None
+    squares.iter().position(|q| !is_side(q.s))
+}
+
+// Whether a square may have such a side.
+fn is_side(side: u64) -> bool
+    ensures { IsTrue result ↔ IsSide side }
+{
+    0 < side && side <= LONGEST_SIDE
 }
 
 // The first place of a square that reaches out of the rectangle.
@@ -60,12 +62,7 @@ fn first_outside(width: u64, height: u64, squares: &[Square]) -> Option<usize>
     ensures none { IfNone result (AreWithin width height squares.now) }
     ensures some { IfSome result (IsFirstPlace (λ q. ¬ (IsWithin (sized width height) q)) squares.now) }
 {
-    for (i, q) in squares.iter().enumerate() {
-        if reaches_past(q.x, q.s, width) || reaches_past(q.y, q.s, height) {
-            return Some(i);
-        }
-    }
-    None
+    squares.iter().position(|q| reaches_past(q.x, q.s, width) || reaches_past(q.y, q.s, height))
 }
 
 // Whether s numbers from a on go past the end.

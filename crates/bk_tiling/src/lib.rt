@@ -5,15 +5,16 @@ ghost use Rattle.std.specs.Prelude.{[], IfErr, IfOk, IsOk, length, ◌+◌, ◌<
 ghost use Rattle.bk_tiling.specs.CodeOrder.{begins_group, in_code_order, stands_beside};
 ghost use Rattle.bk_tiling.specs.KeptTiling.{IsKept};
 ghost use Rattle.bk_tiling.specs.Refusal.{HaveSides, IsAccepted, IsRefusal, ShareNoCell};
-ghost use Rattle.bk_tiling.specs.RefusalLaws.{RefusedInOneWay, RefusedOrAccepted};
 ghost use Rattle.bk_tiling.specs.Tiling.{order};
 
 mod checks;
 mod hanging;
+mod laws;
 
 use arrayvec::ArrayVec;
 use checks::refusal_of;
 pub use hanging::{push_group, sum_of};
+pub use laws::{a_list_is_refused_in_one_way, a_refused_list_is_not_accepted};
 use std::marker::Model;
 
 /// A tiling has at most so many squares.
@@ -252,13 +253,3 @@ pub fn put_in_order(squares: &mut ArrayVec<Square, MOST_SQUARES>)
 {
     squares.sort_unstable_by_key(|q| (q.y, q.x));
 }
-
-/// A list of squares is refused in one way only.
-pub fn a_list_is_refused_in_one_way()
-    ensures { RefusedInOneWay }
-{}
-
-/// A list of squares that is refused is not accepted.
-pub fn a_refused_list_is_not_accepted()
-    ensures { RefusedOrAccepted }
-{}

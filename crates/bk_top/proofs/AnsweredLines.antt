@@ -24,16 +24,16 @@ one_reply : (command : Command) → HasOneReply (replies_of command).answers
 one_reply command line pieces others p q first other = one_answer command line pieces others p q first.answer other.answer
 
 -- what is kept of a line is answered as the line
-pub replied : (command : Command) (before after : Outside) (ended : Ended)
+pub replied_whole : (command : Command) (before after : Outside) (ended : Ended)
     → EndsWith (answers_of (of_fronts (record { answers = AnswersLine command; may_want = MayWant command }))) (streams_of before after) ended
     → EndsWith (answers_of (replies_of command)) (streams_of before after) ended
-replied command before after ended =
+replied_whole command before after ended =
     ends_within (of_fronts (record { answers = AnswersLine command; may_want = MayWant command })) (replies_of command)
     (record { reply = a_reply command; wants = wants_whole command }) (streams_of before after) ended
 
 module _ (command : Command) (before after : Outside) (status : ℕ) (reads : ReadsToEnd (answers_of (replies_of command)) (streams_of before after)
     (faults_of before after) status)
-    (input : List ℕ) (tells : before.left ≡ Some input) where
+    (input : List ℕ) (tells : before.source.bytes ≡ Some input) where
   at : (ended : Ended) → status ≡ status_of ended → EndsWith (answers_of (replies_of command)) (streams_of before after) ended
   at = ending_at (answers_of (replies_of command)) (streams_of before after) (faults_of before after) status reads
 
@@ -57,7 +57,7 @@ pub answers_lines : (command : Command) (before after : Outside) (ended : Ended)
     → CountsTell ended (faults_of before after) → AnswersLines command before after status
 answers_lines command before after ended status s ends tell =
     let reads = reads_to_end (answers_of (replies_of command)) (streams_of before after) (faults_of before after) ended status s
-    (replied command before after ended ends) tell in
+    (replied_whole command before after ended ends) tell in
     record {
       reads = reads;
       decided = λ input tells few none. decided command before after status reads input tells (reads.complete (is_calm before after input tells few none));

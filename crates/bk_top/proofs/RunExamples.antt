@@ -34,12 +34,16 @@ no_lines = record {
   refused = λ other. (λ one. absurd (omega arith), λ some. absurd (omega (arith, (some.1).1)));
 }
 
-told_whole : IsToldText (codes "a\n") (Some (codes "0\n")) (Some (codes "0\na\n")) 2 2
+told_whole : IsToldText (codes "a\n") (record { bytes = Some (codes "0\n"); faults = 2 }) (record { bytes = Some (codes "0\na\n"); faults = 2 })
 told_whole = inl (refl, refl)
 
 -- nothing is read, and these bytes are written
 abbrev written_so_far : List ℕ → Outside
-written_so_far bytes = record { left = Some []; read_faults = 0; written = Some bytes; write_faults = 0; errors = Some []; error_faults = 0 }
+written_so_far bytes = record {
+  source = record { bytes = Some []; faults = 0 };
+  out = record { bytes = Some bytes; faults = 0 };
+  err = record { bytes = Some []; faults = 0 };
+}
 
 catalogue_appended : AppendsCatalogue 2 Imperfect (written_so_far (codes "0\n"))
     (written_so_far (codes "0\n2 2x1 [1,1] ; 2e\n; end order 2 class imperfect listed 1\n"))

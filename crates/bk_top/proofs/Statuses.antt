@@ -1,5 +1,5 @@
 -- The status of a run says how it ended.
-use Rattle.std.proofs.Common.{ap, arith, cond, false, inl, inr, subst, refl, sym, true, ℕ, ◌==◌, ◌∙◌, ◌≡◌, ◌⊎◌}
+use Rattle.std.proofs.Common.{ap, cond, false, inl, inr, subst, refl, sym, true, ℕ, ◌==◌, ◌∙◌, ◌≡◌, ◌⊎◌}
 use Rattle.std.specs.Prelude.{List, Option, Some, length, ◌<◌, ◌^◌, ◌↔◌, ◌≤◌, IsSomeAnd}
 use Rattle.bk_ports.proofs.CountedFaults.{calm_is_done}
 use Rattle.bk_ports.proofs.TakenBytes.{TookBy, ends_took, more_come, too_many_exactly}
@@ -27,15 +27,6 @@ named_ending TooMany = refl
 -- a status is that of one ending
 pub one_ending : (status : ℕ) (a b : Ended) → status ≡ status_of a → status ≡ status_of b → a ≡ b
 one_ending status a b p q = sym (named_ending a) ∙ ap named_by (sym p ∙ q) ∙ named_ending b
-
--- no ending has the status of words that ask nothing
-pub not_two : (ended : Ended) → status_of ended ≡ 2 → ⊥
-not_two NoneRefused e = omega arith
-not_two SomeRefused e = omega arith
-not_two ReadFailed e = omega arith
-not_two WriteFailed e = omega arith
-not_two NoMemory e = omega arith
-not_two TooMany e = omega arith
 
 -- where more bytes come and no call fails, the status is 7 or 6; and it is 7 exactly where too many were taken
 module _ (streams : Streams) (input : List ℕ) (tells : streams.left ≡ Some input) (ended : Ended) (status : ℕ) (s : status ≡ status_of ended)
@@ -81,8 +72,8 @@ ending_at output streams faults status reads ended s =
     subst (λ (e : Ended). EndsWith output streams e) (one_ending status reads.ended ended reads.status_is s) reads.ending
 
 -- where no call fails and at most 2^30 bytes come
-pub is_calm : (before after : Outside) (input : List ℕ) → before.left ≡ Some input → length input ≤ 2 ^ 30 → HasNoFault (faults_of before after)
-    → IsCalm before.left (faults_of before after)
+pub is_calm : (before after : Outside) (input : List ℕ) → before.source.bytes ≡ Some input → length input ≤ 2 ^ 30 → HasNoFault (faults_of before after)
+    → IsCalm before.source.bytes (faults_of before after)
 is_calm before after input tells few none = record {
   no_fault = none;
   within = subst (λ (l : Option (List ℕ)). IsSomeAnd l (λ bytes. length bytes ≤ 2 ^ 30)) (sym tells) few;

@@ -17,12 +17,12 @@ use Rattle.bk_alike.specs.GroupsEnd.{listing_of}
 use Rattle.bk_alike.specs.declared.Wanted.{Wanted}
 use Rattle.bk_verify_report.specs.VerifyRun.{report_of}
 use Rattle.bk_top.proofs.AnsweredLines.{answers_lines}
-use Rattle.bk_top.proofs.ReadToEnd.{lists_lines, verifies}
+use Rattle.bk_top.proofs.ReadToEnd.{lists_lines, verifies_lines}
 use Rattle.bk_word.specs.Word.{Word}
 use Rattle.bk_word.specs.declared.Class.{Class}
-use Rattle.bk_top.specs.Outside.{Outside, faults_of, status_of, streams_of}
+use Rattle.bk_top.specs.Outside.{Outside, Port, faults_of, status_of, streams_of}
 use Rattle.bk_top.specs.ReadsToEnd.{ReadsToEnd}
-use Rattle.bk_top.specs.Running.{Does, IsWholeRun, Lists, NoErrors, Tries, WritesErrors}
+use Rattle.bk_top.specs.Running.{Does, IsToldText, IsWholeRun, Lists, Tries}
 use Rattle.bk_top.specs.Words.{AsksErrorsOnly, AsksNoLines, ReadsNoLines, WordsAsk, WordsAskNothing, listing_asked, work_asked}
 use Rattle.bk_top.specs.declared.work.Work.{Work}
 use Rattle.bk_top.specs.declared.work.Work.TheVariants as works
@@ -116,7 +116,7 @@ write_status status (inr s) = record { within = (omega (arith, s), λ e. omega (
 read_status : (output : Output) (streams : Streams) (faults : Faults) (status : ℕ) → ReadsToEnd output streams faults status → IsLineStatus status
 read_status output streams faults status reads = line_status reads.ended status reads.status_is
 
-tried_status : (seed count : ℕ) (before after : Outside) (status : ℕ) → Tries seed count before after status → (status ≡ 0) ⊎ (status ≡ 4)
+tried_status : (seed count : ℕ) (before after : Port) (status : ℕ) → Tries seed count before after status → (status ≡ 0) ⊎ (status ≡ 4)
 tried_status seed count before after status tries = elim tries.ends [ inl h ↦ inl h.0 | inr h ↦ inr h.0 ]
 
 -- ---- the run of each kind of work
@@ -125,7 +125,7 @@ module _ (words : List (String Global)) (before after : Outside) (status : ℕ) 
   -- a command that answers lines
   pub run_of_lines : (command : Command) (ended : Ended) → AskFor words (works.Lines command)
       → EndsWith (answers_of (of_fronts (record { answers = AnswersLine command; may_want = MayWant command }))) (streams_of before after) ended
-      → CountsTell ended (faults_of before after) → status ≡ status_of ended → NoErrors before after → IsWholeRun words before after status
+      → CountsTell ended (faults_of before after) → status ≡ status_of ended → after.err ≡ before.err → IsWholeRun words before after status
   run_of_lines command ended a ends tell s silent =
       let known = line_status ended status s in
       run_of words (works.Lines command) a before after status known.within known.not_two
@@ -133,21 +133,21 @@ module _ (words : List (String Global)) (before after : Outside) (status : ℕ) 
 
   -- a listing
   pub run_of_listing : (n : ℕ) (class : Class) (from : Option Word) (limit : Option ℕ) → AskFor words (works.Listing n class from limit)
-      → Lists (listing_asked n class from limit) before after status → NoErrors before after → IsWholeRun words before after status
+      → Lists (listing_asked n class from limit) before.out after.out status → after.err ≡ before.err → IsWholeRun words before after status
   run_of_listing n class from limit a lists silent =
       let known = write_status status lists.no_other in
       run_of words (works.Listing n class from limit) a before after status known.within known.not_two (lists, silent)
 
   -- a trial
-  pub run_of_trial : (seed count : ℕ) → AskFor words (works.Trial seed count) → Tries seed count before after status → NoErrors before after
+  pub run_of_trial : (seed count : ℕ) → AskFor words (works.Trial seed count) → Tries seed count before.out after.out status → after.err ≡ before.err
       → IsWholeRun words before after status
   run_of_trial seed count a tries silent =
-      let known = write_status status (tried_status seed count before after status tries) in
+      let known = write_status status (tried_status seed count before.out after.out status tries) in
       run_of words (works.Trial seed count) a before after status known.within known.not_two (tries, silent)
 
   -- groups or pairs
   pub run_of_gathering : (wanted : Wanted) → AskFor words (works.Gather wanted)
-      → ReadsToEnd (listing_of wanted) (streams_of before after) (faults_of before after) status → NoErrors before after
+      → ReadsToEnd (listing_of wanted) (streams_of before after) (faults_of before after) status → after.err ≡ before.err
       → IsWholeRun words before after status
   run_of_gathering wanted a reads silent =
       let known = read_status (listing_of wanted) (streams_of before after) (faults_of before after) status reads in
@@ -155,19 +155,19 @@ module _ (words : List (String Global)) (before after : Outside) (status : ℕ) 
 
   -- a list that is held against a catalogue
   pub run_of_verify : (n : ℕ) → AskFor words (works.Verify n)
-      → ReadsToEnd (report_of n) (streams_of before after) (faults_of before after) status → NoErrors before after → IsWholeRun words before after status
+      → ReadsToEnd (report_of n) (streams_of before after) (faults_of before after) status → after.err ≡ before.err → IsWholeRun words before after status
   run_of_verify n a reads silent =
       let known = read_status (report_of n) (streams_of before after) (faults_of before after) status reads in
-      run_of words (works.Verify n) a before after status known.within known.not_two (verifies n before after status reads, silent)
+      run_of words (works.Verify n) a before after status known.within known.not_two (verifies_lines n before after status reads, silent)
 
 -- the text of `help`
-pub run_of_help : (words : List (String Global)) (before after : Outside) → AskFor words works.Help → WritesErrors help_text before after
+pub run_of_help : (words : List (String Global)) (before after : Outside) → AskFor words works.Help → IsToldText help_text before.err after.err
     → IsWholeRun words before after 0
 run_of_help words before after a told =
     run_of words works.Help a before after 0 (omega arith, λ e. omega (arith, e)) (λ e. omega (arith, e)) (refl, told)
 
--- and where nothing is asked
-pub run_of_nothing : (words : List (String Global)) (before after : Outside) → WordsAskNothing words → WritesErrors usage before after
+-- a run whose words ask nothing has status 2 and writes the line of usage
+pub run_of_nothing : (words : List (String Global)) (before after : Outside) → WordsAskNothing words → IsToldText usage before.err after.err
     → IsWholeRun words before after 2
 run_of_nothing words before after nothing told = record {
   status_2_asks_nothing = λ e. nothing;

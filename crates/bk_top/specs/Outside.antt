@@ -8,41 +8,39 @@ use Rattle.bk_ports.specs.declared.Ended.{Ended}
 use Rattle.bk_ports.specs.declared.Ended.TheVariants.{NoMemory, NoneRefused, ReadFailed, SomeRefused, TooMany}
 use Rattle.bk_ports.specs.declared.Ended.TheVariants.{WriteFailed}
 
--- the bytes that the source has left, that `out` has taken and that `err` has taken, where they tell them, and each
--- one's count of faults
-pub record Outside : Type 0 where
-  pub left : Option (List ℕ)
-  pub read_faults : ℕ
-  pub written : Option (List ℕ)
-  pub write_faults : ℕ
-  pub errors : Option (List ℕ)
-  pub error_faults : ℕ
+-- what is seen of a source or a sink: the bytes that it has left or has taken, where it tells them, and its count of
+-- faults
+pub record Port : Type 0 where
+  pub bytes : Option (List ℕ)
+  pub faults : ℕ
 
--- what stands outside, from what source, `out` and `err` tell of their bytes, each with its count of faults
-abbrev pub outside : Option (List ℕ) → ℕ → Option (List ℕ) → ℕ → Option (List ℕ) → ℕ → Outside
-outside left read_faults written write_faults errors error_faults = record {
-  left = left;
-  read_faults = read_faults;
-  written = written;
-  write_faults = write_faults;
-  errors = errors;
-  error_faults = error_faults;
-}
+-- what is seen of one, by what tells its bytes and what counts its faults
+abbrev pub port : {A : Type 0} → (A → Option (List ℕ)) → (A → ℕ) → A → Port
+port tells counts a = record { bytes = tells a; faults = counts a }
+
+-- what is seen of the source, of `out` and of `err`
+pub record Outside : Type 0 where
+  pub source : Port
+  pub out : Port
+  pub err : Port
 
 -- what source and `out` tell of their bytes, before and after a run
 abbrev pub streams_of : Outside → Outside → Streams
-streams_of before after =
-    record { left = before.left; left_after = after.left; written = before.written; written_after = after.written }
+streams_of before after = record {
+  left = before.source.bytes;
+  left_after = after.source.bytes;
+  written = before.out.bytes;
+  written_after = after.out.bytes;
+}
 
--- and how many of their calls have failed
+-- how many calls of source and `out` have failed, before and after a run
 abbrev pub faults_of : Outside → Outside → Faults
-faults_of before after =
-    record {
-      read = before.read_faults;
-      read_after = after.read_faults;
-      write = before.write_faults;
-      write_after = after.write_faults;
-    }
+faults_of before after = record {
+  read = before.source.faults;
+  read_after = after.source.faults;
+  write = before.out.faults;
+  write_after = after.out.faults;
+}
 
 -- the status for each ending of a run over lines
 abbrev pub status_of : Ended → ℕ

@@ -30,7 +30,7 @@ pub record ReadsToEnd (output : Output) (streams : Streams) (faults : Faults) (s
   -- where no call fails and more bytes come, the status is 7, or memory is wanting before
   pub more : (input : List ℕ) → streams.left ≡ Some input → 2 ^ 30 < length input → HasNoFault faults
       → (status ≡ 7) ⊎ (status ≡ 6)
-  -- and whatever fails, it is 7 exactly where more than 2^30 bytes were taken
+  -- whatever fails, the status is 7 exactly where more than 2^30 bytes were taken
   pub exactly_7 : (input : List ℕ) → streams.left ≡ Some input → status ≡ 7
       ↔ TookTooMany streams.left streams.left_after
 
@@ -39,7 +39,7 @@ pub record ReadsToEnd (output : Output) (streams : Streams) (faults : Faults) (s
 pub record AnswersLines (command : Command) (before after : Outside) (status : ℕ) : Type 0 where
   pub reads : ReadsToEnd (answers_of (replies_of command)) (streams_of before after) (faults_of before after) status
   -- where no call fails and at most 2^30 bytes come, the lines decide
-  pub decided : (input : List ℕ) → before.left ≡ Some input → length input ≤ 2 ^ 30
+  pub decided : (input : List ℕ) → before.source.bytes ≡ Some input → length input ≤ 2 ^ 30
       → HasNoFault (faults_of before after)
       → IsDecided command (lines_of input) status
 
@@ -48,7 +48,7 @@ pub record ListsLines (wanted : Wanted) (before after : Outside) (status : ℕ) 
   pub reads : ReadsToEnd (listing_of wanted) (streams_of before after) (faults_of before after) status
   -- where no call fails, at most 2^30 bytes come and memory is there, the status is 1 exactly where some line is
   -- refused
-  pub exactly_1 : (input : List ℕ) → before.left ≡ Some input → length input ≤ 2 ^ 30
+  pub exactly_1 : (input : List ℕ) → before.source.bytes ≡ Some input → length input ≤ 2 ^ 30
       → HasNoFault (faults_of before after)
       → status ≢ 6 → status ≡ 1 ↔ HasRefusedLine (lines_of input)
 
@@ -57,6 +57,6 @@ pub record Verifies (n : ℕ) (before after : Outside) (status : ℕ) : Type 0 w
   pub reads : ReadsToEnd (report_of n) (streams_of before after) (faults_of before after) status
   -- where no call fails, at most 2^30 bytes come and memory is there, the status is 1 exactly where the list and the
   -- catalogue differ
-  pub exactly_1 : (input : List ℕ) → before.left ≡ Some input → length input ≤ 2 ^ 30
+  pub exactly_1 : (input : List ℕ) → before.source.bytes ≡ Some input → length input ≤ 2 ^ 30
       → HasNoFault (faults_of before after)
       → status ≢ 6 → status ≡ 1 ↔ HasFault n (lines_of input)

@@ -13,36 +13,14 @@ use bk_members::Members;
 use bk_play::Steps;
 use bk_ports::{Failed, Sink};
 use bk_report::Last;
-use bk_walk::Walk;
 use bk_word::{Class, Word};
 use std::alloc::Global;
 use std::marker::Brand;
 use std::sync::ledger::{Blank, Ledger};
 
-// Writes the listing of an order and a class after a word, up to a limit, by a walk through the catalogue.
-pub(crate) fn list_catalogue<O: Sink>(
-    alloc: Global,
-    order: u8,
-    class: Class,
-    from: Option<Word>,
-    limit: Option<u64>,
-    out: &mut O,
-) -> Result<Last, Failed>
-    requires least { 2 ≤ order }
-    requires most { order ≤ 16 }
-    requires few { order_of (start_cursor from) ≤ 16 }
-    ensures listed { let l = listing_asked order class from limit in
-        IfOk result (λ last. WritesListing l last (O.written out.old) (O.written out.new)) }
-    ensures begun { let l = listing_asked order class from limit in OnErr result
-        (BeginsListing l (O.written out.old) (O.written out.new)) }
-    ensures cause { HasCause (O.faults out.old) (O.faults out.new) result }
-{
-    list_by::<Walk, O>(alloc, order, class, from, limit, out)
-}
-
 // Writes the listing of an order and a class after a word, up to a limit, by members of this kind.
 #[inline(never)]
-fn list_by<M: Members, O: Sink>(
+pub(crate) fn list_catalogue<M: Members, O: Sink>(
     alloc: Global,
     order: u8,
     class: Class,

@@ -1,8 +1,8 @@
 //! How runs over lines, listings and trials end.
 
 ghost use Rattle.std.specs.Prelude.{◌≡◌};
-ghost use Rattle.bk_top.specs.Outside.{status_of};
-ghost use Rattle.bk_top.specs.Running.{IsTried, status_of_listing};
+ghost use Rattle.bk_top.specs.Outside.{port, status_of};
+ghost use Rattle.bk_top.specs.Running.{Tries, status_of_listing};
 
 use bk_gen::trial;
 use bk_grammar::AnswerBuffer;
@@ -23,7 +23,7 @@ pub(crate) fn listing_status(ended: &Result<Last, Failed>) -> u8
 // Writes the line about trial codes, and gives the status.
 #[inline(never)]
 pub(crate) fn try_codes<O: Sink>(seed: u64, count: u32, out: &mut O) -> u8
-    ensures { IsTried seed count (O.written out.old) (O.written out.new) (O.faults out.old) (O.faults out.new) result }
+    ensures { Tries seed count (port O.written O.faults out.old) (port O.written O.faults out.new) result }
 {
     let mut line = AnswerBuffer::new();
     trial(seed, count, &mut line);

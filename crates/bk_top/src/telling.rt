@@ -1,6 +1,7 @@
 //! The texts that are written on errors.
 
 ghost use Rattle.bk_ask.specs.Help.{help_text, usage};
+ghost use Rattle.bk_top.specs.Outside.{port};
 ghost use Rattle.bk_top.specs.Running.{IsToldText};
 
 use bk_ask::{write_help, write_usage};
@@ -9,7 +10,7 @@ use bk_ports::Sink;
 
 // Writes how a command line is built.
 pub(crate) fn tell_usage<E: Sink>(err: &mut E)
-    ensures { IsToldText usage (E.written err.old) (E.written err.new) (E.faults err.old) (E.faults err.new) }
+    ensures { IsToldText usage (port E.written E.faults err.old) (port E.written E.faults err.new) }
 {
     let mut text = AnswerBuffer::new();
     write_usage(&mut text);
@@ -18,7 +19,7 @@ pub(crate) fn tell_usage<E: Sink>(err: &mut E)
 
 // Writes the text of `help`.
 pub(crate) fn tell_help<E: Sink>(err: &mut E)
-    ensures { IsToldText help_text (E.written err.old) (E.written err.new) (E.faults err.old) (E.faults err.new) }
+    ensures { IsToldText help_text (port E.written E.faults err.old) (port E.written E.faults err.new) }
 {
     let mut text = AnswerBuffer::new();
     write_help(&mut text);
@@ -27,7 +28,7 @@ pub(crate) fn tell_help<E: Sink>(err: &mut E)
 
 // Writes a text by one call. Where that fails, nothing more is done.
 fn tell<E: Sink>(text: &[u8], err: &mut E)
-    ensures { IsToldText text.now (E.written err.old) (E.written err.new) (E.faults err.old) (E.faults err.new) }
+    ensures { IsToldText text.now (port E.written E.faults err.old) (port E.written E.faults err.new) }
 {
     let _ = err.write_all(text);
 }

@@ -44,14 +44,15 @@ module _ (n : ℕ) (class : Class) (front : Word) (x m : Move) (least : IsLeastF
       cases (inr e) = subst (λ (k : Move). Follows w (front ++ k ∷ [])) (sym e) f
 
   -- so a step leads where it leads from there
-  pub step_from : (new : Word) (next : Move) (met : ℕ) (went : Went) → StepLeadsTo n class (front ++ m ∷ []) new next met went
-      → StepLeadsTo n class (front ++ x ∷ []) new next met went
-  step_from new next met On leads = (
-    record { up = up_from (new ++ next ∷ []) (leads.0).up; on = λ cursor before p. (leads.0).on cursor before (fits_on cursor before p) },
+  pub step_from : (pushes : ℕ) (last : SearchState) (met : ℕ) (went : Went)
+      → StepLeadsTo (record { order = n; class = class; front = front; next = m; pushes = pushes }) last met went
+      → StepLeadsTo (record { order = n; class = class; front = front; next = x; pushes = pushes }) last met went
+  step_from pushes last met On leads = (
+    record { up = up_from (place_of last) (leads.0).up; on = λ cursor before p. (leads.0).on cursor before (fits_on cursor before p) },
     leads.1,
   )
-  step_from new next met Met leads = λ cursor before p. leads cursor before (fits_on cursor before p)
-  step_from new next met End leads = (λ cursor before p. leads.0 cursor before (fits_on cursor before p), leads.1)
+  step_from pushes last met Met leads = λ cursor before p. leads cursor before (fits_on cursor before p)
+  step_from pushes last met End leads = (λ cursor before p. leads.0 cursor before (fits_on cursor before p), leads.1)
 
 -- at a legal move that hangs no more squares than are left, a search can stand
 pub legal_stand : (n : ℕ) (front : Word) (x m : Move) → n ≤ 16 → IsSearchState n front x → IsLegalMove (outline_of front) m → order_of front + m.count ≤ n
@@ -93,7 +94,7 @@ module _ {s now : SearchState} (view : s ≡ now) (kept : IsKeptSearch s) (m : M
   -- a next move with few enough squares settles the search as it is, with the legal move next
   pub settled_on : order_of s.front + m.count ≤ s.order → SettlesTo now (moved s.front m) None
   settled_on few = subst (λ (u : SearchState). SettlesTo u (moved s.front m) None) view
-      (record { legal = least.legal; few = few }, step_from s.order s.class s.front s.next m least)
+      (record { legal = least.legal; few = few }, step_from s.order s.class s.front s.next m least s.pushes)
 
   -- back, after the last move
   pub settled_back_leads : (new : Word) (next : Move) → IsClimbed s.front new next → s.order < order_of s.front + m.count
@@ -112,14 +113,14 @@ module _ {s now : SearchState} (view : s ≡ now) (kept : IsKeptSearch s) (m : M
 
 -- where a search settles it does without a step
 pub settled_leads : (s then : SearchState) (went : Went) (steps : ℕ) → SettlesTo s then (Some went)
-    → StepLeadsTo s.order s.class (place_of s) then.front then.next (steps - steps) went
-settled_leads s then went steps settled = subst (λ (met : ℕ). StepLeadsTo s.order s.class (place_of s) then.front then.next met went)
+    → StepLeadsTo s then (steps - steps) went
+settled_leads s then went steps settled = subst (λ (met : ℕ). StepLeadsTo s then met went)
     (sym (none_between steps)) (cases went settled)
   where
     none_between : (k : ℕ) → k - k ≡ 0
     none_between k = omega arith
 
-    cases : (w : Went) → SettlesTo s then (Some w) → StepLeadsTo s.order s.class (place_of s) then.front then.next 0 w
+    cases : (w : Went) → SettlesTo s then (Some w) → StepLeadsTo s then 0 w
     cases On leads = leads
     cases Met never = absurd never
     cases End leads = leads

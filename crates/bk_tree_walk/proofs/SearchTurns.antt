@@ -29,20 +29,19 @@ stays_then s t u a b c st tu = record {
 -- a turn from the state t, to which the search came from s, to the state u
 module _ (s t u : SearchState) (a b c : ℕ) (kept_t : IsKeptSearch t)
     (on : Continues s.order s.class (place_of s) (place_of t) (b - a)) (st : StaysOf s t a b) (tu : StaysOf t u b c) where
-  in_order : (went : Went) → StepLeadsTo t.order t.class (place_of t) u.front u.next (c - b) went
-      → StepLeadsTo s.order s.class (place_of t) u.front u.next (c - b) went
-  in_order went leads = subst (λ (k : Class). StepLeadsTo s.order k (place_of t) u.front u.next (c - b) went) st.class
-      (subst (λ (n : ℕ). StepLeadsTo n t.class (place_of t) u.front u.next (c - b) went) st.order leads)
+  in_order : (went : Went) → StepLeadsTo t u (c - b) went → StepLeadsTo (record t { order = s.order; class = s.class }) u (c - b) went
+  in_order went leads = subst (λ (p : ℕ × Class). StepLeadsTo (record t { order = p.0; class = p.1 }) u (c - b) went)
+      (λ i. (st.order i, st.class i)) leads
 
   few : c - a ≤ (b - a) + (c - b)
   few = let k = (st.counts).more in let l = (tu.counts).more in omega arith
 
   -- a turn that leads on leads the whole search on to where the turn ends
-  pub turn_on : StepLeadsTo t.order t.class (place_of t) u.front u.next (c - b) On → Continues s.order s.class (place_of s) (place_of u) (c - a)
+  pub turn_on : StepLeadsTo t u (c - b) On → Continues s.order s.class (place_of s) (place_of u) (c - a)
   turn_on leads = continues_on s.order s.class (place_of s) (place_of t) (place_of u) (b - a) (c - b) (c - a) on (in_order On leads).0 few
 
   -- a turn that leads on leaves a search that holds what each does
-  pub turn_kept : StepLeadsTo t.order t.class (place_of t) u.front u.next (c - b) On → IsKeptSearch u
+  pub turn_kept : StepLeadsTo t u (c - b) On → IsKeptSearch u
   turn_kept leads = record {
     least = omega (arith, kept_t.least, tu.order);
     most = omega (arith, kept_t.most, tu.order);
@@ -51,18 +50,18 @@ module _ (s t u : SearchState) (a b c : ℕ) (kept_t : IsKeptSearch t)
   }
 
   -- a turn that leads on comes to a place with fewer words left
-  pub turn_nearer : StepLeadsTo t.order t.class (place_of t) u.front u.next (c - b) On → left_after (place_of u) < left_after (place_of t)
+  pub turn_nearer : StepLeadsTo t u (c - b) On → left_after (place_of u) < left_after (place_of t)
   turn_nearer leads = nearer t.order t.front u.front t.next u.next kept_t.most kept_t.stand leads.1 (leads.0).up
 
   -- a turn that comes to the end ends the whole search
-  pub turn_ends : StepLeadsTo t.order t.class (place_of t) u.front u.next (c - b) End → Finds s.order s.class (place_of s) u.front (c - a) false
+  pub turn_ends : StepLeadsTo t u (c - b) End → Finds s u (c - a) false
   turn_ends leads = (
     ends_then s.order s.class (place_of s) (place_of t) (b - a) (c - b) (c - a) on (in_order End leads).0 few,
     leads.1,
   )
 
   -- a turn that meets a member's word finds it in the whole search
-  pub turn_finds : StepLeadsTo t.order t.class (place_of t) u.front u.next (c - b) Met → Finds s.order s.class (place_of s) u.front (c - a) true
+  pub turn_finds : StepLeadsTo t u (c - b) Met → Finds s u (c - a) true
   turn_finds leads = meets_then s.order s.class (place_of s) (place_of t) u.front (b - a) (c - b) (c - a) on (in_order Met leads) few
 
   -- an entry that a turn meets is one of the search's order and class

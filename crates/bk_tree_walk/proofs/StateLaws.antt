@@ -1,6 +1,6 @@
 -- What a search is after a step from where its next move is legal.
 use Rattle.std.proofs.Common.{[], ap, arith, length, min, refl, subst, sym, take, ℕ, ◌++◌, ◌+◌, ◌-◌, ◌<◌, ◌^◌, ◌∙◌, ◌∷◌, ◌≡◌, ◌≤◌}
-use Rattle.bk_word.specs.Outline.{start}
+use Rattle.bk_word.specs.Outline.{IsLegalMove, start}
 use Rattle.bk_word.specs.Play.{IsComplete, outline_of}
 use Rattle.bk_word.specs.Word.{Move, Word, order_of}
 use Rattle.bk_word.specs.declared.Class.{Class}
@@ -13,8 +13,7 @@ use Rattle.bk_tiling.specs.Tiling.{Tiling}
 use Rattle.bk_tree_walk.proofs.MemberEntries.{same_entry}
 use Rattle.bk_walk_cuts.specs.MoveCuts.{GrowsByAtMostOne, IsCut}
 use Rattle.bk_catalogue.specs.Repeated.{HasNoMember}
-use Rattle.bk_tree_walk.specs.Search.{IsKeptSearch, IsReady, IsSearchState, SearchState, StaysOf, StepLeadsTo, place_of}
-use Rattle.bk_members.specs.Walking.{PushesGrow}
+use Rattle.bk_tree_walk.specs.Search.{IsKeptSearch, IsReady, IsSearchState, SearchState, StaysOf, StepLeadsTo}
 use Rattle.bk_tree_walk.specs.declared.Went.TheVariants.{Met, On}
 use Rattle.bk_tree_walk.proofs.Standing.{step_cuts, step_goes_down, step_meets, step_turns_back}
 
@@ -43,6 +42,17 @@ stays_one s then steps steps_then order of_class pushes one = record {
   counts = record { more = omega (arith, one); counted = omega (arith, pushes, one) };
 }
 
+-- a legal move that leaves room in the order, played, leads to a place of a search, whatever its next move is
+pub played_stand : (n : ℕ) (front : Word) (x m : Move) → IsSearchState n front x → IsLegalMove (outline_of front) m → order_of front + m.count ≤ n
+    → IsSearchState n (front ++ m ∷ []) x
+played_stand n front x m stand legal few = record {
+  legal = legal-snoc start front m stand.legal legal;
+  small = omega (arith, few, order_one front m);
+  some = stand.some;
+  count = stand.count;
+  signs = stand.signs;
+}
+
 module _ (s : SearchState) (kept : IsKeptSearch s) (ready : IsReady s) where
   -- the next move has few squares and signs
   pub count_few : s.next.count < 17
@@ -54,40 +64,38 @@ module _ (s : SearchState) (kept : IsKeptSearch s) (ready : IsReady s) where
 
   -- where it is pushed, the moves are a word of the tree
   pub stand_down : IsSearchState s.order (s.front ++ s.next ∷ []) s.next
-  stand_down = record {
-    legal = legal-snoc start s.front s.next kept.stand.legal ready.legal;
-    small = omega (arith, ready.few, order_one s.front s.next);
-    some = ready.legal.some;
-    count = kept.stand.count;
-    signs = kept.stand.signs;
-  }
+  stand_down = played_stand s.order s.front s.next s.next kept.stand ready.legal ready.few
 
   -- over moves that are cut
   pub leads_over : (next : Move) (steps : ℕ) → IsCut s.order s.class s.front s.next next → GrowsByAtMostOne s.next next
-      → StepLeadsTo s.order s.class (place_of s) s.front next (steps - steps) On
+      → StepLeadsTo s (record s { next = next }) (steps - steps) On
   leads_over next steps cut near = step_cuts s.order s.class s.front s.next kept.most kept.stand ready.legal next (steps - steps) cut near ready.few
       (omega arith)
 
   module _ (pushed : Word) (steps then : ℕ) (is : pushed ≡ s.front ++ s.next ∷ []) (one : then ≡ steps + 1) where
     -- down and back, where no member's word begins so
     pub leads_back : (popped : Word) (next : Move) → popped ≡ take (length pushed - 1) pushed → next ≡ move_after s.next → IsBarren s.order s.class pushed
-        → StepLeadsTo s.order s.class (place_of s) popped next (then - steps) On
+        → StepLeadsTo s (record s { front = popped; next = next }) (then - steps) On
     leads_back popped next pop after barren = step_turns_back s.order s.class s.front s.next kept.most kept.stand ready.legal ready.few pushed is (then - steps)
         (omega (arith, one)) popped next pop after barren
 
     -- down, where the moves are no complete word of the order that a member has
     pub leads_down : (next : Move) → next ≡ first_move → (IsComplete pushed → order_of pushed ≡ s.order → HasNoMember s.class pushed)
-        → StepLeadsTo s.order s.class (place_of s) pushed next (then - steps) On
+        → StepLeadsTo s (record s { front = pushed; next = next }) (then - steps) On
     leads_down next first none = step_goes_down s.order s.class s.front s.next kept.most kept.stand ready.legal ready.few pushed is (then - steps)
         (omega (arith, one)) next first none
 
     -- to the word of a member
-    pub leads_to : (next : Move) → StepLeadsTo s.order s.class (place_of s) pushed next (then - steps) Met
+    pub leads_to : (next : Move) → StepLeadsTo s (record s { front = pushed; next = next }) (then - steps) Met
     leads_to next = step_meets s.order s.class s.front s.next kept.most kept.stand ready.legal ready.few pushed is (then - steps) (omega (arith, one))
 
 -- the state after the push of a move, which stays the next
 abbrev pub down_from : SearchState → Move → SearchState
 down_from s m = record { order = s.order; class = s.class; front = s.front ++ m ∷ []; next = m; pushes = min (s.pushes + 1) (2 ^ 64 - 1) }
+
+-- the state after another move is played: the next move stays
+abbrev pub played_from : SearchState → Move → SearchState
+played_from s m = record { order = s.order; class = s.class; front = s.front ++ m ∷ []; next = s.next; pushes = min (s.pushes + 1) (2 ^ 64 - 1) }
 
 -- a move played in a search counts as one push and keeps its order and class
 pub stays_played : (s t : SearchState) (m : Move) (steps then : ℕ) → t ≡ down_from s m → then ≡ steps + 1 → StaysOf s t steps then
@@ -114,7 +122,7 @@ module _ (s t : SearchState) (kept : IsKeptSearch s) (ready : IsReady s) (m : Mo
 
   -- a barren move that is taken back leads the search on to the move after it
   pub walked_back : (popped : Word) (next : Move) → popped ≡ take (length t.front - 1) t.front → next ≡ move_after t.next → IsBarren t.order s.class t.front
-      → StepLeadsTo s.order s.class (place_of s) popped next (then - steps) On
+      → StepLeadsTo s (record s { front = popped; next = next }) (then - steps) On
   walked_back popped next pop after barren = leads_back s kept ready t.front steps then front_is one popped next pop
       (after ∙ ap move_after (ap (λ (u : SearchState). u.next) is ∙ same)) (subst (λ (n : ℕ). IsBarren n s.class t.front) order_is barren)
 
@@ -125,12 +133,12 @@ module _ (s t : SearchState) (kept : IsKeptSearch s) (ready : IsReady s) (m : Mo
 
   -- a move that is played, and is no member's whole word, leads the search on to a first move
   pub walked_down : (next : Move) → next ≡ first_move → (IsComplete t.front → order_of t.front ≡ t.order → HasNoMember t.class t.front)
-      → StepLeadsTo s.order s.class (place_of s) t.front next (then - steps) On
+      → StepLeadsTo s (record t { next = next }) (then - steps) On
   walked_down next first none = leads_down s kept ready t.front steps then front_is one next first
       (λ whole order. subst (λ (k : Class). HasNoMember k t.front) (ap (λ (u : SearchState). u.class) is) (none whole (order ∙ sym order_is)))
 
   -- with the ready move played the search meets the word of the moves so far
-  pub walked_to : (next : Move) → StepLeadsTo s.order s.class (place_of s) t.front next (then - steps) Met
+  pub walked_to : (next : Move) → StepLeadsTo s (record t { next = next }) (then - steps) Met
   walked_to next = leads_to s kept ready t.front steps then front_is one next
 
   -- that of an entry of its order and class

@@ -65,24 +65,6 @@ abbrev pub Meets : ℕ → Class → Word → Word → ℕ → Type 0
 Meets n class place word met = (cursor : Word) (before : ℕ) → HasPassed n class cursor place before
     → IsMet n class cursor word (before + met)
 
--- where a step of a search leads from a place: on to a later one, to the word of a member, or to the end
-abbrev pub StepLeadsTo : ℕ → Class → Word → Word → Move → ℕ → Went → Type 0
-StepLeadsTo n class place front x met On = Advances n class place (front ++ x ∷ []) met × IsSearchState n front x
-StepLeadsTo n class place front x met Met = Meets n class place front met
-StepLeadsTo n class place front x met End = Ends n class place met × (front ≡ [])
-
--- from the one place a step leads wherever it leads from the other
-abbrev pub GoesOnFrom : ℕ → Class → Word → Word → Type 0
-GoesOnFrom n class place then = (front : Word) (next : Move) (met : ℕ) (went : Went)
-    → StepLeadsTo n class then front next met went
-    → StepLeadsTo n class place front next met went
-
--- the last move was taken back, and the other is the next after it
-pub record IsClimbed (before front : Word) (x : Move) : Type 0 where
-  pub last : Move
-  pub was : before ≡ front ++ last ∷ []
-  pub next : x ≡ move_after last
-
 -- a search: its order and class, the moves that it has played, the move from which it looks for the next legal one, and
 -- how many moves it has pushed, up to the last number of 64 bits
 pub record SearchState : Type 0 where
@@ -95,6 +77,24 @@ pub record SearchState : Type 0 where
 -- the place where it stands
 abbrev pub place_of : SearchState → Word
 place_of s = s.front ++ s.next ∷ []
+
+-- where a step of a search leads: on to a later place, to the word of a member, or to the end
+abbrev pub StepLeadsTo : SearchState → SearchState → ℕ → Went → Type 0
+StepLeadsTo s then met On = Advances s.order s.class (place_of s) (place_of then) met
+    × IsSearchState s.order then.front then.next
+StepLeadsTo s then met Met = Meets s.order s.class (place_of s) then.front met
+StepLeadsTo s then met End = Ends s.order s.class (place_of s) met × (then.front ≡ [])
+
+-- from the one place a step leads wherever it leads from the other
+abbrev pub GoesOnFrom : SearchState → SearchState → Type 0
+GoesOnFrom s then = (last : SearchState) (met : ℕ) (went : Went) → StepLeadsTo then last met went
+    → StepLeadsTo s last met went
+
+-- the last move was taken back, and the other is the next after it
+pub record IsClimbed (before front : Word) (x : Move) : Type 0 where
+  pub last : Move
+  pub was : before ≡ front ++ last ∷ []
+  pub next : x ≡ move_after last
 
 -- what holds of each search
 pub record IsKeptSearch (s : SearchState) : Type 0 where
@@ -111,10 +111,10 @@ pub record IsReady (s : SearchState) : Type 0 where
 -- where a search is, that makes its next move legal: ready to go on from there as from where it was, or back from moves
 -- after which none is left, or at the end
 abbrev pub SettlesTo : SearchState → SearchState → Option Went → Type 0
-SettlesTo s then None = IsReady then × GoesOnFrom s.order s.class (place_of s) (place_of then)
-SettlesTo s then (Some On) = StepLeadsTo s.order s.class (place_of s) then.front then.next 0 On
+SettlesTo s then None = IsReady then × GoesOnFrom s then
+SettlesTo s then (Some On) = StepLeadsTo s then 0 On
 SettlesTo s then (Some Met) = ⊥
-SettlesTo s then (Some End) = StepLeadsTo s.order s.class (place_of s) then.front then.next 0 End
+SettlesTo s then (Some End) = StepLeadsTo s then 0 End
 
 -- a step changes neither the order nor the class, and counts its pushes
 pub record StaysOf (s then : SearchState) (steps steps_then : ℕ) : Type 0 where
@@ -122,7 +122,7 @@ pub record StaysOf (s then : SearchState) (steps steps_then : ℕ) : Type 0 wher
   pub class : then.class ≡ s.class
   pub counts : PushesGrow s.pushes then.pushes steps steps_then
 
--- what a search finds from a place: the word of a member, or there is none, and it is at the end
-abbrev pub Finds : ℕ → Class → Word → Word → ℕ → Bool → Type 0
-Finds n class place front met true = Meets n class place front met
-Finds n class place front met false = Ends n class place met × (front ≡ [])
+-- what a search finds: the word of a member, or there is none, and it is at the end
+abbrev pub Finds : SearchState → SearchState → ℕ → Bool → Type 0
+Finds s then met true = Meets s.order s.class (place_of s) then.front met
+Finds s then met false = Ends s.order s.class (place_of s) met × (then.front ≡ [])

@@ -10,29 +10,23 @@ ghost use Rattle.bk_catalogue.specs.Catalogue.{IsEntry};
 ghost use Rattle.bk_catalogue.specs.Repeated.{HasNoMember, HasTwoAlike};
 ghost use Rattle.bk_tree_walk.specs.WholeWords.{IsUnfit};
 
-use crate::qualifying::qualifies;
-use arrayvec::ArrayVec;
+use bk_catalogue::qualifies;
 use bk_flow::NarrowFlow;
 use bk_play::Skel;
-use bk_skel::{Realised, flow_of, realise_by_in};
-use bk_tiling::{MOST_SQUARES, Square, Tiling};
+use bk_skel::{Board, Realised, flow_of, realise_by_in};
+use bk_tiling::Tiling;
 use bk_word::Class;
 
 // Whether a member of the class has a complete word of at most 16 squares. Where one has, `tiling` becomes that member.
-// In `laid` is room for the squares that are laid.
-pub(crate) fn find_member(
-    skel: &Skel,
-    class: Class,
-    laid: &mut ArrayVec<Square, MOST_SQUARES>,
-    tiling: &mut Tiling,
-) -> bool
+// The board is room for the squares that are laid.
+pub(crate) fn find_member(skel: &Skel, class: Class, board: &mut Board, tiling: &mut Tiling) -> bool
     requires whole { IsComplete skel.now }
     requires few { order_of skel.now ≤ 16 }
     ensures yes { IsTrue result → IsEntry (order_of skel.now) class (record { tiling = tiling.new; word = skel.now }) }
     ensures no { result ≡ false → HasNoMember class skel.now }
 {
     match fit_flow(skel, class) {
-        Some(flow) => find_by_flow(skel, &flow, class, laid, tiling),
+        Some(flow) => find_by_flow(skel, &flow, class, board, tiling),
         None => false,
     }
 }
@@ -59,7 +53,7 @@ fn find_by_flow(
     skel: &Skel,
     flow: &NarrowFlow,
     class: Class,
-    laid: &mut ArrayVec<Square, MOST_SQUARES>,
+    board: &mut Board,
     tiling: &mut Tiling,
 ) -> bool
     requires whole { IsComplete skel.now }
@@ -68,7 +62,7 @@ fn find_by_flow(
     ensures yes { IsTrue result → IsEntry (order_of skel.now) class (record { tiling = tiling.new; word = skel.now }) }
     ensures no { result ≡ false → HasNoMember class skel.now }
 {
-    match realise_by_in(skel, flow, laid, tiling) {
+    match realise_by_in(skel, flow, board, tiling) {
         Realised::Found => qualifies(tiling, class),
         Realised::Nothing => false,
     }

@@ -1,14 +1,12 @@
 //! A walk through the tree of legal words, in ascending order, that looks for the words of a catalogue's members.
 #![tactic(auto)]
 
-mod corners;
 mod judging;
-mod qualifying;
 mod realising;
 mod resuming;
 mod tree_walk;
 
-pub use qualifying::{is_simple_of, qualifies};
+pub use bk_catalogue::{is_simple_of, qualifies};
 pub use resuming::{copy_of, word_played};
 pub use tree_walk::TreeWalk;
 

@@ -11,13 +11,13 @@ ghost use Rattle.bk_catalogue.specs.Catalogue.{IsEntry};
 ghost use Rattle.bk_catalogue.specs.Repeated.{HasNoMember};
 ghost use Rattle.bk_tree_walk.specs.declared.Went.TheVariants.{Met};
 ghost use Rattle.bk_tree_walk.specs.Search.{GoesOnFrom, IsClimbed, IsKeptSearch, IsReady, SettlesTo, StaysOf};
-ghost use Rattle.bk_tree_walk.specs.Search.{StepLeadsTo, place_of};
+ghost use Rattle.bk_tree_walk.specs.Search.{StepLeadsTo};
 
 use crate::Went;
 use crate::judging::find_member;
-use arrayvec::ArrayVec;
 use bk_play::{Skel, Steps, open_side};
-use bk_tiling::{MOST_SQUARES, Square, Tiling};
+use bk_skel::Board;
+use bk_tiling::Tiling;
 use bk_walk_cuts::{
     LinedSkel, begin_anew, first_move, is_barren, least_legal_from, next_move, skip,
 };
@@ -34,7 +34,7 @@ pub struct TreeWalk {
     class: Class,
     pub(crate) lined: LinedSkel,
     pub(crate) next: Move,
-    pub(crate) laid: ArrayVec<Square, MOST_SQUARES>,
+    pub(crate) board: Board,
     pushes: u64,
 }
 
@@ -67,7 +67,7 @@ impl TreeWalk {
             class,
             lined: LinedSkel::new(order),
             next: first_move(),
-            laid: ArrayVec::new(),
+            board: Board::new(),
             pushes: 0,
         }
     }
@@ -131,8 +131,7 @@ impl TreeWalk {
     /// of a member, `tiling` becomes that member.
     pub fn walk_on<L: Ledger>(&mut self, steps: &mut Steps<L>, tiling: &mut Tiling) -> Went
         requires { IsReady self.old }
-        ensures leads { StepLeadsTo self.old.order self.old.class (place_of self.old) self.new.front self.new.next
-            (steps.new - steps.old) result }
+        ensures leads { StepLeadsTo self.old self.new (steps.new - steps.old) result }
         ensures member { result ≡ Met
             → IsEntry self.old.order self.old.class (record { tiling = tiling.new; word = self.new.front }) }
         ensures stays { StaysOf self.old self.new steps.old steps.new }
@@ -147,7 +146,7 @@ impl TreeWalk {
             return Went::On;
         }
         begin_anew(&mut self.next);
-        if is_members(&self.lined, self.class, self.order, &mut self.laid, tiling) {
+        if is_members(&self.lined, self.class, self.order, &mut self.board, tiling) {
             Went::Met
         } else {
             Went::On
@@ -163,20 +162,19 @@ impl TreeWalk {
         self.lined.shorten(moves);
     }
 
-    /// Plays a move, which must be legal and hang no more squares than the order leaves.
-    pub fn play<L: Ledger>(&mut self, m: Move, steps: &mut Steps<L>)
-        requires legal { IsLegalMove (outline_of self.old.front) m }
-        requires few { order_of self.old.front + m.count ≤ self.old.order }
+    /// Plays a move, which must be legal and hang no more squares than the order leaves. The next move stays.
+    pub fn play<L: Ledger>(&mut self, m: &Move, steps: &mut Steps<L>)
+        requires legal { IsLegalMove (outline_of self.old.front) m.now }
+        requires few { order_of self.old.front + m.now.count ≤ self.old.order }
         ensures state { self.new
             ≡ record self.old {
-              front = self.old.front ++ m ∷ [];
-              next = m;
+              front = self.old.front ++ m.now ∷ [];
               pushes = min (self.old.pushes + 1) (2 ^ 64 - 1);
             } }
         ensures step { steps.new ≡ steps.old + 1 }
     {
-        self.next = m;
-        self.go_down(steps);
+        self.lined.push(m, steps);
+        self.pushes = self.pushes.saturating_add(1);
     }
 
     // Pushes the next move, and counts it. It stays the next.
@@ -228,20 +226,20 @@ fn climb(lined: &mut LinedSkel, next: &mut Move) -> bool
     true
 }
 
-// Whether the moves are the word of a member of the order. Where they are, `tiling` becomes that member. In `laid` is
+// Whether the moves are the word of a member of the order. Where they are, `tiling` becomes that member. The board is
 // room for the squares that are laid.
 fn is_members(
     lined: &LinedSkel,
     class: Class,
     order: u8,
-    laid: &mut ArrayVec<Square, MOST_SQUARES>,
+    board: &mut Board,
     tiling: &mut Tiling,
 ) -> bool
     requires order { order ≤ 16 }
     ensures yes { IsTrue result → IsEntry order class (record { tiling = tiling.new; word = lined.now }) }
     ensures none { result ≡ false → IsComplete lined.now → order_of lined.now ≡ order → HasNoMember class lined.now }
 {
-    is_complete_of(lined, order) && find_member(lined.skel(), class, laid, tiling)
+    is_complete_of(lined, order) && find_member(lined.skel(), class, board, tiling)
 }
 
 // Whether the moves are a complete word of the order.

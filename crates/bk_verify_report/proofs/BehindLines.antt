@@ -1,23 +1,25 @@
 -- What stands behind the lines is what the report says: the first missing members, or all of them and the last line.
 use Rattle.std.specs.List.{AllByRecursion}
-use Rattle.std.specs.Prelude.{Option, flat_map, ⊤}
+use Rattle.std.specs.Prelude.{IsTrue, Option, flat_map, ⊤, ◌↔◌}
 use Rattle.std.specs.Io.KnownBytes.{Appends}
 use Rattle.std.proofs.KnownBytes.{Appends-trans}
-use Rattle.std.proofs.Common.{Bool, Contains, List, [], ap, inl, inr, refl, ℕ, ◌++◌, ◌+◌}
+use Rattle.std.proofs.Common.{Bool, Contains, List, [], ap, inl, inr, refl, ℕ, ◌++◌, ◌<◌}
 use Rattle.std.proofs.Common.{◌∷◌, ◌≡◌, ◌⊎◌}
 use Rattle.bk_ports.proofs.KnownSteps.{prefix_after}
 use Rattle.bk_ports.specs.Causes.{AppendsPrefix}
 use Rattle.bk_word.specs.Word.{Follows, Word}
 use Rattle.bk_word.specs.declared.Class.TheVariants.{Perfect}
 use Rattle.bk_catalogue.specs.Catalogue.{Entry, IsEntry}
+use Rattle.bk_report.specs.ListLines.{faults, verified_line}
+use Rattle.bk_report.specs.declared.listing.Last.TheVariants.{End}
+use Rattle.bk_report.specs.declared.lists.ReportCounts.{ReportCounts}
 use Rattle.bk_verify_report.proofs.Firsts.{missing_ones_are_not_kept}
 use Rattle.bk_verify_report.proofs.MembersUpTo.{after_or_up, before}
 use Rattle.bk_verify_report.specs.KeptEntries.{AreKeptAfter, AreUpTo, CountsMembers, IsNotKept, Kept}
 use Rattle.bk_verify_report.specs.Verify.{Accepted, AreNotOf}
 use Rattle.bk_verify_report.specs.VerifyLaws.{KeepsFirsts}
 use Rattle.bk_verify_report.specs.MissingLines.{AreMissingListed, ClosesReport, IsClosing, IsClosingBegun}
-use Rattle.bk_verify_report.specs.Report.{AreAllMissing, AreFirstMissing, ReportCounts, counts_line, missing_line_of}
-use Rattle.bk_verify_report.specs.VerifyRun.{TellsFaults}
+use Rattle.bk_verify_report.specs.Report.{AreFirstMissing, missing_line_of}
 use Rattle.bk_verify_report.specs.declared.entering.Verifying.{Verifying}
 
 -- what is listed are the first missing members
@@ -51,7 +53,7 @@ module _ (n : ℕ) (pairs : List Kept) (entries : List Accepted) (keeps : KeepsF
       cases e is none (inr up) = inl (are.all e is (not_kept e is none) up)
 
   -- all missing members are listed, where none is left behind the cursor
-  pub all_missing : AreKeptAfter n pairs cursor → AreAllMissing n entries missing
+  pub all_missing : AreKeptAfter n pairs cursor → (e : Entry) → IsEntry n Perfect e → AreNotOf e.tiling entries → Contains missing e
   all_missing kept e is none = cases (after_or_up cursor e.word)
     where
       cases : Follows e.word cursor ⊎ (Follows e.word cursor → ⊥) → Contains missing e
@@ -60,13 +62,13 @@ module _ (n : ℕ) (pairs : List Kept) (entries : List Accepted) (keeps : KeepsF
 
 -- what is written behind the lines
 module _ (n : ℕ) (s : Verifying) (cursor : Word) (missing members : ℕ) (a b : Option (List ℕ))
-    (listed : AreMissingListed n (s.entries).pairs cursor missing a b)
+    (listed : AreMissingListed (record { order = n; pairs = (s.entries).pairs }) cursor missing a b)
     (kept : AreKeptAfter n (s.entries).pairs cursor) (all_members : CountsMembers n (λ word. ⊤) members) where
   -- what the last line tells
   abbrev pub the_counts : ReportCounts
   the_counts = record { members = members; missing = missing; foreign = s.foreign; repeated = s.repeated; refused = s.refused }
 
-  is_closing : (line : List ℕ) → line ≡ counts_line n the_counts → IsClosing n s the_counts (flat_map missing_line_of listed.entries ++ line)
+  is_closing : (line : List ℕ) → line ≡ verified_line End n the_counts [] → IsClosing n s the_counts (flat_map missing_line_of listed.entries ++ line)
   is_closing line is = record {
     cursor = cursor;
     entries = listed.entries;
@@ -81,8 +83,8 @@ module _ (n : ℕ) (s : Verifying) (cursor : Word) (missing members : ℕ) (a b 
   }
 
   -- the last line is written, and the report is whole
-  pub closes_report : (line : List ℕ) → line ≡ counts_line n the_counts → (c : Option (List ℕ)) → Appends b c line → (differs : Bool)
-      → TellsFaults differs (missing + s.foreign + s.repeated + s.refused) → ClosesReport n s differs a c
+  pub closes_report : (line : List ℕ) → line ≡ verified_line End n the_counts [] → (c : Option (List ℕ)) → Appends b c line → (differs : Bool)
+      → (IsTrue differs ↔ 0 < faults the_counts) → ClosesReport n s differs a c
   closes_report line is c p differs says = record {
     counts = the_counts;
     bytes = flat_map missing_line_of listed.entries ++ line;
@@ -91,8 +93,8 @@ module _ (n : ℕ) (s : Verifying) (cursor : Word) (missing members : ℕ) (a b 
     verdict = says;
   }
 
-  -- or its write failed
-  pub closing_begun : (line : List ℕ) → line ≡ counts_line n the_counts → (c : Option (List ℕ)) → AppendsPrefix b c line → IsClosingBegun n s a c
+  -- the write of the last line failed, and a beginning of what closes the report stands there
+  pub closing_begun : (line : List ℕ) → line ≡ verified_line End n the_counts [] → (c : Option (List ℕ)) → AppendsPrefix b c line → IsClosingBegun n s a c
   closing_begun line is c p = inr (record {
     counts = the_counts;
     bytes = flat_map missing_line_of listed.entries ++ line;

@@ -2,22 +2,28 @@
 use Rattle.std.specs.Prelude.{Option, flat_map}
 use Rattle.std.specs.Io.KnownBytes.{Appends}
 use Rattle.std.proofs.KnownBytes.{Appends-trans}
-use Rattle.std.proofs.Common.{Bool, List, [], arith, false, inl, inr, subst, sym, true, ℕ, ◌++◌, ◌≡◌, ◌⊎◌}
+use Rattle.std.proofs.Common.{Bool, List, [], ap, append_assoc, arith, false, inl, inr, subst, sym, true, ℕ, ◌++◌, ◌∙◌, ◌≡◌, ◌⊎◌}
 use Rattle.bk_ports.proofs.KnownSteps.{prefix_after}
-use Rattle.bk_ports.proofs.OtherOutputs.{IsStop, broken_behind, whole_behind}
-use Rattle.bk_ports.specs.Ending.{EndsWith, IsBrokenBehind, IsWholeOutput, Output, Streams}
-use Rattle.bk_ports.specs.Entering.{AreAllEntered, entries_of}
+use Rattle.bk_ports.proofs.OtherOutputs.{IsStop, whole_behind}
+use Rattle.bk_ports.specs.Ending.{EndsWith, IsReadWhole, Output, Streams}
+use Rattle.bk_ports.specs.Entering.{AreAllEntered, entering_from}
 use Rattle.bk_ports.specs.Reply.{text_of}
 use Rattle.bk_ports.specs.Faults.{CountsTell, Faults}
 use Rattle.bk_ports.specs.declared.Ended.{Ended}
 use Rattle.bk_ports.specs.declared.Ended.TheVariants.{NoMemory, NoneRefused, ReadFailed, SomeRefused, TooMany, WriteFailed}
 use Rattle.bk_verify_report.proofs.BehindLines.{all_missing, first_missing}
-use Rattle.bk_verify_report.proofs.EndingAtLines.{at_first}
+use Rattle.bk_verify_report.proofs.EndingAtLines.{at_first, told_of_all}
 use Rattle.bk_verify_report.proofs.Following.{AreFollowed, followed}
 use Rattle.bk_verify_report.specs.ListLine.{none_entered}
 use Rattle.bk_verify_report.specs.MissingLines.{ClosesReport, IsClosing, IsClosingBegun}
 use Rattle.bk_verify_report.specs.ListReading.{IsListRead, rules}
-use Rattle.bk_verify_report.specs.Report.{IsReport, ReportCounts, missing_line_of}
+use Rattle.bk_word.specs.Word.{Word}
+use Rattle.bk_catalogue.specs.Catalogue.{Entry}
+use Rattle.bk_report.specs.ListLines.{verified_line}
+use Rattle.bk_report.specs.declared.listing.Last.TheVariants.{End}
+use Rattle.bk_verify_report.specs.KeptEntries.{AreUpTo, IsNotKept}
+use Rattle.bk_report.specs.declared.lists.ReportCounts.{ReportCounts}
+use Rattle.bk_verify_report.specs.Report.{BeginsReport, IsReport, missing_line_of}
 use Rattle.bk_verify_report.specs.VerifyRun.{TellsFront, TellsReport, report_of}
 use Rattle.bk_verify_report.specs.declared.entering.Verifying.{Verifying}
 
@@ -28,7 +34,7 @@ pub record AreLinesDone (n : ℕ) (lines : List (List ℕ)) (last : Verifying) (
   pub written : Appends a b text
 
 lines_done : (n : ℕ) (last : Verifying) (lines : List (List ℕ)) (a b : Option (List ℕ)) (refused : Bool)
-    → AreAllEntered rules (none_entered n) 1 lines a b refused last → AreLinesDone n lines last a b
+    → AreAllEntered (entering_from rules (none_entered n) 1) last lines refused a b → AreLinesDone n lines last a b
 lines_done n last lines a b refused all = record {
   text = text_of all.replies;
   followed = followed n [] 1 lines all.replies (none_entered n) last (at_first n) all.each;
@@ -37,6 +43,17 @@ lines_done n last lines a b refused all = record {
 
 -- behind the lines
 module _ (n : ℕ) (last : Verifying) (lines : List (List ℕ)) (a b c : Option (List ℕ)) (d : AreLinesDone n lines last a b) where
+  abbrev the_front : (cursor : Word) (missing : List Entry) → AreUpTo n (IsNotKept (last.entries).pairs) cursor missing
+      → BeginsReport n lines (d.text ++ flat_map missing_line_of missing)
+  the_front cursor missing are =
+      let f = d.followed in record {
+        tolds = f.tolds;
+        told = told_of_all n lines d.text last f;
+        missing = missing;
+        first_missing = first_missing n (last.entries).pairs f.entries f.keeps cursor missing are;
+        text = λ i. f.text_is i ++ flat_map missing_line_of missing;
+      }
+
   the_report : (counts : ReportCounts) (bytes : List ℕ) → IsClosing n last counts bytes → IsReport n lines counts (d.text ++ bytes)
   the_report counts bytes k =
       let f = d.followed in
@@ -46,19 +63,16 @@ module _ (n : ℕ) (last : Verifying) (lines : List (List ℕ)) (a b c : Option 
       let x = k.foreign in
       let y = k.repeated in
       let z = k.refused in record {
-        entries = f.entries;
-        tolds = f.tolds;
-        missing = k.entries;
-        are_entries = f.are_entries;
-        told = f.told;
-        first_missing = first_missing n (last.entries).pairs f.entries f.keeps k.cursor k.entries k.are;
+        front = d.text ++ flat_map missing_line_of k.entries;
+        begins = the_front k.cursor k.entries k.are;
         all_missing = all_missing n (last.entries).pairs f.entries f.keeps k.cursor k.entries k.are k.all;
         members = k.members;
         missing_is = k.missing;
         foreign_is = omega (arith, x, foreign);
         repeated_is = omega (arith, y, repeated);
         refused_is = omega (arith, z, refused);
-        text = λ i. f.text_is i ++ k.text i;
+        text = ap (λ (l : List ℕ). d.text ++ l) k.text
+            ∙ sym (append_assoc d.text (flat_map missing_line_of k.entries) (verified_line End n counts []));
       }
 
   -- the report was written, and tells a fault or none
@@ -73,20 +87,11 @@ module _ (n : ℕ) (last : Verifying) (lines : List (List ℕ)) (a b c : Option 
 
   -- a write failed behind the lines
   told_front : IsClosingBegun n last b c → TellsFront n lines a c
-  told_front (inl k) =
-      let f = d.followed in record {
-        front = d.text ++ flat_map missing_line_of k.entries;
-        is_front = inl (record {
-          entries = f.entries;
-          tolds = f.tolds;
-          missing = k.entries;
-          are_entries = f.are_entries;
-          told = f.told;
-          first_missing = first_missing n (last.entries).pairs f.entries f.keeps k.cursor k.entries k.are;
-          text = λ i. f.text_is i ++ flat_map missing_line_of k.entries;
-        });
-        begins = prefix_after a b c d.text (flat_map missing_line_of k.entries) d.written k.begins;
-      }
+  told_front (inl k) = record {
+    front = d.text ++ flat_map missing_line_of k.entries;
+    is_front = inl (the_front k.cursor k.entries k.are);
+    begins = prefix_after a b c d.text (flat_map missing_line_of k.entries) d.written k.begins;
+  }
   told_front (inr w) = record {
     front = d.text ++ w.bytes;
     is_front = inr (w.counts, the_report w.counts w.bytes w.closing);
@@ -102,22 +107,24 @@ module _ (n : ℕ) (last : Verifying) (left left_after a b : Option (List ℕ))
 
   -- its report was written
   pub ends_whole : (c : Option (List ℕ)) (differs told : Bool) → told ≡ differs → ClosesReport n last told b c
-      → IsWholeOutput (report_of n) (record { left = left; left_after = left_after; written = a; written_after = c }) differs
+      → IsReadWhole (λ lines. (report_of n).whole lines differs) (record { left = left; left_after = left_after; written = a; written_after = c })
   ends_whole c differs told e k =
-      whole_behind (entries_of rules (none_entered n) last) (report_of n) left left_after a b c r.refused r.whole differs
+      whole_behind (λ lines. AreAllEntered (entering_from rules (none_entered n) 1) last lines r.refused) (λ lines. (report_of n).whole lines differs)
+      left left_after a b c r.whole
       (λ lines entered. told_report n last lines a b c (lines_done n last lines a b r.refused entered) differs
       (subst (λ (d : Bool). ClosesReport n last d b c) e k))
 
-  -- or a write of it failed
+  -- a write behind the lines of a list that was read to its end failed
   pub ends_broken : (c : Option (List ℕ)) → IsClosingBegun n last b c
-      → IsBrokenBehind (report_of n) (record { left = left; left_after = left_after; written = a; written_after = c })
+      → IsReadWhole (report_of n).begun_behind (record { left = left; left_after = left_after; written = a; written_after = c })
   ends_broken c k =
-      broken_behind (entries_of rules (none_entered n) last) (report_of n) left left_after a b c r.refused r.whole
+      whole_behind (λ lines. AreAllEntered (entering_from rules (none_entered n) 1) last lines r.refused) (report_of n).begun_behind
+      left left_after a b c r.whole
       (λ lines entered. told_front n last lines a b c (lines_done n last lines a b r.refused entered) k)
 
 -- all was read where the lines end so
 pub whole_at : (output : Output) (streams : Streams) (ended : Ended) → (ended ≡ NoneRefused) ⊎ (ended ≡ SomeRefused) → EndsWith output streams ended
-    → (refused : Bool) × IsWholeOutput output streams refused
+    → (refused : Bool) × IsReadWhole (λ lines. output.whole lines refused) streams
 whole_at output streams ended (inl e) h = (false, subst (EndsWith output streams) e h)
 whole_at output streams ended (inr e) h = (true, subst (EndsWith output streams) e h)
 

@@ -7,7 +7,7 @@ use Rattle.bk_laws.proofs.AllOfLists.{all_append}
 use Rattle.bk_laws.proofs.NumberOrder.{lt-differs}
 use Rattle.bk_tiling.specs.Tiling.{IsTiling, Tiling}
 use Rattle.bk_text.specs.CodeLine.{Skip}
-use Rattle.bk_ports.specs.Entering.{AreEntered}
+use Rattle.bk_ports.specs.Entering.{AreEntered, entering_from}
 use Rattle.bk_ports.specs.Lines.{kept_front}
 use Rattle.bk_ports.specs.Reply.{Reply, text_of}
 use Rattle.bk_report.specs.declared.refusal.Refused.{Refused}
@@ -216,7 +216,8 @@ one_line n seen number line lines s _ _ _ text last after (feeds t fed v has is)
 
 -- lines that were entered one after another
 pub followed : (n : ℕ) (seen : List Accepted) (number : ℕ) (lines : List (List ℕ)) (replies : List Reply) (s last : Verifying) → IsAfter n seen number s
-    → AreEntered (record { enters = EntersLine; may_want = MayWantAt }) s number lines replies last → AreFollowed n seen number lines s (text_of replies) last
+    → AreEntered (entering_from (record { enters = EntersLine; may_want = MayWantAt }) s number) lines replies last
+    → AreFollowed n seen number lines s (text_of replies) last
 followed n seen number [] [] s last after e = subst (AreFollowed n seen number [] s []) (sym e) (record {
   entries = [];
   tolds = [];

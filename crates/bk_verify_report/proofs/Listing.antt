@@ -1,7 +1,7 @@
 -- What the entries of a list lack is listed: the members that aren't kept, one after another, up to the last.
-use Rattle.std.specs.Prelude.{Option, false, true}
+use Rattle.std.specs.Prelude.{Option}
 use Rattle.std.specs.Io.KnownBytes.{Appends}
-use Rattle.std.proofs.Common.{Bool, List, [], refl, subst, sym, ℕ, ◌+◌, ◌∙◌, ◌≡◌, ◌≤◌}
+use Rattle.std.proofs.Common.{List, [], refl, subst, sym, ℕ, ◌+◌, ◌∙◌, ◌≡◌, ◌≤◌}
 use Rattle.bk_tiling.specs.Tiling.{Tiling}
 use Rattle.bk_word.specs.Word.{Word}
 use Rattle.bk_word.specs.declared.Class.TheVariants.{Perfect}
@@ -10,17 +10,11 @@ use Rattle.bk_report.specs.ListLines.{missing_line}
 use Rattle.bk_verify_report.specs.KeptEntries.{AreKeptAfter, IsNextMissing, Kept}
 use Rattle.bk_verify_report.specs.Rest.{RestState}
 use Rattle.bk_verify_report.proofs.MissingListed.{listed_all, listed_more, listed_none, listing_begun}
-use Rattle.bk_verify_report.specs.MissingLines.{AreMissingListed, IsListingBegun, IsMissingBegun, IsWrittenNext}
-
--- the line of the next member that isn't kept is written
-pub next_written : (n : ℕ) (pairs : List Kept) (cursor new : Word) (t : Tiling) (word : Word) (a b : Option (List ℕ))
-    → IsNextMissing n pairs cursor t word → new ≡ word
-    → Appends a b (missing_line t word) → IsWrittenNext n pairs cursor true new a b
-next_written n pairs cursor new t word a b next e p = subst (λ (w : Word). IsWrittenNext n pairs cursor true w a b) (sym e) (t, next, p)
+use Rattle.bk_verify_report.specs.MissingLines.{AreMissingListed, IsListingBegun, IsMissingBegun}
 
 -- a walk lists what isn't kept, from where it was first, and no write has failed
 pub record IsListingOn (first now : RestState) (missing : ℕ) (a b : Option (List ℕ)) (before after : ℕ) : Type 0 where
-  pub listed : AreMissingListed (first.walk).order first.pairs (now.walk).cursor missing a b
+  pub listed : AreMissingListed (record { order = (first.walk).order; pairs = first.pairs }) (now.walk).cursor missing a b
   pub order : (now.walk).order ≡ (first.walk).order
   pub pairs : now.pairs ≡ first.pairs
   pub faults : after ≡ before
@@ -28,7 +22,8 @@ pub record IsListingOn (first now : RestState) (missing : ℕ) (a b : Option (Li
 -- before the first one nothing is listed
 pub listing_none : (first : RestState) (a : Option (List ℕ)) (before : ℕ) → (first.walk).cursor ≡ [] → IsListingOn first first 0 a a before before
 listing_none first a before start = record {
-  listed = subst (λ (w : Word). AreMissingListed (first.walk).order first.pairs w 0 a a) (sym start) (listed_none (first.walk).order first.pairs a);
+  listed = subst (λ (w : Word). AreMissingListed (record { order = (first.walk).order; pairs = first.pairs }) w 0 a a) (sym start)
+      (listed_none (first.walk).order first.pairs a);
   order = refl;
   pairs = refl;
   faults = refl;
@@ -40,18 +35,17 @@ module _ (first now : RestState) (missing : ℕ) (a b : Option (List ℕ)) (befo
   at_first P p = subst (λ (n : ℕ). P n first.pairs) s.order (subst (λ (pairs : List Kept). P (now.walk).order pairs) s.pairs p)
 
   -- one more is written
-  pub listing_more : (more : Bool) → more ≡ true → (then : RestState) (c : Option (List ℕ)) (later : ℕ) → (first.walk).order ≤ 16
-      → IsWrittenNext (now.walk).order now.pairs (now.walk).cursor more (then.walk).cursor b c
+  pub listing_more : (t : Tiling) (word : Word) (then : RestState) (c : Option (List ℕ)) (later : ℕ) → (first.walk).order ≤ 16
+      → IsNextMissing (now.walk).order now.pairs (now.walk).cursor t word → (then.walk).cursor ≡ word → Appends b c (missing_line t word)
       → (then.walk).order ≡ (now.walk).order → then.pairs ≡ now.pairs → later ≡ after → IsListingOn first then (missing + 1) a c before later
-  listing_more more is then c later small written order pairs faults =
-      let next = subst (λ (more : Bool). IsWrittenNext (now.walk).order now.pairs (now.walk).cursor more (then.walk).cursor b c) is written in
-      record {
-        listed = listed_more (first.walk).order first.pairs (now.walk).cursor missing a b s.listed next.0 (then.walk).cursor
-            (at_first (λ n pairs. IsNextMissing n pairs (now.walk).cursor next.0 (then.walk).cursor) next.1) c small next.2;
-        order = order ∙ s.order;
-        pairs = pairs ∙ s.pairs;
-        faults = faults ∙ s.faults;
-      }
+  listing_more t word then c later small next at written order pairs faults = record {
+    listed = subst (λ (w : Word). AreMissingListed (record { order = (first.walk).order; pairs = first.pairs }) w (missing + 1) a c) (sym at)
+        (listed_more (first.walk).order first.pairs (now.walk).cursor missing a b s.listed t word
+        (at_first (λ n pairs. IsNextMissing n pairs (now.walk).cursor t word) next) c small written);
+    order = order ∙ s.order;
+    pairs = pairs ∙ s.pairs;
+    faults = faults ∙ s.faults;
+  }
 
   -- the write of one failed
   pub listing_broken : (c : Option (List ℕ)) → IsMissingBegun (now.walk).order now.pairs (now.walk).cursor b c
@@ -60,18 +54,15 @@ module _ (first now : RestState) (missing : ℕ) (a b : Option (List ℕ)) (befo
       (at_first (λ n pairs. IsNextMissing n pairs (now.walk).cursor begun.tiling begun.word) begun.next) c begun.begins
 
   -- none is left
-  module _ (more : Bool) (is : more ≡ false) (then : Word) (c : Option (List ℕ))
-      (written : IsWrittenNext (now.walk).order now.pairs (now.walk).cursor more then b c) where
-    next : IsWrittenNext (now.walk).order now.pairs (now.walk).cursor false then b c
-    next = subst (λ (more : Bool). IsWrittenNext (now.walk).order now.pairs (now.walk).cursor more then b c) is written
-
+  module _ (kept : AreKeptAfter (now.walk).order now.pairs (now.walk).cursor) (then : Word) (none : HasNoneAfter (now.walk).order Perfect then) where
+    -- no member is behind the new cursor
     pub none_behind : HasNoneAfter (first.walk).order Perfect then
-    none_behind = subst (λ (n : ℕ). HasNoneAfter n Perfect then) s.order next.1
+    none_behind = subst (λ (n : ℕ). HasNoneAfter n Perfect then) s.order none
 
-    pub listing_end : AreMissingListed (first.walk).order first.pairs then missing a c
-    listing_end = subst (λ (c : Option (List ℕ)). AreMissingListed (first.walk).order first.pairs then missing a c) (sym next.2)
-        (listed_all (first.walk).order first.pairs (now.walk).cursor missing a b s.listed
-        (at_first (λ n pairs. AreKeptAfter n pairs (now.walk).cursor) next.0) then none_behind)
+    -- all that isn't kept is listed
+    pub listing_end : AreMissingListed (record { order = (first.walk).order; pairs = first.pairs }) then missing a b
+    listing_end = listed_all (first.walk).order first.pairs (now.walk).cursor missing a b s.listed
+        (at_first (λ n pairs. AreKeptAfter n pairs (now.walk).cursor) kept) then none_behind
 
     -- each member after the new cursor is kept, for there is none
     pub kept_behind : AreKeptAfter (first.walk).order first.pairs then

@@ -40,7 +40,7 @@ lines_more : (entries : List Entry) (e : Entry) → flat_map missing_line_of (en
 lines_more entries e = flat_map-append missing_line_of entries (e ∷ []) ∙ ap (λ l. flat_map missing_line_of entries ++ l) (append-nil (missing_line_of e))
 
 -- before the first one nothing is listed
-pub listed_none : (n : ℕ) (pairs : List Kept) (written : Option (List ℕ)) → AreMissingListed n pairs [] 0 written written
+pub listed_none : (n : ℕ) (pairs : List Kept) (written : Option (List ℕ)) → AreMissingListed (record { order = n; pairs = pairs }) [] 0 written written
 listed_none n pairs written = record {
   entries = [];
   are = up_to_none n (IsNotKept pairs);
@@ -50,7 +50,8 @@ listed_none n pairs written = record {
 }
 
 -- the missing members up to a cursor are listed
-module _ (n : ℕ) (pairs : List Kept) (cursor : Word) (missing : ℕ) (a b : Option (List ℕ)) (l : AreMissingListed n pairs cursor missing a b) where
+module _ (n : ℕ) (pairs : List Kept) (cursor : Word) (missing : ℕ) (a b : Option (List ℕ))
+    (l : AreMissingListed (record { order = n; pairs = pairs }) cursor missing a b) where
   -- a line more is written, or begun
   module _ (t : Tiling) (word : Word) (next : IsNextMissing n pairs cursor t word) (c : Option (List ℕ)) where
     abbrev more : List Entry
@@ -63,7 +64,7 @@ module _ (n : ℕ) (pairs : List Kept) (cursor : Word) (missing : ℕ) (a b : Op
     text_more = sym (lines_more l.entries (record { tiling = t; word = word }))
 
     -- the line is written
-    pub listed_more : n ≤ 16 → Appends b c (missing_line t word) → AreMissingListed n pairs word (missing + 1) a c
+    pub listed_more : n ≤ 16 → Appends b c (missing_line t word) → AreMissingListed (record { order = n; pairs = pairs }) word (missing + 1) a c
     listed_more small p =
         let are = are_more in
         let count = l.count in
@@ -77,7 +78,7 @@ module _ (n : ℕ) (pairs : List Kept) (cursor : Word) (missing : ℕ) (a b : Op
           appends = subst (Appends a c) text_more (Appends-trans a b c (flat_map missing_line_of l.entries) (missing_line t word) l.appends p);
         }
 
-    -- or begun
+    -- the write of a further line failed, and a beginning of the lines stands there
     pub listing_begun : AppendsPrefix b c (missing_line t word) → IsListingBegun n pairs a c
     listing_begun p =
         let begun = prefix_after a b c (flat_map missing_line_of l.entries) (missing_line t word) l.appends p in
@@ -89,7 +90,8 @@ module _ (n : ℕ) (pairs : List Kept) (cursor : Word) (missing : ℕ) (a b : Op
         }
 
   -- no member is left that isn't kept, and the walk has gone to its end
-  pub listed_all : AreKeptAfter n pairs cursor → (then : Word) → HasNoneAfter n Perfect then → AreMissingListed n pairs then missing a b
+  pub listed_all : AreKeptAfter n pairs cursor → (then : Word) → HasNoneAfter n Perfect then
+      → AreMissingListed (record { order = n; pairs = pairs }) then missing a b
   listed_all kept then none =
       let are = l.are in
       record {

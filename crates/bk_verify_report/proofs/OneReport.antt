@@ -1,5 +1,5 @@
 -- A list has one report: its lines have one list of entries, of each line one thing is told, and one list of members is missing.
-use Rattle.std.proofs.Common.{List, [], ap, arith, inl, inr, length, refl, subst, sym, ℕ, ◌+◌, ◌++◌, ◌∙◌, ◌∷◌, ◌≡◌, ◌⊎◌}
+use Rattle.std.proofs.Common.{List, [], ap, arith, inl, inr, length, refl, subst, sym, ℕ, ◌+◌, ◌++◌, ◌<◌, ◌∙◌, ◌∷◌, ◌≡◌, ◌⊎◌}
 use Rattle.std.specs.Prelude.{count_by, flat_map}
 use Rattle.bk_tiling.specs.Tiling.{IsTiling, Tiling}
 use Rattle.bk_sym.proofs.CanonicalLaws.{a_canonical_tiling_is_one}
@@ -8,13 +8,16 @@ use Rattle.bk_text.specs.CodeLine.{Skip}
 use Rattle.bk_word.specs.declared.Class.TheVariants.{Perfect}
 use Rattle.bk_catalogue.specs.Catalogue.{Entry, IsEntry}
 use Rattle.bk_ports.specs.Lines.{kept_front}
+use Rattle.bk_report.specs.ListLines.{faults, verified_line}
+use Rattle.bk_report.specs.declared.listing.Last.TheVariants.{End}
+use Rattle.bk_report.specs.declared.lists.ReportCounts.{ReportCounts}
 use Rattle.bk_report.specs.declared.refusal.Refused.{Refused}
 use Rattle.bk_answer.proofs.OneAnswer.{cause_of, is_tiling, not_refused, one_line_cause, same_tiling, skip_not_refused, skip_not_stated}
 use Rattle.bk_answer.specs.Item.{HasItem}
 use Rattle.bk_answer.specs.Refusing.{IsLineRefused}
 use Rattle.bk_verify_report.specs.Verify.{Accepted, AreNotOf, IsFirstOf, IsForeign, IsNew, IsOf, IsRepeat}
 use Rattle.bk_verify_report.proofs.OneAscending.{held, one_count, same_ascending}
-use Rattle.bk_verify_report.specs.Report.{HasFault, IsReport, ReportCounts, counts_line, faults, missing_line_of}
+use Rattle.bk_verify_report.specs.Report.{HasFault, IsReport, missing_line_of}
 use Rattle.bk_verify_report.specs.ReportLaw.{AListHasOneReport}
 use Rattle.bk_verify_report.specs.Told.{AreEntries, AreTold, HasEntry, IsTold, IsToldOf, Told, accepted, foreign, is_foreign, is_line_refused, is_repeat}
 use Rattle.bk_verify_report.specs.Told.{no_line}
@@ -128,21 +131,28 @@ same_tolds n entries k (line ∷ lines) (t ∷ ts) (u ∷ us) p q =
     let later : ts ≡ us = same_tolds n entries (k + 1) lines ts us p.1 q.1 in
     λ i. here i ∷ later i
 
+one_told_of : (n : ℕ) (lines : List (List ℕ)) (tolds others : List Told) → IsToldOf n lines tolds → IsToldOf n lines others → tolds ≡ others
+one_told_of n lines tolds others p q =
+    same_tolds n p.entries 1 lines tolds others p.told
+    (subst (λ (es : List Accepted). AreTold n es 1 lines others) (same_entries 1 lines q.entries p.entries q.are_entries p.are_entries) q.told)
+
 -- two reports on the same lines
 module _ (n : ℕ) (lines : List (List ℕ)) (c d : ReportCounts) (a b : List ℕ) (r : IsReport n lines c a) (s : IsReport n lines d b) where
-  same_list : s.entries ≡ r.entries
-  same_list = same_entries 1 lines s.entries r.entries s.are_entries r.are_entries
+  same_list : s.begins.told.entries ≡ r.begins.told.entries
+  same_list = same_entries 1 lines s.begins.told.entries r.begins.told.entries s.begins.told.are_entries r.begins.told.are_entries
 
-  tolds : r.tolds ≡ s.tolds
-  tolds = same_tolds n r.entries 1 lines r.tolds s.tolds r.told (subst (λ (es : List Accepted). AreTold n es 1 lines s.tolds) same_list s.told)
+  tolds : r.begins.tolds ≡ s.begins.tolds
+  tolds = one_told_of n lines r.begins.tolds s.begins.tolds r.begins.told s.begins.told
 
-  missing : r.missing ≡ s.missing
+  missing : r.begins.missing ≡ s.begins.missing
   missing =
-      same_ascending r.missing s.missing r.first_missing.ascending s.first_missing.ascending
-      (λ e in_r. s.all_missing e (held (IsEntry n Perfect) r.missing e r.first_missing.each in_r)
-      (subst (λ (es : List Accepted). AreNotOf e.tiling es) (sym same_list) (held (λ f. AreNotOf f.tiling r.entries) r.missing e r.first_missing.none in_r)))
-      (λ e in_s. r.all_missing e (held (IsEntry n Perfect) s.missing e s.first_missing.each in_s)
-      (subst (λ (es : List Accepted). AreNotOf e.tiling es) same_list (held (λ f. AreNotOf f.tiling s.entries) s.missing e s.first_missing.none in_s)))
+      same_ascending r.begins.missing s.begins.missing r.begins.first_missing.ascending s.begins.first_missing.ascending
+      (λ e in_r. s.all_missing e (held (IsEntry n Perfect) r.begins.missing e r.begins.first_missing.each in_r)
+      (subst (λ (es : List Accepted). AreNotOf e.tiling es) (sym same_list)
+      (held (λ f. AreNotOf f.tiling r.begins.told.entries) r.begins.missing e r.begins.first_missing.none in_r)))
+      (λ e in_s. r.all_missing e (held (IsEntry n Perfect) s.begins.missing e s.begins.first_missing.each in_s)
+      (subst (λ (es : List Accepted). AreNotOf e.tiling es) same_list
+      (held (λ f. AreNotOf f.tiling s.begins.told.entries) s.begins.missing e s.begins.first_missing.none in_s)))
 
   counts : c ≡ d
   counts = λ i. record {
@@ -153,24 +163,21 @@ module _ (n : ℕ) (lines : List (List ℕ)) (c d : ReportCounts) (a b : List �
     refused = (r.refused_is ∙ ap (λ (l : List Told). count_by is_line_refused l) tolds ∙ sym s.refused_is) i;
   }
 
-  same_text : texts_from 1 r.tolds ++ (flat_map missing_line_of r.missing ++ counts_line n c) ≡ texts_from 1 s.tolds ++
-      (flat_map missing_line_of s.missing ++ counts_line n d)
-  same_text = λ i. texts_from 1 (tolds i) ++ (flat_map missing_line_of (missing i) ++ counts_line n (counts i))
+  fronts : r.front ≡ s.front
+  fronts = r.begins.text ∙ (λ i. texts_from 1 (tolds i) ++ flat_map missing_line_of (missing i)) ∙ sym s.begins.text
+
+  same_text : r.front ++ verified_line End n c [] ≡ s.front ++ verified_line End n d []
+  same_text = λ i. fronts i ++ verified_line End n (counts i) []
 
   one_report : (c ≡ d) × (a ≡ b)
   one_report = (counts, r.text ∙ same_text ∙ sym s.text)
-
-one_told_of : (n : ℕ) (lines : List (List ℕ)) (tolds others : List Told) → IsToldOf n lines tolds → IsToldOf n lines others → tolds ≡ others
-one_told_of n lines tolds others p q =
-    same_tolds n p.entries 1 lines tolds others p.told
-    (subst (λ (es : List Accepted). AreTold n es 1 lines others) (same_entries 1 lines q.entries p.entries q.are_entries p.are_entries) q.told)
 
 -- a list has one thing told of each line and one report
 pub a_list_has_one_report : AListHasOneReport
 a_list_has_one_report = record { told = one_told_of; report = one_report }
 
--- where a report counts no fault, no report on the lines counts one
-pub no_fault_there : (n : ℕ) (lines : List (List ℕ)) (counts : ReportCounts) (bytes : List ℕ) → IsReport n lines counts bytes → faults counts ≡ 0
-    → HasFault n lines → ⊥
-no_fault_there n lines counts bytes report z h =
-    omega (arith, h.some, z, ap faults (one_report n lines counts h.counts bytes h.bytes report h.report).0)
+-- where some report on the lines counts a fault, each of them does
+pub a_fault_is_there : (n : ℕ) (lines : List (List ℕ)) (counts : ReportCounts) (bytes : List ℕ) → IsReport n lines counts bytes → HasFault n lines
+    → 0 < faults counts
+a_fault_is_there n lines counts bytes report h =
+    omega (arith, h.some, ap faults (one_report n lines counts h.counts bytes h.bytes report h.report).0)

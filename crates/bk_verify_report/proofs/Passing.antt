@@ -17,10 +17,10 @@ use Rattle.bk_verify_report.proofs.CountedMembers.{any, count_more, count_none}
 use Rattle.bk_verify_report.specs.Rest.{IsKeptRest}
 
 -- the next member is the next one of all
-next_any : (n : ℕ) (cursor : Word) (t : Tiling) (word : Word) → IsNextMember n Perfect cursor t word
+next_any : (n : ℕ) (cursor : Word) (t : Tiling) (word : Word) → IsNextMember n Perfect cursor (record { tiling = t; word = word })
     → IsNextSuch n any cursor (record { tiling = t; word = word })
 next_any n cursor t word next = record {
-  entry = record { member = next.member; word = next.word_is };
+  entry = next.is;
   such = tt;
   after = next.after;
   least = λ f is such. next.least f is;
@@ -40,7 +40,7 @@ later start cursor word (inl e) f = subst (Follows word) e f
 later start cursor word (inr g) f = follows_trans start cursor word g f
 
 module _ (n : ℕ) (pairs : List Kept) (start cursor : Word) (passed : IsPassed n pairs start cursor) where
-  module _ (t : Tiling) (word : Word) (next : IsNextMember n Perfect cursor t word) where
+  module _ (t : Tiling) (word : Word) (next : IsNextMember n Perfect cursor (record { tiling = t; word = word })) where
     -- the next member is kept, and passed
     pub passed_more : (line : ℕ) → IsKeptFrom pairs t line → IsPassed n pairs start word
     passed_more line from = record {
@@ -55,21 +55,22 @@ module _ (n : ℕ) (pairs : List Kept) (start cursor : Word) (passed : IsPassed 
         cases e is after new (inr it) =
             all-contains (λ (p : Kept). p.tiling ≢ e.tiling) pairs (record { line = line; tiling = t }) new from (ap (λ (f : Entry). f.tiling) it)
 
-    -- or it isn't kept: it is the next that is missing
+    -- a member that isn't kept is the next that is missing
     pub next_is_missing : IsNotKept pairs t → IsNextMissing n pairs start t word
     next_is_missing new = record {
-      member = next.member;
-      word_is = next.word_is;
+      member = (next.is).member;
+      word_is = (next.is).word;
       after = later start cursor word passed.at next.after;
       new = new;
       least = λ e is after below not. passed.kept e is after (λ f. next.least e is f below) not;
     }
 
 -- the next member, by other names of the order and of the class
-pub next_as : (k n : ℕ) (one : Class) (cursor : Word) (t : Tiling) (word : Word) → k ≡ n → one ≡ Perfect → IsNextMember k one cursor t word
-    → IsNextMember n Perfect cursor t word
-next_as k n one cursor t word e f next = subst (λ (k : ℕ). IsNextMember k Perfect cursor t word) e
-    (subst (λ (one : Class). IsNextMember k one cursor t word) f next)
+pub next_as : (k n : ℕ) (one : Class) (cursor : Word) (t : Tiling) (word : Word) → k ≡ n → one ≡ Perfect
+    → IsNextMember k one cursor (record { tiling = t; word = word })
+    → IsNextMember n Perfect cursor (record { tiling = t; word = word })
+next_as k n one cursor t word e f next = subst (λ (k : ℕ). IsNextMember k Perfect cursor (record { tiling = t; word = word })) e
+    (subst (λ (one : Class). IsNextMember k one cursor (record { tiling = t; word = word })) f next)
 
 -- a walk at the start has reached none
 pub rest_none : (n : ℕ) → n ≤ 16 → IsKeptRest (record { order = n; class = Perfect; cursor = []; ended = false; pushes = 0 }) 0
@@ -115,8 +116,8 @@ passing_stays first pairs walk members p after order cursor =
 
 -- the walk goes on to its next member
 module _ (first : WalkState) (pairs : List Kept) (walk : WalkState) (members : ℕ) (p : IsPassing first pairs walk members) (t : Tiling) (word : Word)
-    (next : IsNextMember walk.order walk.class walk.cursor t word) where
-  the_next : IsNextMember first.order Perfect walk.cursor t word
+    (next : IsNextMember walk.order walk.class walk.cursor (record { tiling = t; word = word })) where
+  the_next : IsNextMember first.order Perfect walk.cursor (record { tiling = t; word = word })
   the_next = next_as walk.order first.order walk.class walk.cursor t word p.order p.class next
 
   the_next_any : IsNextSuch first.order any walk.cursor (record { tiling = t; word = word })
@@ -124,7 +125,7 @@ module _ (first : WalkState) (pairs : List Kept) (walk : WalkState) (members : �
 
   -- it has few squares
   pub passing_few : first.order ≤ 16 → length t.squares ≤ 16
-  passing_few most = omega (arith, the_next.member.order, most)
+  passing_few most = omega (arith, ((the_next.is).member).order, most)
 
   -- a next member that isn't kept is the next missing one
   pub passing_missing : IsNotKept pairs t → IsNextMissing first.order pairs first.cursor t word

@@ -38,7 +38,7 @@ module _ (n : ℕ) (t u : Tiling) (tiling : IsTiling t) (is : IsCanonicalOf t u)
   pub stands_one : (v : Tiling) → StandsFor n t v → v ≡ u
   stands_one v stands = (a_canonical_tiling_is_one t v u tiling stands.canonical is).1
 
-  -- nor does one whose canonical tiling isn't perfect and simple
+  -- a tiling whose canonical tiling isn't perfect and simple stands for no member
   pub none_of_other_kind : (IsPerfect u → IsSimple u → ⊥) → StandsForNone n t
   none_of_other_kind not v stands =
       let member = subst (IsMember n Perfect) (stands_one v stands) stands.member in not member.class member.simple

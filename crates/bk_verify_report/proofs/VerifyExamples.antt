@@ -2,6 +2,7 @@
 -- on line 3 the rectangle 33x32 as it is catalogued.
 use Rattle.std.specs.Prelude.{List, [], refl, ◌∷◌, ◌≡◌}
 use Rattle.std.proofs.Common.{ap, arith, lit≤}
+use Rattle.bk_sym.proofs.CanonicalTests.{canonical_by_test}
 use Rattle.bk_tiling.specs.Tiling.{IsTiling, Tiling, sides_of}
 use Rattle.bk_tiling.proofs.ExampleTilings.{rectangle_33x32, rectangle_69x61, square_at, turned_33x32}
 use Rattle.bk_tiling.proofs.TilingTest.{pairs_from_test, tiling_from_test}
@@ -25,21 +26,7 @@ entries = record { line = 1; tiling = turned_33x32 } ∷ record { line = 2; tili
 
 -- the rectangle is its canonical tiling
 canonical-turned : IsCanonicalOf turned_33x32 rectangle_33x32
-canonical-turned = record {
-  turn = Swap;
-  image_of = refl;
-  lying = lit≤ tt;
-  greatest = elim [
-    | Same ↦ λ le. absurd (omega arith)
-    | FlipX ↦ λ le. absurd (omega arith)
-    | FlipY ↦ λ le. absurd (omega arith)
-    | Half ↦ λ le. absurd (omega arith)
-    | Swap ↦ λ le. refl
-    | SwapFlipX ↦ λ le. refl
-    | SwapFlipY ↦ λ le. refl
-    | SwapHalf ↦ λ le. refl
-  ];
-}
+canonical-turned = canonical_by_test turned_33x32 rectangle_33x32 Swap refl (lit≤ tt) refl
 
 -- the first entry of the rectangle is that of line 1
 first-entry : IsFirstOf entries rectangle_33x32 (record { line = 1; tiling = turned_33x32 })
@@ -53,38 +40,10 @@ first-entry = record {
 
 -- each of the rectangles 33x32 and 69x61 is its own canonical tiling
 canonical-33x32 : IsCanonical rectangle_33x32
-canonical-33x32 = record {
-  turn = Same;
-  image_of = refl;
-  lying = lit≤ tt;
-  greatest = elim [
-    | Same ↦ λ le. refl
-    | FlipX ↦ λ le. refl
-    | FlipY ↦ λ le. refl
-    | Half ↦ λ le. refl
-    | Swap ↦ λ le. absurd (omega arith)
-    | SwapFlipX ↦ λ le. absurd (omega arith)
-    | SwapFlipY ↦ λ le. absurd (omega arith)
-    | SwapHalf ↦ λ le. absurd (omega arith)
-  ];
-}
+canonical-33x32 = canonical_by_test rectangle_33x32 rectangle_33x32 Same refl (lit≤ tt) refl
 
 canonical-69x61 : IsCanonical rectangle_69x61
-canonical-69x61 = record {
-  turn = Same;
-  image_of = refl;
-  lying = omega arith;
-  greatest = elim [
-    | Same ↦ λ le. refl
-    | FlipX ↦ λ le. refl
-    | FlipY ↦ λ le. refl
-    | Half ↦ λ le. refl
-    | Swap ↦ λ le. absurd (omega arith)
-    | SwapFlipX ↦ λ le. absurd (omega arith)
-    | SwapFlipY ↦ λ le. absurd (omega arith)
-    | SwapHalf ↦ λ le. absurd (omega arith)
-  ];
-}
+canonical-69x61 = canonical_by_test rectangle_69x61 rectangle_69x61 Same refl (lit≤ tt) refl
 
 -- and they are members of the order 9
 member-33x32 : IsMember 9 Perfect rectangle_33x32

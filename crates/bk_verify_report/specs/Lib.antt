@@ -6,8 +6,8 @@ pub mod Verify
 pub mod VerifyLaws
 pub mod VerifyRun
 -- How its code keeps it.
+pub mod EmptyLine
 pub mod KeptEntries
-pub mod Laws
 pub mod ListLine
 pub mod ListReading
 pub mod MissingLines

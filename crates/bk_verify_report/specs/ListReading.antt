@@ -2,8 +2,8 @@
 -- Example (VerifyingExamples): of an input without a byte, which is at its end, nothing is written, and what is kept is
 -- what there was at the start.
 use Rattle.std.specs.Prelude.{Bool, ℕ}
-use Rattle.bk_ports.specs.Ending.{IsWholeOutput, Streams}
-use Rattle.bk_ports.specs.Entering.{Entering, entries_of}
+use Rattle.bk_ports.specs.Ending.{IsReadWhole, Streams}
+use Rattle.bk_ports.specs.Entering.{AreAllEntered, Entering, entering_from}
 use Rattle.bk_verify_report.specs.ListLine.{EntersLine, MayWantAt, none_entered}
 use Rattle.bk_verify_report.specs.declared.entering.Verifying.{Verifying}
 
@@ -14,4 +14,5 @@ rules = record { enters = EntersLine; may_want = MayWantAt }
 -- all lines were read and entered, from the start on, and this is kept of them
 pub record IsListRead (n : ℕ) (streams : Streams) (last : Verifying) : Type 0 where
   pub refused : Bool
-  pub whole : IsWholeOutput (entries_of rules (none_entered n) last) streams refused
+  pub whole : IsReadWhole
+      (λ lines. AreAllEntered (entering_from rules (none_entered n) 1) last lines refused) streams

@@ -1,24 +1,25 @@
 -- The members that aren't kept, whose lines are written one after another.
 -- Example (VerifyingExamples): the line of 33x32 is `missing 9 33x32 [18,15][7,8][14,4][10,1][9] ; 2u.2aa.2ue.2eue.1e`.
-use Rattle.std.specs.Prelude.{Bool, List, Option, false, flat_map, length, true, ℕ, ⊤, ◌++◌, ◌+◌, ◌<◌, ◌^◌, ◌≡◌, ◌⊎◌}
+use Rattle.std.specs.Prelude.{Bool, IsTrue, List, Option, [], flat_map, length, ℕ, ⊤}
+use Rattle.std.specs.Prelude.{◌++◌, ◌+◌, ◌<◌, ◌^◌, ◌≡◌, ◌⊎◌, ◌↔◌}
 use Rattle.std.specs.Io.KnownBytes.{Appends}
 use Rattle.bk_ports.specs.Causes.{AppendsPrefix}
 use Rattle.bk_tiling.specs.Tiling.{Tiling}
 use Rattle.bk_word.specs.Word.{Word}
-use Rattle.bk_word.specs.declared.Class.TheVariants.{Perfect}
 use Rattle.bk_catalogue.specs.Catalogue.{Entry}
-use Rattle.bk_catalogue.specs.Following.{HasNoneAfter}
-use Rattle.bk_report.specs.ListLines.{missing_line}
-use Rattle.bk_verify_report.specs.KeptEntries.{AreKeptAfter, AreUpTo, CountsMembers, IsNextMissing, IsNotKept, Kept}
-use Rattle.bk_verify_report.specs.Report.{ReportCounts, counts_line, faults, missing_line_of}
-use Rattle.bk_verify_report.specs.VerifyRun.{TellsFaults}
+use Rattle.bk_report.specs.ListLines.{faults, missing_line, verified_line}
+use Rattle.bk_report.specs.declared.listing.Last.TheVariants.{End}
+use Rattle.bk_report.specs.declared.lists.ReportCounts.{ReportCounts}
+use Rattle.bk_verify_report.specs.KeptEntries.{AreKeptAfter, AreUpTo, CountsMembers, EntriesState, Kept}
+use Rattle.bk_verify_report.specs.KeptEntries.{IsNextMissing, IsNotKept}
+use Rattle.bk_verify_report.specs.Report.{missing_line_of}
 use Rattle.bk_verify_report.specs.declared.entering.Verifying.{Verifying}
 
 -- the lines of those up to the cursor were written, so many
-pub record AreMissingListed (n : ℕ) (pairs : List Kept) (cursor : Word) (missing : ℕ)
+pub record AreMissingListed (s : EntriesState) (cursor : Word) (missing : ℕ)
     (written written_after : Option (List ℕ)) : Type 0 where
   pub entries : List Entry
-  pub are : AreUpTo n (IsNotKept pairs) cursor entries
+  pub are : AreUpTo s.order (IsNotKept s.pairs) cursor entries
   pub count : missing ≡ length entries
   pub few : missing + 1 < 2 ^ 64
   pub appends : Appends written written_after (flat_map missing_line_of entries)
@@ -30,14 +31,7 @@ pub record IsListingBegun (n : ℕ) (pairs : List Kept) (written written_after :
   pub are : AreUpTo n (IsNotKept pairs) cursor entries
   pub begins : AppendsPrefix written written_after (flat_map missing_line_of entries)
 
--- the next member that isn't kept was written, and is the new cursor; or none is left, and the new cursor is at the end
-abbrev pub IsWrittenNext : ℕ → List Kept → Word → Bool → Word → Option (List ℕ) → Option (List ℕ) → Type 0
-IsWrittenNext n pairs cursor true new written written_after =
-    (t : Tiling) × IsNextMissing n pairs cursor t new × Appends written written_after (missing_line t new)
-IsWrittenNext n pairs cursor false new written written_after =
-    AreKeptAfter n pairs cursor × HasNoneAfter n Perfect new × (written_after ≡ written)
-
--- a beginning of its line was written
+-- a beginning of the line of the next member that isn't kept was written
 pub record IsMissingBegun (n : ℕ) (pairs : List Kept) (cursor : Word)
     (written written_after : Option (List ℕ)) : Type 0 where
   pub tiling : Tiling
@@ -56,7 +50,7 @@ pub record IsClosing (n : ℕ) (s : Verifying) (counts : ReportCounts) (bytes : 
   pub foreign : counts.foreign ≡ s.foreign
   pub repeated : counts.repeated ≡ s.repeated
   pub refused : counts.refused ≡ s.refused
-  pub text : bytes ≡ flat_map missing_line_of entries ++ counts_line n counts
+  pub text : bytes ≡ flat_map missing_line_of entries ++ verified_line End n counts []
 
 -- it was written, and it is told whether something is missing, foreign, repeated or refused
 pub record ClosesReport (n : ℕ) (s : Verifying) (differs : Bool)
@@ -65,7 +59,7 @@ pub record ClosesReport (n : ℕ) (s : Verifying) (differs : Bool)
   pub bytes : List ℕ
   pub closing : IsClosing n s counts bytes
   pub appends : Appends written written_after bytes
-  pub verdict : TellsFaults differs (faults counts)
+  pub verdict : IsTrue differs ↔ 0 < faults counts
 
 -- a beginning of it was written
 pub record IsWholeBegun (n : ℕ) (s : Verifying) (written written_after : Option (List ℕ)) : Type 0 where

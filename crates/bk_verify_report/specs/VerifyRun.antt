@@ -1,14 +1,16 @@
 -- What a run of `verify` writes: what is told of the lines that it read, and behind the last one the report's end.
 -- Example (VerifyingExamples): of a list without lines and an order without members the report is its last line, and a
 -- run that wrote it ends as one of which nothing is refused.
-use Rattle.std.specs.Prelude.{Bool, List, Option, [], false, length, true, ℕ, ◌+◌, ◌++◌, ◌<◌, ◌∷◌, ◌≡◌, ◌⊎◌}
+use Rattle.std.specs.Prelude.{Bool, IsTrue, List, Option, [], length, ℕ, ◌+◌, ◌++◌, ◌<◌, ◌∷◌, ◌≡◌, ◌⊎◌, ◌↔◌}
 use Rattle.std.specs.Io.KnownBytes.{Appends}
 use Rattle.bk_ports.specs.Causes.{AppendsPrefix}
 use Rattle.bk_ports.specs.Ending.{Output}
 use Rattle.bk_ports.specs.Lines.{kept_front}
-use Rattle.bk_verify_report.specs.Verify.{Accepted, IsNew}
-use Rattle.bk_verify_report.specs.Report.{BeginsReport, IsReport, ReportCounts, faults}
-use Rattle.bk_verify_report.specs.Told.{AreEntries, AreTold, HasEntry, IsToldOf, Told, texts_from}
+use Rattle.bk_report.specs.ListLines.{faults}
+use Rattle.bk_report.specs.declared.lists.ReportCounts.{ReportCounts}
+use Rattle.bk_verify_report.specs.Verify.{IsNew}
+use Rattle.bk_verify_report.specs.Report.{BeginsReport, IsReport}
+use Rattle.bk_verify_report.specs.Told.{HasEntry, IsToldOf, Told, texts_from}
 
 -- what is told of these lines was written
 pub record TellsLines (n : ℕ) (lines : List (List ℕ)) (written written_after : Option (List ℕ)) : Type 0 where
@@ -16,18 +18,13 @@ pub record TellsLines (n : ℕ) (lines : List (List ℕ)) (written written_after
   pub told : IsToldOf n lines tolds
   pub appends : Appends written written_after (texts_from 1 tolds)
 
--- the list and the catalogue differ where there are faults, and only there
-abbrev pub TellsFaults : Bool → ℕ → Type 0
-TellsFaults false faults = faults ≡ 0
-TellsFaults true faults = 0 < faults
-
--- the report on these lines was written
+-- the report on these lines was written, and the list and the catalogue differ exactly where it counts a fault
 pub record TellsReport (n : ℕ) (lines : List (List ℕ)) (differs : Bool)
     (written written_after : Option (List ℕ)) : Type 0 where
   pub counts : ReportCounts
   pub report : List ℕ
   pub is_report : IsReport n lines counts report
-  pub verdict : TellsFaults differs (faults counts)
+  pub verdict : IsTrue differs ↔ 0 < faults counts
   pub appends : Appends written written_after report
 
 -- a write failed at a line: what was written is a beginning of what is told of the first lines
@@ -51,11 +48,9 @@ pub record TellsBefore (n : ℕ) (lines : List (List ℕ)) (written written_afte
   pub line : List ℕ
   pub unseen : List (List ℕ)
   pub split : lines ≡ done ++ line ∷ unseen
-  pub entries : List Accepted
-  pub are_entries : AreEntries 1 done entries
   pub tolds : List Told
-  pub told : AreTold n entries 1 done tolds
-  pub new : HasEntry (1 + length done) (kept_front line) (λ e. IsNew n (entries ++ e ∷ []) e)
+  pub told : IsToldOf n done tolds
+  pub new : HasEntry (1 + length done) (kept_front line) (λ e. IsNew n (told.entries ++ e ∷ []) e)
   pub appends : Appends written written_after (texts_from 1 tolds)
 
 -- what a run writes that holds a list against the catalogue of this order. That some of the list is refused means here

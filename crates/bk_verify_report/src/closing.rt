@@ -10,12 +10,12 @@ ghost use Rattle.bk_verify_report.specs.MissingLines.{AreMissingListed, ClosesRe
 
 use crate::entering::Verifying;
 use crate::rest::Rest;
-use crate::writing::{has_fault, write_missing_entry};
+use crate::writing::write_missing_entry;
 use bk_grammar::AnswerBuffer;
 use bk_members::Members;
 use bk_play::Steps;
 use bk_ports::{Failed, Sink};
-use bk_report::{Last, write_verified};
+use bk_report::{Last, ReportCounts, write_verified};
 use std::alloc::Global;
 use std::sync::ledger::{Blank, Ledger};
 
@@ -81,17 +81,16 @@ fn close_rest<M: Members, L: Ledger, O: Sink>(
     ensures cause { HasCause (O.faults out.old) (O.faults out.new) result }
 {
     let missing = write_missing_members(rest, steps, buffer, out)?;
-    let counts = [
-        rest.members(),
+    let counts = ReportCounts {
+        members: rest.members(),
         missing,
-        lines.foreign,
-        lines.repeated,
-        lines.refused,
-    ];
-    write_verified(Last::End, order, counts, rest.cursor(), buffer);
+        foreign: lines.foreign,
+        repeated: lines.repeated,
+        refused: lines.refused,
+    };
+    write_verified(Last::End, order, counts.in_order(), rest.cursor(), buffer);
     out.write_all(buffer.as_slice())?;
-    let differs = has_fault(missing, lines.foreign, lines.repeated, lines.refused);
-    Ok(differs)
+    Ok(counts.has_fault())
 }
 
 // Writes a line for each missing member, ascending, each by one call, and gives how many there are.
@@ -104,8 +103,8 @@ fn write_missing_members<M: Members, L: Ledger, O: Sink>(
     requires most { rest.old.walk.order ≤ 16 }
     requires start { rest.old.walk.cursor ≡ [] }
     ensures listed { IfOk result
-        (λ missing. AreMissingListed rest.old.walk.order rest.old.pairs rest.new.walk.cursor missing
-        (O.written out.old) (O.written out.new)) }
+        (λ missing. AreMissingListed (record { order = rest.old.walk.order; pairs = rest.old.pairs })
+        rest.new.walk.cursor missing (O.written out.old) (O.written out.new)) }
     ensures all { OnOk result (AreKeptAfter rest.old.walk.order rest.old.pairs rest.new.walk.cursor) }
     ensures ended { OnOk result (HasNoneAfter rest.old.walk.order Perfect rest.new.walk.cursor) }
     ensures begun { OnErr result

@@ -2,8 +2,6 @@
 
 ghost use Rattle.std.specs.Prelude.{IfOk, MatchOption, OnErr, [], length, ◌≡◌, ◌≤◌};
 ghost use Rattle.bk_verify_report.specs.KeptEntries.{IsFed, IsFirstSight, IsKeptFrom, AreKeptEntries, IsNotKept};
-ghost use Rattle.bk_verify_report.specs.VerifyLaws.{AVerifierTellsTheTruth, AnEntryIsToldOneThing};
-ghost use Rattle.bk_verify_report.specs.VerifyLaws.{MissingOnesAreNotKept, TruthsStay};
 
 use crate::kept::KeptMembers;
 use bk_simple::is_perfect_simple;
@@ -98,24 +96,3 @@ impl Entries {
         self.kept.line_of(tiling)
     }
 }
-
-/// An entry is told one thing.
-pub fn an_entry_is_told_one_thing()
-    ensures { AnEntryIsToldOneThing }
-{}
-
-/// What a verifier tells of an entry is the truth, where what it keeps are the first entries of the members that were
-/// fed; and then it keeps them again.
-pub fn a_verifier_tells_the_truth()
-    ensures { AVerifierTellsTheTruth }
-{}
-
-/// What is true of an entry stays so where more entries follow.
-pub fn truths_stay()
-    ensures { TruthsStay }
-{}
-
-/// The missing members are those that aren't kept.
-pub fn missing_ones_are_not_kept()
-    ensures { MissingOnesAreNotKept }
-{}

@@ -1,11 +1,10 @@
 //! What is written behind the lines of a list.
 
 ghost use Rattle.std.specs.Io.KnownBytes.{Appends};
-ghost use Rattle.std.specs.Prelude.{OnErr, OnOk, length, ◌+◌, ◌<◌, ◌≡◌};
+ghost use Rattle.std.specs.Prelude.{OnErr, OnOk, length, ◌<◌, ◌≡◌};
 ghost use Rattle.bk_ports.specs.Causes.{AppendsPrefix, HasCause};
 ghost use Rattle.bk_code.specs.Code.{code_of as code_seen};
 ghost use Rattle.bk_report.specs.ListLines.{missing_line};
-ghost use Rattle.bk_verify_report.specs.VerifyRun.{TellsFaults};
 
 use bk_code::Code;
 use bk_grammar::AnswerBuffer;
@@ -31,14 +30,4 @@ pub(crate) fn write_missing_entry<O: Sink>(
 {
     write_missing(tiling, code, word, buffer);
     out.write_all(buffer.as_slice())
-}
-
-/// Whether some count tells of a fault.
-pub(crate) fn has_fault(missing: u64, foreign: u64, repeated: u64, refused: u64) -> bool
-    ensures { TellsFaults result (missing + foreign + repeated + refused) }
-{
-    if missing > 0 || foreign > 0 {
-        return true;
-    }
-    repeated > 0 || refused > 0
 }

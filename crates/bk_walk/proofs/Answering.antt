@@ -6,11 +6,11 @@ use Rattle.bk_word.specs.declared.Class.{Class}
 use Rattle.bk_catalogue.specs.Catalogue.{IsEntry}
 use Rattle.bk_catalogue.proofs.Members.OneEntry.{entry_complete}
 use Rattle.std.proofs.lemmas.List.{take_all}
-use Rattle.bk_tree_walk.specs.Search.{Ends, Finds, HasPassed, Meets}
+use Rattle.bk_tree_walk.specs.Search.{Ends, Finds, HasPassed, Meets, SearchState}
 use Rattle.bk_catalogue.specs.Tree.{IsAtMostTree}
 use Rattle.bk_catalogue.proofs.TreeOfWords.TreeCounts.{at_least_fewer}
 use Rattle.bk_catalogue.specs.Following.{HasNoneAfter}
-use Rattle.bk_members.specs.Walking.{IsNextMember}
+use Rattle.bk_members.specs.Walking.{IsNextMember, WalkState}
 use Rattle.bk_walk.specs.KeptWalk.{IsKeptWalk}
 
 module _ (n : ℕ) (class : Class) (cursor place : Word) (p : HasPassed n class cursor place 0) (start began ended : ℕ) (few : began ≤ start + 16) where
@@ -29,46 +29,46 @@ module _ (n : ℕ) (class : Class) (cursor place : Word) (p : HasPassed n class 
 
   -- the member that a search finds is the least after the cursor
   pub next_member : (t : Tiling) (word found : Word) → found ≡ word → IsEntry n class (record { tiling = t; word = word })
-      → Meets n class place word (ended - began) → IsNextMember n class cursor t found
-  next_member t word found same is m = subst (λ (w : Word). IsNextMember n class cursor t w) (sym same)
-      (record { member = is.member; word_is = is.word; after = (m cursor 0 p).after; least = (m cursor 0 p).passed })
+      → Meets n class place word (ended - began) → IsNextMember n class cursor (record { tiling = t; word = found })
+  next_member t word found same is m = subst (λ (w : Word). IsNextMember n class cursor (record { tiling = t; word = w })) (sym same)
+      (record { is = is; after = (m cursor 0 p).after; least = (m cursor 0 p).passed })
 
--- a walk that has ended keeps its cursor
-pub kept_at_end : (n : ℕ) (class : Class) (cursor played : Word) (pushes : ℕ) → 2 ≤ n → n ≤ 16 → order_of cursor ≤ 16 → played ≡ []
-    → HasNoneAfter n class cursor → pushes < 2 ^ 64 → IsKeptWalk n class cursor played true pushes
-kept_at_end n class cursor played pushes least most few e none known = record {
+-- a walk that comes to the end, where no move is played, keeps what it has to
+pub kept_at_end : (w : WalkState) (played : Word) → 2 ≤ w.order → w.order ≤ 16 → order_of w.cursor ≤ 16 → played ≡ []
+    → HasNoneAfter w.order w.class w.cursor → w.pushes < 2 ^ 64 → IsKeptWalk w played
+kept_at_end w played least most few e none known = record {
   least = least;
   most = most;
   few = few;
-  begun = subst (λ (w : Word). take (length w) cursor ≡ w) (sym e) refl;
+  begun = subst (λ (v : Word). take (length v) w.cursor ≡ v) (sym e) refl;
   small = omega (arith, ap order_of e);
   none = λ _. none;
   known = known;
 }
 
--- what a search finds, of its order and class, where it is known whether that is a member
-pub finds_of : (n m : ℕ) (class other : Class) (place front : Word) (met : ℕ) (found known : Bool) → m ≡ n → other ≡ class → found ≡ known
-    → Finds m other place front met found → Finds n class place front met known
-finds_of n m class other place front met found known e f is finds = subst (λ (k : Class). Finds n k place front met known) f
-    (subst (λ (k : ℕ). Finds k other place front met known) e (subst (Finds m other place front met) is finds))
+-- what a search finds is found from a state of an equal order and class, and whether it is a member is known
+pub finds_of : (s t u : SearchState) (met : ℕ) (found known : Bool) → t.order ≡ s.order → t.class ≡ s.class → found ≡ known
+    → Finds t u met found → Finds (record t { order = s.order; class = s.class }) u met known
+finds_of s t u met found known e f is finds = subst (λ (p : ℕ × Class). Finds (record t { order = p.0; class = p.1 }) u met known)
+    (λ i. (e i, f i)) (subst (Finds t u met) is finds)
 
 -- a member's word is of its order
 pub members_order : (n : ℕ) (class : Class) (t : Tiling) (word : Word) → IsEntry n class (record { tiling = t; word = word }) → order_of word ≡ n
 members_order n class t word is = (entry_complete n class (record { tiling = t; word = word }) is).1
 
--- a walk that has ended, by what is the same of it
-pub kept_ended : (n m : ℕ) (class other : Class) (cursor played : Word) (pushes : ℕ) → m ≡ n → other ≡ class → IsKeptWalk n class cursor played true pushes
-    → IsKeptWalk m other cursor played true pushes
-kept_ended n m class other cursor played pushes e f kept = subst (λ (k : Class). IsKeptWalk m k cursor played true pushes) (sym f)
-    (subst (λ (k : ℕ). IsKeptWalk k class cursor played true pushes) (sym e) kept)
+-- what a walk that has ended keeps, it keeps by an equal order and class
+pub kept_ended : (w : WalkState) (played : Word) (m : ℕ) (other : Class) → m ≡ w.order → other ≡ w.class → IsKeptWalk w played
+    → IsKeptWalk (record w { order = m; class = other }) played
+kept_ended w played m other e f kept = subst (λ (p : ℕ × Class). IsKeptWalk (record w { order = p.0; class = p.1 }) played)
+    (λ i. (sym e i, sym f i)) kept
 
--- a walk at the word of a member
-pub kept_at_word : (n m : ℕ) (other : Class) (cursor played : Word) (ended : Bool) (pushes : ℕ) → 2 ≤ n → n ≤ 16 → m ≡ n → cursor ≡ played → order_of played ≡ n
-    → ended ≡ false → pushes < 2 ^ 64 → IsKeptWalk m other cursor played ended pushes
-kept_at_word n m other cursor played ended pushes least most e same order going known = record {
-  least = omega (arith, e);
-  most = omega (arith, e);
-  few = omega (arith, ap order_of same, order);
+-- a walk at the word of a member keeps what it has to
+pub kept_at_word : (n : ℕ) (w : WalkState) (played : Word) → 2 ≤ n → n ≤ 16 → w.order ≡ n → w.cursor ≡ played → order_of played ≡ n
+    → w.ended ≡ false → w.pushes < 2 ^ 64 → IsKeptWalk w played
+kept_at_word n w played least most e same order going known = record {
+  least = omega (arith, e, least);
+  most = omega (arith, e, most);
+  few = omega (arith, ap order_of same, order, most);
   begun = ap (take (length played)) same ∙ take_all (length played) played (omega arith);
   small = omega (arith, order, e);
   none = λ done. absurd (apart (sym going ∙ done));

@@ -10,7 +10,7 @@ use Rattle.bk_found.specs.Packed.{packed}
 use Rattle.bk_found.specs.ReadMoves.{GoesOnByNumber}
 use Rattle.bk_walk.specs.Leaping.{GoesToWord, IsAtNumber}
 use Rattle.bk_tree_walk.specs.Search.{IsKeptSearch, SearchState, StaysOf}
-use Rattle.bk_tree_walk.proofs.StateLaws.{down_from, stays_one}
+use Rattle.bk_tree_walk.proofs.StateLaws.{played_from, stays_one}
 
 -- where fewer squares hang than the order, the word goes on by a move
 pub goes_by : (n : ℕ) (front : Word) (number : ℕ) → GoesToWord n front number → order_of front < n → n ≤ 16 → GoesOnByNumber front number
@@ -80,7 +80,7 @@ module _ (n : ℕ) (t : SearchState) (number : ℕ) (goes : GoesToWord n t.front
       same by_number)
 
 -- a move played to the word of a number brings a search nearer to it, one step for one move
-module _ (t u : SearchState) (m : Move) (is : u ≡ down_from t m) where
+module _ (t u : SearchState) (m : Move) (is : u ≡ played_from t m) where
   -- a move that leads on to a word leaves fewer squares to come
   pub played_nearer : (n number : ℕ) → t.order ≡ n → IsNextTo n t.front number m → u.order - order_of u.front < t.order - order_of t.front
   played_nearer n number order next =

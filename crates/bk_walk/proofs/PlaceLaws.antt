@@ -15,8 +15,7 @@ use Rattle.bk_found.proofs.PackedOrder.{packed_places_compare, packed_words_comp
 use Rattle.bk_catalogue.proofs.TreeOfWords.Places.{word_same}
 use Rattle.bk_tree_walk.proofs.Advancing.{entry_word}
 use Rattle.bk_walk.specs.Leaping.{Tells, TellsOfPlace}
-use Rattle.bk_tree_walk.specs.Search.{GoesOnFrom, IsKeptSearch, IsReady, SearchState, StaysOf, StepLeadsTo, place_of}
-use Rattle.bk_tree_walk.specs.declared.Went.{Went}
+use Rattle.bk_tree_walk.specs.Search.{IsKeptSearch, IsReady, SearchState, place_of}
 use Rattle.bk_walk.specs.declared.tabled.TableAnswer.{TableAnswer}
 use Rattle.bk_walk.specs.declared.tabled.TableAnswer.TheVariants.{Next, NoMore, Nothing}
 
@@ -52,14 +51,6 @@ tells_here s front next n class number told kept ready same same_next same_order
     (subst (λ (k : ℕ). Tells k s.class (packed (place_of s)) told) same_order (subst (λ (k : Class). Tells n k (packed (place_of s)) told) same_class
     (subst (λ (k : ℕ). Tells n class k told) (is ∙ ap (λ (w : Word). packed (w ++ next ∷ [])) same
     ∙ ap (λ (m : Move). packed (s.front ++ m ∷ [])) same_next) t)))
-
--- where a search has settled, a step leads from where it was
-pub goes_on : (s then : SearchState) (steps : ℕ) → StaysOf s then steps steps → GoesOnFrom s.order s.class (place_of s) (place_of then)
-    → (front : Word) (next : Move) (met : ℕ) (went : Went) → StepLeadsTo then.order then.class (place_of then) front next met went
-    → StepLeadsTo s.order s.class (place_of s) front next met went
-goes_on s then steps stays from front next met went leads = from front next met went
-    (subst (λ (k : Class). StepLeadsTo s.order k (place_of then) front next met went) stays.class
-    (subst (λ (n : ℕ). StepLeadsTo n then.class (place_of then) front next met went) stays.order leads))
 
 -- two legal words of one order with one number are one
 pub same_word : (n : ℕ) (v w : Word) → IsLegal v → IsLegal w → order_of v ≡ n → order_of w ≡ n → n ≤ 16 → packed v ≡ packed w → v ≡ w

@@ -19,12 +19,12 @@ ghost use Rattle.bk_found.specs.Ties.{AreTiesOf};
 ghost use Rattle.bk_free_search.specs.SeenCounts.{seen_counts};
 ghost use Rattle.bk_walk.specs.Finding.{HasMoreMembers, HasOnlyMembers, IsHeld, wanted};
 
+use bk_catalogue::is_simple_of;
 use bk_found::{Packed, Placed, Table, Ties, best_turn, leaf, lying_size, turned_squares};
 use bk_free_search::{Board, Counts, Leaves};
 use bk_lay::Turns;
 use bk_sym::{canonical, is_canonical};
 use bk_tiling::Tiling;
-use bk_tree_walk::is_simple_of;
 use bk_word::Class;
 use std::marker::Model;
 

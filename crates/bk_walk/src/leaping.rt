@@ -35,9 +35,9 @@ fn go_to<L: Ledger>(tree: &mut TreeWalk, number: u128, steps: &mut Steps<L>)
     ensures stays { StaysOf tree.old tree.new steps.old steps.new }
 {
     let order = usize::from(tree.order());
+    let mut next = first_move();
     'moves: while tree.skel().order() < order {
-        let mut next = first_move();
         read_next(tree.skel(), number, &mut next);
-        tree.play(next, steps);
+        tree.play(&next, steps);
     }
 }

@@ -25,8 +25,7 @@ pub(crate) fn search<const ROOM: usize, L: Ledger>(
     steps: &mut Steps<L>,
     tiling: &mut Tiling,
 ) -> bool
-    ensures finds { Finds tree.old.order tree.old.class (place_of tree.old) tree.new.front
-        (steps.new - steps.old) result }
+    ensures finds { Finds tree.old tree.new (steps.new - steps.old) result }
     ensures member { IsTrue result
         → IsEntry tree.old.order tree.old.class (record { tiling = tiling.new; word = tree.new.front }) }
     ensures stays { StaysOf tree.old tree.new steps.old steps.new }
@@ -49,8 +48,7 @@ fn step<const ROOM: usize, L: Ledger>(
     steps: &mut Steps<L>,
     tiling: &mut Tiling,
 ) -> Went
-    ensures leads { StepLeadsTo tree.old.order tree.old.class (place_of tree.old) tree.new.front tree.new.next
-        (steps.new - steps.old) result }
+    ensures leads { StepLeadsTo tree.old tree.new (steps.new - steps.old) result }
     ensures member { result ≡ Met
         → IsEntry tree.old.order tree.old.class (record { tiling = tiling.new; word = tree.new.front }) }
     ensures stays { StaysOf tree.old tree.new steps.old steps.new }
@@ -69,8 +67,7 @@ fn go_on<const ROOM: usize, L: Ledger>(
     tiling: &mut Tiling,
 ) -> Went
     requires { IsReady tree.old }
-    ensures leads { StepLeadsTo tree.old.order tree.old.class (place_of tree.old) tree.new.front tree.new.next
-        (steps.new - steps.old) result }
+    ensures leads { StepLeadsTo tree.old tree.new (steps.new - steps.old) result }
     ensures member { result ≡ Met
         → IsEntry tree.old.order tree.old.class (record { tiling = tiling.new; word = tree.new.front }) }
     ensures stays { StaysOf tree.old tree.new steps.old steps.new }

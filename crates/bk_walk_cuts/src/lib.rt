@@ -3,11 +3,9 @@
 //! squares.
 #![tactic(auto)]
 
-ghost use Rattle.bk_walk_cuts.specs.RuledOutCut.{RuledOutIsBarren};
-ghost use Rattle.bk_walk_cuts.specs.SidesOfTilings.{MovesHold};
-
 mod asking;
 mod barren;
+mod laws;
 mod levels;
 mod lined;
 mod moves;
@@ -15,17 +13,7 @@ mod owing;
 mod tracing;
 
 pub use barren::{is_barren, skip};
+pub use laws::{moves_hold, ruled_out_is_barren};
 pub use lined::LinedSkel;
 pub use moves::{begin_anew, first_move, least_legal_from, next_move};
 pub use tracing::Tracing;
-
-/// The sides of a tiling meet what its word says: of the widths of segments, of the levels beside each sign, and of the
-/// bottoms of the squares.
-pub fn moves_hold()
-    ensures { MovesHold }
-{}
-
-/// No member's word begins with moves that are ruled out in its class.
-pub fn ruled_out_is_barren()
-    ensures { RuledOutIsBarren }
-{}

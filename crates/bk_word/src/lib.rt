@@ -1,15 +1,14 @@
 //! Words: lists of moves that hang squares under valleys.
 #![tactic(auto)]
 
-ghost use Rattle.std.specs.Cmp.{IsTotalOrder};
 ghost use Rattle.std.specs.Prelude.{IfOk, IsOk, OnErr, OnOk, Some, [], length, slice_get, take, ◌+◌, ◌++◌, ◌-◌, ◌<◌};
 ghost use Rattle.std.specs.Prelude.{◌∷◌, ◌≡◌, ◌≤◌};
 ghost use Rattle.bk_word.specs.KeptWord.{CanStand, IsKeptWord};
 ghost use Rattle.bk_word.specs.StoredWord.{IsStoredWord, moves_in, stored, stored_move};
 ghost use Rattle.bk_word.specs.Word.{order_of, word_cmp};
-ghost use Rattle.bk_word.specs.WordTextLaws.{ATextIsOfOneWord, AWrittenWordIsRead};
 
 mod item;
+mod laws;
 mod reader;
 mod reading;
 mod signs;
@@ -18,6 +17,7 @@ mod writer;
 
 use arrayvec::ArrayVec;
 pub use item::word_item;
+pub use laws::{a_text_is_of_one_word, a_written_word_is_read, words_are_in_total_order};
 pub use reading::{WordFault, read_word, text_order};
 use smallvec::SmallVec;
 use std::alloc::Global;
@@ -130,8 +130,8 @@ impl Word {
         requires few { order_of self.old + m.now.count ≤ LARGEST_ORDER }
         ensures ok { OnOk result (self.new ≡ self.old ++ m.now ∷ []) }
         ensures unchanged { OnErr result (self.new ≡ self.old) }
-        ensures inline { order_of self.old + m.now.count ≤ 16 → IsOk result }
-        ensures bytes { length (stored self.old) + length (stored_move m.now) ≤ 64 → IsOk result }
+        ensures inline { order_of self.old + m.now.count ≤ INLINE_ORDER → IsOk result }
+        ensures bytes { length (stored self.old) + length (stored_move m.now) ≤ INLINE_BYTES → IsOk result }
     {
         let signs = m.signs.as_slice();
         if self.bytes.reserve(1 + signs.len()).is_err() {
@@ -186,8 +186,8 @@ impl Word {
     /// 16.
     pub fn copy(&self, alloc: Global) -> Result<Word, NoMemory>
         ensures ok { IfOk result (λ w. w ≡ self.now) }
-        ensures inline { order_of self.now ≤ 16 → IsOk result }
-        ensures bytes { length (stored self.now) ≤ 64 → IsOk result }
+        ensures inline { order_of self.now ≤ INLINE_ORDER → IsOk result }
+        ensures bytes { length (stored self.now) ≤ INLINE_BYTES → IsOk result }
     {
         Word::from_bytes(alloc, self.bytes.as_slice())
     }
@@ -204,8 +204,8 @@ impl Word {
     pub(crate) fn from_bytes(alloc: Global, bytes: &[u8]) -> Result<Word, NoMemory>
         requires { IsStoredWord bytes.now }
         ensures ok { IfOk result (λ w. w ≡ moves_in bytes.now) }
-        ensures inline { order_of (moves_in bytes.now) ≤ 16 → IsOk result }
-        ensures bytes { length bytes.now ≤ 64 → IsOk result }
+        ensures inline { order_of (moves_in bytes.now) ≤ INLINE_ORDER → IsOk result }
+        ensures bytes { length bytes.now ≤ INLINE_BYTES → IsOk result }
     {
         match SmallVec::from_slice(alloc, bytes) {
             Ok(bytes) => {
@@ -224,18 +224,3 @@ impl Word {
         self.bytes.as_slice()
     }
 }
-
-/// The order of words is total.
-pub fn words_are_in_total_order()
-    ensures { IsTotalOrder word_cmp }
-{}
-
-/// No bytes are the text of two words.
-pub fn a_text_is_of_one_word()
-    ensures { ATextIsOfOneWord }
-{}
-
-/// What is written of a word is its text.
-pub fn a_written_word_is_read()
-    ensures { AWrittenWordIsRead }
-{}

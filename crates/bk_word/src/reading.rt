@@ -1,7 +1,7 @@
 //! Reading the text of a word.
 #![tactic(auto)]
 
-ghost use Rattle.std.specs.Prelude.{IfErr, IfNone, IfOk, IfSome, Some, length, [], ◌+◌, ◌++◌, ◌∷◌, ◌≡◌, ◌≤◌};
+ghost use Rattle.std.specs.Prelude.{IfErr, IfNone, IfOk, IfSome, Some, length, [], ◌*◌, ◌+◌, ◌++◌, ◌∷◌, ◌≡◌, ◌≤◌};
 ghost use Rattle.bk_word.specs.ReadWord.{IsWordFaultOf};
 ghost use Rattle.bk_word.specs.Taken.{KeepsTextOf, KeepsWord, Reading, bare, moves_counted, reader_place, step, taken};
 ghost use Rattle.bk_word.specs.Taken.{with_sign};
@@ -110,7 +110,7 @@ impl Taken {
 
     // Takes a further byte.
     fn take(&mut self, place: Place, kind: Kind)
-        requires room { self.old.order ≤ LARGEST_ORDER → length self.old.bytes.items ≤ 600 }
+        requires room { self.old.order ≤ LARGEST_ORDER → length self.old.bytes.items ≤ 3 * LARGEST_ORDER }
         ensures { (r next : Reading) → place ≡ reader_place r → step r kind ≡ Some next → KeepsWord (taken r) self.old
             → KeepsWord (taken next) self.new }
     {
@@ -126,10 +126,10 @@ impl Taken {
 
     // Takes the count that ends at a place, if there is one.
     fn end_count(&mut self, place: Place)
-        requires room { self.old.order ≤ LARGEST_ORDER → length self.old.bytes.items ≤ 600 }
+        requires room { self.old.order ≤ LARGEST_ORDER → length self.old.bytes.items ≤ 3 * LARGEST_ORDER }
         ensures keeps { (r : Reading) → place ≡ reader_place r → KeepsWord (taken r) self.old
             → KeepsWord (moves_counted r) self.new }
-        ensures room { self.new.order ≤ LARGEST_ORDER → length self.new.bytes.items ≤ 601 }
+        ensures room { self.new.order ≤ LARGEST_ORDER → length self.new.bytes.items ≤ 3 * LARGEST_ORDER + 1 }
     {
         if let Place::InCount(count) = place {
             self.add_count(count);
@@ -137,9 +137,9 @@ impl Taken {
     }
 
     fn add_count(&mut self, count: u16)
-        requires room { self.old.order ≤ LARGEST_ORDER → length self.old.bytes.items ≤ 600 }
+        requires room { self.old.order ≤ LARGEST_ORDER → length self.old.bytes.items ≤ 3 * LARGEST_ORDER }
         ensures keeps { (w : Moves) → KeepsWord w self.old → KeepsWord (w ++ bare count ∷ []) self.new }
-        ensures room { self.new.order ≤ LARGEST_ORDER → length self.new.bytes.items ≤ 601 }
+        ensures room { self.new.order ≤ LARGEST_ORDER → length self.new.bytes.items ≤ 3 * LARGEST_ORDER + 1 }
     {
         match u8::try_from(u32::from(self.order) + u32::from(count)) {
             Ok(order) if usize::from(order) <= LARGEST_ORDER => {
@@ -151,7 +151,7 @@ impl Taken {
     }
 
     fn add_sign(&mut self, sign: Sign)
-        requires room { self.old.order ≤ LARGEST_ORDER → length self.old.bytes.items ≤ 601 }
+        requires room { self.old.order ≤ LARGEST_ORDER → length self.old.bytes.items ≤ 3 * LARGEST_ORDER + 1 }
         ensures { (w : Moves) (m : SeenMove) → KeepsWord (w ++ m ∷ []) self.old
             → KeepsWord (w ++ with_sign m sign ∷ []) self.new }
     {

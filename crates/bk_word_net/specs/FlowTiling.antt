@@ -12,7 +12,7 @@ use Rattle.bk_word.specs.Outline.{Outline, has_left_wall, has_right_wall, start,
 use Rattle.bk_word.specs.Play.{IsComplete, after_move, new_squares, outline_of}
 use Rattle.bk_word.specs.Word.{Move, Word}
 use Rattle.bk_lay.specs.TilingWord.{IsWordOf, signs_between}
-use Rattle.bk_word_net.specs.WordFlow.{LaidAlong}
+use Rattle.bk_word_net.specs.WordFlow.{LaidAlong, laid_so_far}
 use Rattle.bk_word_net.specs.WordNet.{end_of, net_of_word}
 
 -- the level of square q's bottom, where the squares end at these nodes: how far the potential there lies under that
@@ -51,7 +51,7 @@ pub record IsTilingByFlow (w : Word) (f : Flow) (t : Tiling) : Type 0 where
   pub word : IsWordOf t w
   pub laid : List Square
   pub levels : List ℕ
-  pub along : LaidAlong t [] [] w laid levels
+  pub along : LaidAlong t (laid_so_far [] []) w (laid_so_far laid levels)
   pub sides : map (λ q. pos q.s) laid ≡ f.currents
   pub width : pos t.width ≡ f.total
 

@@ -5,7 +5,7 @@ use Rattle.bk_tiling.specs.Tiling.{IsTiling, Tiling}
 use Rattle.bk_tiling.specs.declared.Square.{Square}
 use Rattle.bk_word.specs.Word.{Word}
 use Rattle.bk_lay.specs.TilingWord.{IsWordOf}
-use Rattle.bk_word_net.specs.WordFlow.{LaidAlong}
+use Rattle.bk_word_net.specs.WordFlow.{LaidAlong, laid_so_far}
 
 -- a tiling of the word whose squares have these sides, in the order in which the word lays them
 pub record IsLaidWith (w : Word) (given : List ℕ) (t : Tiling) : Type 0 where
@@ -13,5 +13,5 @@ pub record IsLaidWith (w : Word) (given : List ℕ) (t : Tiling) : Type 0 where
   pub word : IsWordOf t w
   pub laid : List Square
   pub levels : List ℕ
-  pub along : LaidAlong t [] [] w laid levels
+  pub along : LaidAlong t (laid_so_far [] []) w (laid_so_far laid levels)
   pub sides : map (λ q. q.s) laid ≡ given

@@ -14,11 +14,19 @@ use Rattle.bk_word.specs.Word.{Word}
 use Rattle.bk_lay.specs.TilingWord.{IsLeftmostValley, IsWordOf, squares_under}
 use Rattle.bk_word_net.specs.WordNet.{net_of_word}
 
--- the squares in the order in which the word lays them, and the levels of the valleys that it fills, in order
-abbrev pub LaidAlong : Tiling → List Square → List ℕ → Word → List Square → List ℕ → Type 0
-LaidAlong t laid levels [] all_laid all_levels = (laid ≡ all_laid) × (levels ++ t.height ∷ [] ≡ all_levels)
-LaidAlong t laid levels (m ∷ moves) all_laid all_levels = (v : Segment) × IsLeftmostValley t.width laid v
-    × LaidAlong t (laid ++ squares_under t v) (levels ++ v.level ∷ []) moves all_laid all_levels
+-- squares that are laid one after another, and the levels of the valleys that they filled, in order
+pub record LaidSoFar : Type 0 where
+  pub squares : List Square
+  pub levels : List ℕ
+
+abbrev pub laid_so_far : List Square → List ℕ → LaidSoFar
+laid_so_far squares levels = record { squares = squares; levels = levels }
+
+-- from what is laid so far to all that the word lays, move by move; the last level is the height
+abbrev pub LaidAlong : Tiling → LaidSoFar → Word → LaidSoFar → Type 0
+LaidAlong t laid [] all = (laid.squares ≡ all.squares) × (laid.levels ++ t.height ∷ [] ≡ all.levels)
+LaidAlong t laid (m ∷ moves) all = (v : Segment) × IsLeftmostValley t.width laid.squares v
+    × LaidAlong t (laid_so_far (laid.squares ++ squares_under t v) (laid.levels ++ v.level ∷ [])) moves all
 
 -- the flow of what is laid: the sides, with the height left under each node's level as its potential, and the width
 -- as the total
@@ -32,7 +40,7 @@ laid_flow t laid levels = record {
 -- the sides in the order of laying are a flow of the word's net
 abbrev pub LaidSidesAreAFlow : Type 0
 LaidSidesAreAFlow = (t : Tiling) (w : Word) (laid : List Square) (levels : List ℕ) → IsTiling t → IsWordOf t w
-    → LaidAlong t [] [] w laid levels
+    → LaidAlong t (laid_so_far [] []) w (laid_so_far laid levels)
     → IsFlow (net_of_word w) (laid_flow t laid levels)
 
 -- the net of a complete word is a net without a loose node
@@ -48,7 +56,8 @@ AWordHasOneFlow = (w : Word) (f : Flow) → IsComplete w → IsFlow (net_of_word
 abbrev pub LaidSidesFixATiling : Type 0
 LaidSidesFixATiling = (t u : Tiling) (w : Word) (tl ul : List Square) (tv uv : List ℕ) (m n : ℕ) → IsTiling t
     → IsTiling u → 0 < m → 0 < n → IsWordOf t w → IsWordOf u w
-    → LaidAlong t [] [] w tl tv → LaidAlong u [] [] w ul uv → map (λ q. m * q.s) tl ≡ map (λ q. n * q.s) ul
+    → LaidAlong t (laid_so_far [] []) w (laid_so_far tl tv) → LaidAlong u (laid_so_far [] []) w (laid_so_far ul uv)
+    → map (λ q. m * q.s) tl ≡ map (λ q. n * q.s) ul
     → enlarged m t ≡ enlarged n u
 
 -- two tilings of one word are equal up to scale

@@ -31,45 +31,31 @@ single_few low size = cond_count-le_one (low && nat_eq size 1)
 
 module _ (signs : List Sign) (sizes : List ℕ) (i found : ℕ) (low : Bool) (n : ℕ) (next : Bool) (h : i < length signs)
     (long : length sizes ≡ length signs + 1) where
-  -- one segment further, where the sign behind it is above
+  -- one segment further, where it counts for so many
+  found_next : (g : Sign) (more : ℕ) → slice_index_or signs i Above ≡ g
+      → single_valleys_from low (g ∷ drop (i + 1) signs) (slice_index_or sizes i 0 ∷ drop (i + 1) sizes)
+      ≡ more + single_valleys_from next (drop (i + 1) signs) (drop (i + 1) sizes)
+      → n ≡ found + more → more ≤ 1 → IsFound signs sizes i found low → IsFound signs sizes (i + 1) n next
+  found_next g more e counts f one c =
+      record { split = omega (arith, c.split, f, at_place low signs sizes i g h long e, counts); few = omega (arith, c.few, f, one) }
+
+  -- what is counted behind the next sign
+  abbrev behind : Bool → ℕ
+  behind b = single_valleys_from b (drop (i + 1) signs) (drop (i + 1) sizes)
+
+  -- a valley before a sign above is counted where it has one square
   pub found_above : slice_index_or signs i Above ≡ Above → n ≡ found + single_valley low (slice_index_or sizes i 0) → next ≡ false
       → IsFound signs sizes i found low → IsFound signs sizes (i + 1) n next
-  found_above e f g c = record {
-    split = omega (
-      arith,
-      c.split,
-      f,
-      at_place low signs sizes i Above h long e,
-      ap (λ (b : Bool). single_valleys_from b (drop (i + 1) signs) (drop (i + 1) sizes)) g,
-    );
-    few = omega (arith, c.few, f, single_few low (slice_index_or sizes i 0));
-  }
+  found_above e f g = found_next Above (single_valley low (slice_index_or sizes i 0)) e (omega (arith, ap behind g)) f
+      (single_few low (slice_index_or sizes i 0))
 
-  -- where it is even
+  -- a sign even leaves what is found as it is
   pub found_even : slice_index_or signs i Above ≡ Even → n ≡ found → next ≡ false → IsFound signs sizes i found low → IsFound signs sizes (i + 1) n next
-  found_even e f g c = record {
-    split = omega (
-      arith,
-      c.split,
-      f,
-      at_place low signs sizes i Even h long e,
-      ap (λ (b : Bool). single_valleys_from b (drop (i + 1) signs) (drop (i + 1) sizes)) g,
-    );
-    few = omega (arith, c.few, f);
-  }
+  found_even e f g = found_next Even 0 e (omega (arith, ap behind g)) (omega (arith, f)) (omega arith)
 
   -- a sign under leaves what is found as it is
   pub found_under : slice_index_or signs i Above ≡ Under → n ≡ found → next ≡ true → IsFound signs sizes i found low → IsFound signs sizes (i + 1) n next
-  found_under e f g c = record {
-    split = omega (
-      arith,
-      c.split,
-      f,
-      at_place low signs sizes i Under h long e,
-      ap (λ (b : Bool). single_valleys_from b (drop (i + 1) signs) (drop (i + 1) sizes)) g,
-    );
-    few = omega (arith, c.few, f);
-  }
+  found_under e f g = found_next Under 0 e (omega (arith, ap behind g)) (omega (arith, f)) (omega arith)
 
 -- with the last segment all valleys of one square are counted
 pub found_end : (signs : List Sign) (sizes : List ℕ) (i found : ℕ) (low : Bool) → i ≡ length signs → length sizes ≡ length signs + 1

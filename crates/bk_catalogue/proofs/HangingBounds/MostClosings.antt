@@ -25,29 +25,23 @@ most_closings (Above ∷ signs) (suc i) h = omega (arith, closings-next Above si
 most_closings (Even ∷ signs) (suc i) h = omega (arith, closings-next Even signs i, most_closings signs i (omega arith))
 most_closings (Under ∷ signs) (suc i) h = omega (arith, closings-next Under signs i, most_closings signs i (omega arith))
 
+-- where the first sign adds what it counts for, the place with most closings is that behind it
+closings_behind : (g : Sign) (signs : List Sign) (number : ℕ) → ((i : ℕ) → i ≤ length (g ∷ signs) → closings (g ∷ signs) i ≤ number)
+    → number ≡ cond {A = ℕ} (is_above g) 1 0 + closing_bound signs → IsMostClosings signs (closing_bound signs) → IsMostClosings (g ∷ signs) number
+closings_behind g signs number most is m = record {
+  most = most;
+  place = suc m.place;
+  within = omega (arith, m.within);
+  met = omega (arith, closings-next g signs m.place, m.met, is);
+}
+
 -- the law: by the signs from the second on
 pub the_closing_bound_is_most : TheClosingBoundIsMost
 the_closing_bound_is_most [] = record { most = most_closings []; place = 0; within = omega arith; met = refl }
-the_closing_bound_is_most (Above ∷ signs) = onto (the_closing_bound_is_most signs)
-  where
-    onto : IsMostClosings signs (closing_bound signs) → IsMostClosings (Above ∷ signs) (suc (closing_bound signs))
-    onto m = record {
-      most = most_closings (Above ∷ signs);
-      place = suc m.place;
-      within = omega (arith, m.within);
-      met =
-          omega (arith, closings-next Above signs m.place, m.met);
-    }
-the_closing_bound_is_most (Even ∷ signs) = onto (the_closing_bound_is_most signs)
-  where
-    onto : IsMostClosings signs (closing_bound signs) → IsMostClosings (Even ∷ signs) (closing_bound signs)
-    onto m = record {
-      most = most_closings (Even ∷ signs);
-      place = suc m.place;
-      within = omega (arith, m.within);
-      met =
-          omega (arith, closings-next Even signs m.place, m.met);
-    }
+the_closing_bound_is_most (Above ∷ signs) = closings_behind Above signs (suc (closing_bound signs)) (most_closings (Above ∷ signs))
+    (omega arith) (the_closing_bound_is_most signs)
+the_closing_bound_is_most (Even ∷ signs) = closings_behind Even signs (closing_bound signs) (most_closings (Even ∷ signs))
+    (omega arith) (the_closing_bound_is_most signs)
 the_closing_bound_is_most (Under ∷ signs) = onto (the_closing_bound_is_most signs) (cases_lt (closing_bound signs) (suc (unders signs)))
   where
     onto : IsMostClosings signs (closing_bound signs) → (closing_bound signs < suc (unders signs))

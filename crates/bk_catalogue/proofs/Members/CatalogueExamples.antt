@@ -1,6 +1,7 @@
 -- The catalogues of order 2: of the class imperfect the row of two squares of side 1, with the word 2e; of the class perfect
 -- none. What a walk gives from the start.
 use Rattle.std.proofs.Common.{Contains, [], arith, lit<, lit≤, refl, subst, sym, ◌∷◌, ◌≡◌}
+use Rattle.bk_sym.proofs.CanonicalTests.{canonical_by_test}
 use Rattle.bk_tiling.proofs.TilingTest.{tiling_from_test}
 use Rattle.bk_tiling.specs.Tiling.{IsTiling, Tiling}
 use Rattle.bk_simple.specs.Simple.{IsPerfect, IsSimple}
@@ -38,21 +39,7 @@ imperfect : IsPerfect row_of_two → ⊥
 imperfect perfect = perfect 0 1 (record { x = 0; y = 0; s = 0 }) (lit< tt) (lit< tt) refl
 
 canonical : IsCanonical row_of_two
-canonical = record {
-  turn = Same;
-  image_of = refl;
-  lying = lit≤ tt;
-  greatest = elim [
-    | Same ↦ λ le. refl
-    | FlipX ↦ λ le. refl
-    | FlipY ↦ λ le. refl
-    | Half ↦ λ le. refl
-    | Swap ↦ λ le. refl
-    | SwapFlipX ↦ λ le. refl
-    | SwapFlipY ↦ λ le. refl
-    | SwapHalf ↦ λ le. refl
-  ];
-}
+canonical = canonical_by_test row_of_two row_of_two Same refl (lit≤ tt) refl
 
 -- it is an entry of order 2 of the class imperfect
 pub entry_is : IsEntry 2 Imperfect row_entry

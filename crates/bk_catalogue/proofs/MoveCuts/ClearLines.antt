@@ -27,7 +27,8 @@ use Rattle.bk_lay.specs.Depiction.{Hangs, IsSegment}
 use Rattle.bk_lay.specs.TilingWord.{IsLeftmostValley, IsWordOf, MovesFollow, move_under, squares_under}
 use Rattle.bk_word_net.proofs.TilingWords.AlongWord.{Along, HasBegun, NotBegun, along_move, along_start}
 use Rattle.bk_catalogue.specs.VerticalCut.{begins_on_line, lines_after, lines_along, on_line}
-use Rattle.bk_catalogue.proofs.MoveCuts.ClearSegments.{Each, IsClear, chain_apart, chain_first, chain_later, each_append, each_at, each_joined, each_number, keep_others}
+use Rattle.bk_catalogue.proofs.MoveCuts.ClearSegments.{Each, IsClear, chain_apart, chain_first, chain_later, each_append, each_at}
+use Rattle.bk_catalogue.proofs.MoveCuts.ClearSegments.{each_joined, each_number, keep_others}
 
 module _ (t : Tiling) (laid : List Square) (nodes : List Segment) (o : Outline) (lines : List Bool) (v : Segment) (tiling : IsTiling t)
     (a : Along t laid nodes o) (long : length lines ≡ length laid)

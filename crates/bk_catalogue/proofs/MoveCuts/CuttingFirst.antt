@@ -1,14 +1,14 @@
 -- The cut of a walk at a first move of two squares with the sign above: then the right one of the two squares at the top
 -- is longer, and no square in a corner of a canonical tiling is longer than the top left one.
-use Rattle.std.proofs.Common.{List, [], ap, arith, inl, inr, length, map, refl, subst, sym, ℕ, ◌+◌, ◌<◌, ◌∙◌, ◌∷◌, ◌≡◌, ◌⊎◌}
+use Rattle.std.proofs.Common.{List, [], ap, arith, inl, inr, length, map, refl, subst, sym, ◌+◌, ◌∙◌, ◌∷◌, ◌≡◌}
 use Rattle.bk_tiling.proofs.Rows.{Chain}
 use Rattle.bk_tiling.specs.Tiling.{IsOneOf, IsTiling}
 use Rattle.bk_tiling.specs.declared.Square.{Square}
 use Rattle.bk_word.specs.Outline.{start}
 use Rattle.bk_word.specs.Word.{Move}
-use Rattle.bk_word.specs.declared.Sign.TheVariants.{Above, Even, Under}
+use Rattle.bk_word.specs.declared.Sign.TheVariants.{Above}
 use Rattle.bk_lay.proofs.Filling.{in_tiling, is_under, valley_is_filled}
-use Rattle.bk_lay.proofs.Joining.{sign_case}
+use Rattle.bk_lay.proofs.Joining.{compared_by_sign}
 use Rattle.bk_lay.proofs.Laying.{under_chain}
 use Rattle.bk_lay.proofs.Steps.{start_depicts_nothing}
 use Rattle.bk_lay.proofs.Words.{nothing_laid}
@@ -18,20 +18,6 @@ use Rattle.bk_catalogue.proofs.MoveCuts.CuttingPairs.{own_signs_are}
 use Rattle.bk_catalogue.specs.Cuts.{ShorterFirstIsBarren}
 use Rattle.bk_word.specs.OwnSigns.{own_signs}
 use Rattle.bk_catalogue.proofs.Members.CornerTest.{in_corner}
-
-above_levels : (m n : ℕ) → sign_between m n ≡ Above → m < n
-above_levels m n e = cases (sign_case m n)
-  where
-    other : Even ≡ Above → ⊥
-    other f = cc
-
-    another : Under ≡ Above → ⊥
-    another f = cc
-
-    cases : ((m < n) × (sign_between m n ≡ Above)) ⊎ ((m ≡ n) × (sign_between m n ≡ Even)) ⊎ ((n < m) × (sign_between m n ≡ Under)) → m < n
-    cases (inl h) = h.0
-    cases (inr (inl h)) = absurd (other (sym h.1 ∙ e))
-    cases (inr (inr h)) = absurd (another (sym h.1 ∙ e))
 
 -- the law: the right one would come to the corner of an image
 pub shorter_first_is_barren : ShorterFirstIsBarren
@@ -82,7 +68,7 @@ shorter_first_is_barren n class e rest entry word =
         both : Chain (p.0).x (q ∷ r ∷ []) ((p.0).x + (p.0).width) → Above ∷ [] ≡ sign_between (q.y + q.s) (r.y + r.s) ∷ [] → ⊥
         both d g = omega (
           arith,
-          above_levels (q.y + q.s) (r.y + r.s) sign,
+          compared_by_sign (q.y + q.s) (r.y + r.s) Above sign,
           a.0,
           b.0,
           in_corner e.tiling q r tiling (entry.member).canonical (record { is = a.1; x = d.0 ∙ at.0; y = a.0 }) b.1

@@ -20,9 +20,9 @@ use Rattle.bk_word.specs.Word.{Move, Word, order_of}
 use Rattle.bk_word.specs.declared.Class.{Class}
 use Rattle.bk_word.specs.declared.Class.TheVariants.{Perfect}
 use Rattle.bk_word.specs.declared.Sign.{Sign}
-use Rattle.bk_word.specs.declared.Sign.TheVariants.{Above, Even, Under}
+use Rattle.bk_word.specs.declared.Sign.TheVariants.{Even}
 use Rattle.bk_lay.proofs.Filling.{in_tiling, is_under, valley_is_filled}
-use Rattle.bk_lay.proofs.Joining.{sign_case}
+use Rattle.bk_lay.proofs.Joining.{compared_by_sign}
 use Rattle.bk_lay.proofs.Laying.{under_chain}
 use Rattle.bk_lay.proofs.Places.{HasLast, Placed, placed}
 use Rattle.bk_lay.proofs.Valleys.{one_leftmost_valley}
@@ -108,20 +108,6 @@ pub record Neighbours (squares : List Square) : Type 0 where
   pub beside : left.x + left.s ≡ right.x
   pub even : left.y + left.s ≡ right.y + right.s
 
-even_levels : (m n : ℕ) → sign_between m n ≡ Even → m ≡ n
-even_levels m n e = cases (sign_case m n)
-  where
-    other : Above ≡ Even → ⊥
-    other f = cc
-
-    another : Under ≡ Even → ⊥
-    another f = cc
-
-    cases : ((m < n) × (sign_between m n ≡ Above)) ⊎ ((m ≡ n) × (sign_between m n ≡ Even)) ⊎ ((n < m) × (sign_between m n ≡ Under)) → m ≡ n
-    cases (inl h) = absurd (other (sym h.1 ∙ e))
-    cases (inr (inl h)) = h.0
-    cases (inr (inr h)) = absurd (another (sym h.1 ∙ e))
-
 find_even : (squares : List Square) (x end : ℕ) → Chain x squares end → (k : ℕ) → k < length (signs_between (map (λ q. q.y + q.s) squares))
     → slice_index_or (signs_between (map (λ q. q.y + q.s) squares)) k Even ≡ Even → Neighbours squares
 find_even [] x end c k h e = absurd (omega arith)
@@ -134,7 +120,7 @@ find_even (q ∷ r ∷ squares) x end c zero h e =
       right_in = inr (inl refl);
       beside = omega (arith, c.0, (c.1).0);
       even =
-          even_levels (q.y + q.s) (r.y + r.s) e;
+          compared_by_sign (q.y + q.s) (r.y + r.s) Even e;
     }
 find_even (q ∷ r ∷ squares) x end c (suc k) h e = onto (find_even (r ∷ squares) (x + q.s) end c.1 k (omega arith) e)
   where

@@ -1,5 +1,5 @@
 -- Which moves come next, and the tree of order 1: it has one word, one move of one square, up to that word one, and behind it none.
-use Rattle.std.proofs.Common.{None, Some, [], arith, length, refl, subst, sym, zero, ◌+◌, ◌∷◌, ◌≡◌, ◌≤◌, List, ap, ◌∙◌}
+use Rattle.std.proofs.Common.{None, Some, [], arith, length, refl, subst, sym, zero, ◌+◌, ◌∷◌, ℕ, ◌<◌, ◌≡◌, ◌≤◌, List, ap, ◌∙◌}
 use Rattle.bk_word.proofs.StoredBytes.{order_more}
 use Rattle.bk_word.specs.Outline.{Outline, start}
 use Rattle.bk_word.specs.Play.{AreLegalFrom, after_move}
@@ -10,7 +10,16 @@ use Rattle.bk_word.proofs.FollowLaws.{after_none}
 use Rattle.bk_catalogue.proofs.TreeOfWords.Places.{move_from_parts}
 use Rattle.bk_catalogue.proofs.TreeOfWords.TreeCounts.{tree_counts_add}
 use Rattle.bk_catalogue.specs.NextMove.{first_move, fitted, move_after}
+use Rattle.bk_catalogue.specs.Ascending.{Ascends}
 use Rattle.bk_catalogue.specs.Tree.{IsInTree, IsTreeCount}
+
+-- 1, 3, 7 ascend by less than
+numbers_ascend : Ascends (λ (x y : ℕ). x < y) (1 ∷ 3 ∷ 7 ∷ [])
+numbers_ascend = ((omega arith, (omega arith, tt)), ((omega arith, tt), (tt, tt)))
+
+-- 1, 1 do not
+equal_ones_do_not : Ascends (λ (x y : ℕ). x < y) (1 ∷ 1 ∷ []) → ⊥
+equal_ones_do_not a = absurd (omega (arith, (a.0).0))
 
 no_sign : (signs : List Sign) → length signs ≡ 0 → signs ≡ []
 no_sign [] e = refl

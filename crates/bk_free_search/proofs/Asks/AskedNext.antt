@@ -19,9 +19,11 @@ use Rattle.bk_free_search.proofs.Asks.CountedSigns.{shape}
 use Rattle.bk_free_search.proofs.Asks.EvenSigns.{evens_more}
 use Rattle.bk_free_search.proofs.Asks.SharedAround.{mark_before_valley, mark_of_left}
 use Rattle.bk_free_search.specs.Apart.{IsCountedTo, marks_apart, marks_of_word}
-use Rattle.bk_free_search.specs.AskedSigns.{IsAsked}
+use Rattle.bk_free_search.specs.AskedSigns.{AreFewAsks, IsAsked}
 use Rattle.bk_free_search.specs.Strong.{IsFewPassed, seen_passed, with_mark}
 use Rattle.bk_free_search.specs.declared.asking.Asked.{Asked}
+use Rattle.bk_free_search.specs.declared.counts.TheConstants.{FEW}
+use Rattle.bk_free_search.specs.declared.behind.Asks.{Asks}
 use Rattle.bk_free_search.specs.declared.strong.Passed.{Passed}
 
 -- behind the sign at a left neighbour, or at the left wall
@@ -62,11 +64,15 @@ asked_own front signs sign asked passed one inside is past few even = record {
   low_is = λ some. ap (λ (p : SeenPassed). p.low) past ∙ low_by (seen_passed asked.passed) sign 1 false
       ∙ sym (ap is_under (get_back signs (sign ∷ []) 0 (length (signs ++ sign ∷ []) - 1) Above (omega (arith, length-append signs (sign ∷ [])))));
   evens_are = evens_more signs sign asked.evens one is.evens_are even;
-  few = few_at passed (450 + length signs + 1) (450 + length (signs ++ sign ∷ [])) (omega (arith, length-append signs (sign ∷ []))) (few
-      (450 + length signs) is.few);
+  few = few_at passed (FEW + length signs + 1) (FEW + length (signs ++ sign ∷ [])) (omega (arith, length-append signs (sign ∷ []))) (few
+      (FEW + length signs) is.few);
 }
 
--- before the first sign
+-- numbers that segments behind the valley ask for, small at a count, are small above it
+pub few_behind : (asks : Asks) (k n : ℕ) → k ≤ n → AreFewAsks asks k → AreFewAsks asks n
+few_behind asks k n h few = record { add = omega (arith, h, few.add); most = omega (arith, h, few.most); more = omega (arith, h, few.more) }
+
+-- what is counted before the valley is asked for before the first sign
 pub asked_none : (front : Word) (passed : Passed) (place : ℕ) → place ≡ valley_place (outline_of front).signs - 1 → place ≤ 40
     → ((m : Move) → IsLegal (front ++ m ∷ []) → IsCountedTo front m place (seen_passed passed)) → IsFewPassed passed place
     → IsAsked front [] (record { passed = passed; evens = 0 })
@@ -80,10 +86,11 @@ asked_none front passed place at small counted few = record {
     next : place ≡ valley_place (outline_of front).signs - 1 + 0
     next = omega (arith, at)
 
-module _ (front : Word) (place : ℕ) (at : place + 1 ≡ valley_place (outline_of front).signs) (p passed : Passed) (few : IsFewPassed p 402)
-    (counted : (m : Move) → IsLegal (front ++ m ∷ []) → IsCountedTo front m place (seen_passed p)) (small : (k : ℕ) → IsFewPassed p k → IsFewPassed passed (k + 1)) where
-  few_left : IsFewPassed passed (450 + 1)
-  few_left = let f = small 402 few in record { most = omega (arith, f.most); aboves = omega (arith, f.aboves); more = omega (arith, f.more) }
+module _ (front : Word) (place : ℕ) (at : place + 1 ≡ valley_place (outline_of front).signs) (p passed : Passed) (few : IsFewPassed p FEW)
+    (counted : (m : Move) → IsLegal (front ++ m ∷ []) → IsCountedTo front m place (seen_passed p)) (small : (k : ℕ) → IsFewPassed p k
+    → IsFewPassed passed (k + 1)) where
+  few_left : IsFewPassed passed (FEW + 1)
+  few_left = small FEW few
 
   before : valley_place (outline_of front).signs - 1 ≡ place
   before = omega (arith, at)
@@ -145,7 +152,7 @@ module _ (front : Word) (place : ℕ) (at : place + 1 ≡ valley_place (outline_
         (marked_own front m legal (seen_passed passed) (omega (arith, at)) line (under_counted mark past marked m more legal are));
     low_is = λ some. ap (λ (q : SeenPassed). q.low) more_is ∙ ap (λ (q : SeenPassed). q.low) past;
     evens_are = refl;
-    few = few_then (450 + 1) few_left;
+    few = few_then (FEW + 1) few_left;
   }
 
 -- a valley without a wall at its left isn't the first segment

@@ -28,9 +28,10 @@ use Rattle.bk_free_search.specs.AskedSigns.{AreBehind, AreMovesLeft, BarsSigns, 
 use Rattle.bk_free_search.specs.Strong.{seen_passed}
 use Rattle.bk_free_search.specs.declared.asking.Asked.{Asked}
 use Rattle.bk_free_search.specs.declared.asking.Beside.{Beside}
-use Rattle.bk_free_search.specs.declared.asking.Next.{Next}
 use Rattle.bk_free_search.specs.declared.behind.Asks.{Asks}
 use Rattle.bk_free_search.specs.declared.behind.Behind.{Behind}
+use Rattle.bk_free_search.specs.declared.state.Begun.{Begun}
+use Rattle.bk_free_search.specs.declared.state.Search.{Search}
 use Rattle.bk_free_search.specs.declared.strong.Passed.{Passed}
 
 -- ---- where squares are left
@@ -82,19 +83,19 @@ then_told : (front : Word) (other : Move) (asked : Asked) (b : Behind) → IsLeg
     → (max (asked.passed.most + (asks_then b low).add) (asked.passed.aboves + (asks_then b low).most) ≤ strong_bound_of (front ++ other ∷ []))
     × (asked.passed.more + (asks_then b low).more ≤ weight_of (front ++ other ∷ []))
 then_told front other asked b legal asked_is behind false is =
-    asked_with_all front other legal (seen_passed asked.passed) false (behind_marks front) b.above.add b.above.most b.above.more
+    asked_with_all front other legal (seen_passed asked.passed) false (behind_marks front) b.above
     (asked_is.counted other [] legal (sym (append-nil other.signs))) is (behind_marks_long front other legal)
     (marks_behind_shared front other legal) behind.above
 then_told front other asked b legal asked_is behind true is =
-    asked_with_all front other legal (seen_passed asked.passed) true (behind_marks front) b.under.add b.under.most b.under.more
+    asked_with_all front other legal (seen_passed asked.passed) true (behind_marks front) b.under
     (asked_is.counted other [] legal (sym (append-nil other.signs))) is (behind_marks_long front other legal)
     (marks_behind_shared front other legal) behind.under
 
 -- at the right wall nothing is asked for behind the sign even, so that what is too much with it is too much with any
-none_at_wall : (o : Outline) (marks : List Bool) (add most more : ℕ) → has_right_wall o ≡ true → marks ≡ false ∷ []
-    → AreAsks false (behind_signs o) (behind_sizes o) marks add most more → (add ≡ 0) × (most ≡ 0) × (more ≡ 0)
-none_at_wall o marks add most more wall none asks = at (behind_signs o) (behind_sizes o) marks no_signs
-    (ap (λ (b : Bool). cond b (1 ∷ []) (map (λ (s : List ℕ). length s) (drop (valley_place o.signs + 1) o.segments))) wall) none asks
+none_at_wall : (o : Outline) (marks : List Bool) (asks : Asks) → has_right_wall o ≡ true → marks ≡ false ∷ []
+    → AreAsks false (behind_signs o) (behind_sizes o) marks asks → (asks.add ≡ 0) × (asks.most ≡ 0) × (asks.more ≡ 0)
+none_at_wall o marks asks wall none told = at (behind_signs o) (behind_sizes o) marks no_signs
+    (ap (λ (b : Bool). cond b (1 ∷ []) (map (λ (s : List ℕ). length s) (drop (valley_place o.signs + 1) o.segments))) wall) none told
   where
     place : valley_place o.signs ≡ length o.signs
     place = eq-from_nat_eq (valley_place o.signs) (length o.signs) wall
@@ -103,18 +104,18 @@ none_at_wall o marks add most more wall none asks = at (behind_signs o) (behind_
     no_signs = drop_all (valley_place o.signs + 1) o.signs (omega (arith, place))
 
     at : (signs : List Sign) (sizes : List ℕ) (marks : List Bool) → signs ≡ [] → sizes ≡ 1 ∷ [] → marks ≡ false ∷ []
-        → AreAsks false signs sizes marks add most more → (add ≡ 0) × (most ≡ 0) × (more ≡ 0)
-    at signs sizes marks e f g asks = told (subst (λ (l : List Sign). AreAsks false l (1 ∷ []) (false ∷ []) add most more) e
-        (subst (λ (l : List ℕ). AreAsks false signs l (false ∷ []) add most more) f
-        (subst (λ (l : List Bool). AreAsks false signs sizes l add most more) g asks)))
+        → AreAsks false signs sizes marks asks → (asks.add ≡ 0) × (asks.most ≡ 0) × (asks.more ≡ 0)
+    at signs sizes marks e f g told = at_wall (subst (λ (l : List Sign). AreAsks false l (1 ∷ []) (false ∷ []) asks) e
+        (subst (λ (l : List ℕ). AreAsks false signs l (false ∷ []) asks) f
+        (subst (λ (l : List Bool). AreAsks false signs sizes l asks) g told)))
       where
-        told : AreAsks false [] (1 ∷ []) (false ∷ []) add most more → (add ≡ 0) × (most ≡ 0) × (more ≡ 0)
-        told asks = (omega (arith, asks.add_is), omega (arith, asks.most_is), omega (arith, asks.more_is))
+        at_wall : AreAsks false [] (1 ∷ []) (false ∷ []) asks → (asks.add ≡ 0) × (asks.most ≡ 0) × (asks.more ≡ 0)
+        at_wall told = (omega (arith, told.add_is), omega (arith, told.most_is), omega (arith, told.more_is))
 
 over_at_wall : (front : Word) (b : Behind) (passed : Passed) (asks : Asks) (moves left : ℕ) → has_right_wall (outline_of front) ≡ true → AreBehind front b
     → IsOver passed b.even moves left → IsOver passed asks moves left
 over_at_wall front b passed asks moves left wall behind over = cases
-    (none_at_wall (outline_of front) (joined_marks front) b.even.add b.even.most b.even.more wall
+    (none_at_wall (outline_of front) (joined_marks front) b.even wall
     (ap (λ (w : Bool). cond w (false ∷ []) (wide_first (first_count front) (drop (valley_place (outline_of front).signs + 1) (outline_of front).segments)
     (touched_or_wide (first_count front) (edges_on_lines front) (drop (valley_place (outline_of front).signs + 1) (outline_of front).segments)))) wall)
     behind.even) over
@@ -135,56 +136,56 @@ walled : (b : Bool) → open_side b ≡ 0 → b ≡ true
 walled true e = refl
 walled false e = absurd (omega (arith, e))
 
-module _ (n : ℕ) (front : Word) (m : Move) (next : Next) (around : Beside) (begun : IsMoveBegun n front m next around) (signs : List Sign) (asked : Asked)
-    (asked_is : IsAsked front signs asked) where
+module _ {s : Search} {b : Begun} {around : Beside} (begun : IsMoveBegun s b around) (signs : List Sign) (asked : Asked)
+    (asked_is : IsAsked s.board signs asked) where
   -- squares are left after it
-  some : 0 < next.left
+  some : 0 < b.next.left
   some = omega (arith, begun.fits, begun.next_is.left_is)
 
   -- with all the signs of a move, which goes on by no other
-  whole_is_barren : (other : Move) → other.count ≡ m.count → other.signs ≡ signs → IsLegal (front ++ other ∷ [])
-      → IsOver asked.passed (asks_then around.behind asked.passed.low) around.ahead.moves next.left → IsNormalBarren n (front ++ other ∷ [])
+  whole_is_barren : (other : Move) → other.count ≡ b.m.count → other.signs ≡ signs → IsLegal (s.board ++ other ∷ [])
+      → IsOver asked.passed (asks_then around.behind asked.passed.low) around.ahead.moves b.next.left → IsNormalBarren s.order (s.board ++ other ∷ [])
   whole_is_barren other count are legal over =
-      let both = then_told front other asked around.behind legal (subst (λ (l : List Sign). IsAsked front l asked) (sym are) asked_is)
+      let both = then_told s.board other asked around.behind legal (subst (λ (l : List Sign). IsAsked s.board l asked) (sym are) asked_is)
       begun.around_is.behind_is asked.passed.low refl in
-      strong_is_barred n front other around.ahead.moves next.left
+      strong_is_barred s.order s.board other around.ahead.moves b.next.left
       (max (asked.passed.most + (asks_then around.behind asked.passed.low).add) (asked.passed.aboves + (asks_then around.behind asked.passed.low).most))
       (asked.passed.more + (asks_then around.behind asked.passed.low).more) begun.least begun.around_is.moves_are
       (omega (arith, begun.next_is.left_is, begun.fits, count)) some legal both.0 both.1
-      (weighed asked.passed (asks_then around.behind asked.passed.low) around.ahead.moves next.left over)
+      (weighed asked.passed (asks_then around.behind asked.passed.low) around.ahead.moves b.next.left over)
 
   -- where all signs are there
-  pub whole_is_barred : length signs ≡ next.wanted → IsOver asked.passed (asks_then around.behind asked.passed.low) around.ahead.moves next.left
-      → BarsSigns n front m.count signs
-  whole_is_barred at over = record { barren = λ other more count are. by_legal n (front ++ other ∷ []) (λ legal. whole other more count are legal) }
+  pub whole_is_barred : length signs ≡ b.next.wanted → IsOver asked.passed (asks_then around.behind asked.passed.low) around.ahead.moves b.next.left
+      → BarsSigns s.order s.board b.m.count signs
+  whole_is_barred at over = record { barren = λ other more count are. by_legal s.order (s.board ++ other ∷ []) (λ legal. whole other more count are legal) }
     where
-      whole : (other : Move) (more : List Sign) → other.count ≡ m.count → other.signs ≡ signs ++ more → IsLegal (front ++ other ∷ [])
-          → IsNormalBarren n (front ++ other ∷ [])
+      whole : (other : Move) (more : List Sign) → other.count ≡ b.m.count → other.signs ≡ signs ++ more → IsLegal (s.board ++ other ∷ [])
+          → IsNormalBarren s.order (s.board ++ other ∷ [])
       whole other [] count are legal = whole_is_barren other count (are ∙ append-nil signs) legal over
-      whole other (s ∷ more) count are legal = absurd (omega (
+      whole other (sign ∷ more) count are legal = absurd (omega (
         arith,
-        (legal_rest start front (other ∷ []) legal).0.signs,
+        (legal_rest start s.board (other ∷ []) legal).0.signs,
         count,
         begun.next_is.wanted_is,
         at,
         ap (λ (l : List Sign). length l) are,
-        length-append signs (s ∷ more),
+        length-append signs (sign ∷ more),
       ))
 
   -- if others may follow the signs so far, too much asked for bars them
-  pub begun_is_barred : open_side (has_left_wall (outline_of front)) ≤ length signs → length signs ≤ next.own
-      → IsOver asked.passed around.behind.even around.ahead.moves next.left → BarsSigns n front m.count signs
+  pub begun_is_barred : open_side (has_left_wall (outline_of s.board)) ≤ length signs → length signs ≤ b.next.own
+      → IsOver asked.passed around.behind.even around.ahead.moves b.next.left → BarsSigns s.order s.board b.m.count signs
   begun_is_barred from own over = record {
-    barren = λ other more count are. apart_from_own n front other (λ move none.
-        by_legal n (front ++ other ∷ []) (λ legal. goes_on other more count are move none legal));
+    barren = λ other more count are. apart_from_own s.order s.board other (λ move none.
+        by_legal s.order (s.board ++ other ∷ []) (λ legal. goes_on other more count are move none legal));
   }
     where
-      goes_on : (other : Move) (more : List Sign) → other.count ≡ m.count → other.signs ≡ signs ++ more → IsLegalMove (outline_of front) other
-          → ((i : ℕ) → open_side (has_left_wall (outline_of front)) ≤ i → i < open_side (has_left_wall (outline_of front)) + (other.count - 1)
-          → slice_get other.signs i ≡ Some Even → ⊥) → IsLegal (front ++ other ∷ []) → IsNormalBarren n (front ++ other ∷ [])
+      goes_on : (other : Move) (more : List Sign) → other.count ≡ b.m.count → other.signs ≡ signs ++ more → IsLegalMove (outline_of s.board) other
+          → ((i : ℕ) → open_side (has_left_wall (outline_of s.board)) ≤ i → i < open_side (has_left_wall (outline_of s.board)) + (other.count - 1)
+          → slice_get other.signs i ≡ Some Even → ⊥) → IsLegal (s.board ++ other ∷ []) → IsNormalBarren s.order (s.board ++ other ∷ [])
       goes_on other [] count are move none legal = whole_is_barren other count (are ∙ append-nil signs) legal
-          (over_at_wall front around.behind asked.passed (asks_then around.behind asked.passed.low) around.ahead.moves next.left
-          (walled (has_right_wall (outline_of front)) (omega (
+          (over_at_wall s.board around.behind asked.passed (asks_then around.behind asked.passed.low) around.ahead.moves b.next.left
+          (walled (has_right_wall (outline_of s.board)) (omega (
             arith,
             own,
             move.signs,
@@ -193,12 +194,12 @@ module _ (n : ℕ) (front : Word) (m : Move) (next : Next) (around : Beside) (be
             begun.next_is.own_is,
             ap (λ (l : List Sign). length l) (are ∙ append-nil signs),
           ))) begun.around_is.behind_is over)
-      goes_on other (s ∷ more) count are move none legal =
-          let both = asked_with_some front other legal (seen_passed asked.passed) signs s more around.behind.even.add around.behind.even.most
-          around.behind.even.more are (asked_is.counted other (s ∷ more) legal are)
-          (parted front other signs s more move are from none) begun.around_is.behind_is.even in
-          strong_is_barred n front other around.ahead.moves next.left
+      goes_on other (sign ∷ more) count are move none legal =
+          let both = asked_with_some s.board other legal (seen_passed asked.passed) signs sign more around.behind.even are (asked_is.counted other
+          (sign ∷ more) legal are)
+          (parted s.board other signs sign more move are from none) begun.around_is.behind_is.even in
+          strong_is_barred s.order s.board other around.ahead.moves b.next.left
           (max (asked.passed.most + around.behind.even.add) (asked.passed.aboves + around.behind.even.most))
           (asked.passed.more + around.behind.even.more) begun.least begun.around_is.moves_are
           (omega (arith, begun.next_is.left_is, begun.fits, count)) some legal both.0 both.1
-          (weighed asked.passed around.behind.even around.ahead.moves next.left over)
+          (weighed asked.passed around.behind.even around.ahead.moves b.next.left over)

@@ -19,50 +19,51 @@ use Rattle.bk_layout.proofs.NormalCuts.WideSegments.{wide_long}
 use Rattle.bk_layout.specs.NormalCuts.{touched_or_wide}
 use Rattle.bk_layout.specs.WordNumbers.{first_count}
 use Rattle.bk_free_search.specs.Apart.{AreAskedBehind, AreAsks, behind_marks, behind_signs, behind_sizes, joined_marks, marks_of_word, wide_first}
+use Rattle.bk_free_search.specs.declared.behind.Asks.{Asks}
 
 module _ (low : Bool) (signs : List Sign) (sizes : List ℕ) (marks : List Bool) (long : length sizes ≡ length signs + 1) (many : length marks ≡ length sizes)
-    (add most more : ℕ) where
-  -- the last one
-  pub last_asks : AreAsks low [] (slice_index_or sizes (length signs) 0 ∷ []) (slice_index_or marks (length signs) false ∷ []) add most more
-      → AreAsks low (drop (length signs) signs) (drop (length signs) sizes) (drop (length signs) marks) add most more
-  last_asks a = subst (λ (l : List Sign). AreAsks low l (drop (length signs) sizes) (drop (length signs) marks) add most more)
+    (asks : Asks) where
+  -- what the last segment asks for, read at its place, is asked for by the lists from there on
+  pub last_asks : AreAsks low [] (slice_index_or sizes (length signs) 0 ∷ []) (slice_index_or marks (length signs) false ∷ []) asks
+      → AreAsks low (drop (length signs) signs) (drop (length signs) sizes) (drop (length signs) marks) asks
+  last_asks a = subst (λ (l : List Sign). AreAsks low l (drop (length signs) sizes) (drop (length signs) marks) asks)
       (sym (drop_all (length signs) signs (omega arith)))
-      (subst (λ (l : List ℕ). AreAsks low [] l (drop (length signs) marks) add most more) (sym (drop_more sizes (length signs) 0 (omega (arith, long))
+      (subst (λ (l : List ℕ). AreAsks low [] l (drop (length signs) marks) asks) (sym (drop_more sizes (length signs) 0 (omega (arith, long))
       ∙ ap (λ l. slice_index_or sizes (length signs) 0 ∷ l) (drop_all (length signs + 1) sizes (omega (arith, long)))))
-      (subst (λ (l : List Bool). AreAsks low [] (slice_index_or sizes (length signs) 0 ∷ []) l add most more)
+      (subst (λ (l : List Bool). AreAsks low [] (slice_index_or sizes (length signs) 0 ∷ []) l asks)
       (sym (drop_more marks (length signs) false (omega (arith, long, many))
       ∙ ap (λ l. slice_index_or marks (length signs) false ∷ l) (drop_all (length signs + 1) marks (omega (arith, long, many))))) a))
 
   -- what is asked for by a segment read at a place and those behind it is asked for by the lists from there on
   pub next_asks : (i : ℕ) → i < length signs
       → AreAsks low (slice_index_or signs i Above ∷ drop (i + 1) signs) (slice_index_or sizes i 0 ∷ drop (i + 1) sizes)
-      (slice_index_or marks i false ∷ drop (i + 1) marks) add most more
-      → AreAsks low (drop i signs) (drop i sizes) (drop i marks) add most more
-  next_asks i h a = subst (λ (l : List Sign). AreAsks low l (drop i sizes) (drop i marks) add most more) (sym (drop_more signs i Above h))
-      (subst (λ (l : List ℕ). AreAsks low (slice_index_or signs i Above ∷ drop (i + 1) signs) l (drop i marks) add most more)
+      (slice_index_or marks i false ∷ drop (i + 1) marks) asks
+      → AreAsks low (drop i signs) (drop i sizes) (drop i marks) asks
+  next_asks i h a = subst (λ (l : List Sign). AreAsks low l (drop i sizes) (drop i marks) asks) (sym (drop_more signs i Above h))
+      (subst (λ (l : List ℕ). AreAsks low (slice_index_or signs i Above ∷ drop (i + 1) signs) l (drop i marks) asks)
       (sym (drop_more sizes i 0 (omega (arith, h, long))))
       (subst (λ (l : List Bool). AreAsks low (slice_index_or signs i Above ∷ drop (i + 1) signs) (slice_index_or sizes i 0 ∷ drop
-      (i + 1) sizes) l add most more)
+      (i + 1) sizes) l asks)
       (sym (drop_more marks i false (omega (arith, h, long, many)))) a))
 
 -- ---- behind the valley of a word
 
-asks_same : (low : Bool) (signs signs' : List Sign) (sizes sizes' : List ℕ) (marks marks' : List Bool) (add most more : ℕ) → signs ≡ signs' → sizes ≡ sizes'
-    → marks ≡ marks' → AreAsks low signs sizes marks add most more → AreAsks low signs' sizes' marks' add most more
-asks_same low signs signs' sizes sizes' marks marks' add most more e f g a = subst (λ (l : List Sign). AreAsks low l sizes' marks' add most more) e
-    (subst (λ (l : List ℕ). AreAsks low signs l marks' add most more) f (subst (λ (l : List Bool). AreAsks low signs sizes l add most more) g a))
+asks_same : (low : Bool) (signs signs' : List Sign) (sizes sizes' : List ℕ) (marks marks' : List Bool) (asks : Asks) → signs ≡ signs' → sizes ≡ sizes'
+    → marks ≡ marks' → AreAsks low signs sizes marks asks → AreAsks low signs' sizes' marks' asks
+asks_same low signs signs' sizes sizes' marks marks' asks e f g a = subst (λ (l : List Sign). AreAsks low l sizes' marks' asks) e
+    (subst (λ (l : List ℕ). AreAsks low signs l marks' asks) f (subst (λ (l : List Bool). AreAsks low signs sizes l asks) g a))
 
--- at the right wall
-pub asks_at_wall : (low : Bool) (w : Word) (add most more : ℕ) → valley_place (outline_of w).signs ≡ length (outline_of w).signs
-    → AreAsks low [] (1 ∷ []) (false ∷ []) add most more
-    → AreAskedBehind low (behind_marks w) w add most more × AreAskedBehind low (joined_marks w) w add most more
-asks_at_wall low w add most more at a = (
-  asks_same low [] (behind_signs (outline_of w)) (1 ∷ []) (behind_sizes (outline_of w)) (false ∷ []) (behind_marks w) add most more
+-- at the right wall, what one square alone asks for is asked for behind the valley
+pub asks_at_wall : (low : Bool) (w : Word) (asks : Asks) → valley_place (outline_of w).signs ≡ length (outline_of w).signs
+    → AreAsks low [] (1 ∷ []) (false ∷ []) asks
+    → AreAskedBehind low (behind_marks w) w asks × AreAskedBehind low (joined_marks w) w asks
+asks_at_wall low w asks at a = (
+  asks_same low [] (behind_signs (outline_of w)) (1 ∷ []) (behind_sizes (outline_of w)) (false ∷ []) (behind_marks w) asks
       (sym (drop_all (valley_place (outline_of w).signs + 1) (outline_of w).signs (omega (arith, at))))
       (sym (ap (λ (b : Bool). cond b (1 ∷ []) (map (λ (s : List ℕ). length s) (drop (valley_place (outline_of w).signs + 1) (outline_of w).segments))) wall))
       (sym (ap (λ (b : Bool). cond b (false ∷ []) (touched_or_wide (first_count w) (edges_on_lines w)
       (drop (valley_place (outline_of w).signs + 1) (outline_of w).segments))) wall)) a,
-  asks_same low [] (behind_signs (outline_of w)) (1 ∷ []) (behind_sizes (outline_of w)) (false ∷ []) (joined_marks w) add most more
+  asks_same low [] (behind_signs (outline_of w)) (1 ∷ []) (behind_sizes (outline_of w)) (false ∷ []) (joined_marks w) asks
       (sym (drop_all (valley_place (outline_of w).signs + 1) (outline_of w).signs (omega (arith, at))))
       (sym (ap (λ (b : Bool). cond b (1 ∷ []) (map (λ (s : List ℕ). length s) (drop (valley_place (outline_of w).signs + 1) (outline_of w).segments))) wall))
       (sym (ap (λ (b : Bool). cond b (false ∷ []) (wide_first (first_count w) (drop (valley_place (outline_of w).signs + 1) (outline_of w).segments)
@@ -91,7 +92,7 @@ joined_by top lines (suc n) (x ∷ xs) h = joined_by top lines n xs (omega (arit
     ∙ ap (λ l. (slice_index_or (touched_or_wide top lines xs) n false || nat_le top (slice_index_or (map (λ (s : List ℕ). length s) xs) n 0 + 1)) ∷ l)
     (sym (drop-cons_one_more (slice_index_or (touched_or_wide top lines (x ∷ xs)) 0 false) (touched_or_wide top lines xs) n))
 
-module _ (low : Bool) (w : Word) (add most more : ℕ) (within : valley_place (outline_of w).signs < length (outline_of w).signs) (legal : IsLegal w) where
+module _ (low : Bool) (w : Word) (asks : Asks) (within : valley_place (outline_of w).signs < length (outline_of w).signs) (legal : IsLegal w) where
   apart : has_right_wall (outline_of w) ≡ false
   apart = other (valley_place (outline_of w).signs) (length (outline_of w).signs) within
     where
@@ -109,11 +110,11 @@ module _ (low : Bool) (w : Word) (add most more : ℕ) (within : valley_place (o
       (slice_index_or (sizes_of (outline_of w)) (valley_place (outline_of w).signs + 1) 0
       ∷ drop (valley_place (outline_of w).signs + 1 + 1) (sizes_of (outline_of w)))
       (slice_index_or (marks_of_word w) (valley_place (outline_of w).signs + 1) false ∷ drop (valley_place (outline_of w).signs + 1 + 1) (marks_of_word w))
-      add most more → AreAskedBehind low (behind_marks w) w add most more
+      asks → AreAskedBehind low (behind_marks w) w asks
   asks_apart a = asks_same low (behind_signs (outline_of w)) (behind_signs (outline_of w)) (slice_index_or (sizes_of (outline_of w))
       (valley_place (outline_of w).signs + 1) 0 ∷ drop (valley_place (outline_of w).signs + 1 + 1) (sizes_of (outline_of w))) (behind_sizes (outline_of w))
       (slice_index_or (marks_of_word w) (valley_place (outline_of w).signs + 1) false ∷ drop (valley_place (outline_of w).signs + 1 + 1) (marks_of_word w))
-      (behind_marks w) add most more refl sizes_there
+      (behind_marks w) asks refl sizes_there
       (sym (drop_more (marks_of_word w) (valley_place (outline_of w).signs + 1) false
       (omega (arith, within, wide_long (first_count w) (edges_on_lines w) (outline_of w).segments, (shape_of_word w legal).many)))
       ∙ drop_marks (first_count w) (edges_on_lines w) (valley_place (outline_of w).signs + 1) (outline_of w).segments
@@ -127,26 +128,26 @@ module _ (low : Bool) (w : Word) (add most more : ℕ) (within : valley_place (o
       ((slice_index_or (marks_of_word w) (valley_place (outline_of w).signs + 1) false
       || nat_le (first_count w) (slice_index_or (sizes_of (outline_of w)) (valley_place (outline_of w).signs + 1) 0 + 1))
       ∷ drop (valley_place (outline_of w).signs + 1 + 1) (marks_of_word w))
-      add most more → AreAskedBehind low (joined_marks w) w add most more
+      asks → AreAskedBehind low (joined_marks w) w asks
   asks_joined a = asks_same low (behind_signs (outline_of w)) (behind_signs (outline_of w)) (slice_index_or (sizes_of (outline_of w))
       (valley_place (outline_of w).signs + 1) 0 ∷ drop (valley_place (outline_of w).signs + 1 + 1) (sizes_of (outline_of w))) (behind_sizes (outline_of w))
       ((slice_index_or (marks_of_word w) (valley_place (outline_of w).signs + 1) false
       || nat_le (first_count w) (slice_index_or (sizes_of (outline_of w)) (valley_place (outline_of w).signs + 1) 0 + 1))
       ∷ drop (valley_place (outline_of w).signs + 1 + 1) (marks_of_word w))
-      (joined_marks w) add most more refl sizes_there
+      (joined_marks w) asks refl sizes_there
       (sym (joined_by (first_count w) (edges_on_lines w) (valley_place (outline_of w).signs + 1) (outline_of w).segments
       (omega (arith, within, (shape_of_word w legal).many)))
       ∙ sym (ap (λ (b : Bool). cond b (false ∷ []) (wide_first (first_count w) (drop (valley_place (outline_of w).signs + 1) (outline_of w).segments)
       (touched_or_wide (first_count w) (edges_on_lines w) (drop (valley_place (outline_of w).signs + 1) (outline_of w).segments)))) apart)) a
 
--- by the flat lists
-pub told_apart : (low : Bool) (w : Word) (signs : List Sign) (sizes : List ℕ) (place add most more : ℕ) → signs ≡ (outline_of w).signs
+-- what the segments behind the valley ask for by the lists, with their own marks, is asked for behind it
+pub told_apart : (low : Bool) (w : Word) (signs : List Sign) (sizes : List ℕ) (place : ℕ) (asks : Asks) → signs ≡ (outline_of w).signs
     → sizes ≡ sizes_of (outline_of w)
     → place ≡ valley_place (outline_of w).signs → place + 1 < length signs → IsLegal w
     → AreAsks low (slice_index_or signs (place + 1) Above ∷ drop (place + 1 + 1) signs) (slice_index_or sizes (place + 1) 0 ∷ drop (place + 1 + 1) sizes)
-    (slice_index_or (marks_of_word w) (place + 1) false ∷ drop (place + 1 + 1) (marks_of_word w)) add most more → AreAskedBehind low
-    (behind_marks w) w add most more
-told_apart low w signs sizes place add most more es ez ep h legal a = asks_apart low w add most more (omega (
+    (slice_index_or (marks_of_word w) (place + 1) false ∷ drop (place + 1 + 1) (marks_of_word w)) asks → AreAskedBehind low
+    (behind_marks w) w asks
+told_apart low w signs sizes place asks es ez ep h legal a = asks_apart low w asks (omega (
   arith,
   h,
   ep,
@@ -159,17 +160,17 @@ told_apart low w signs sizes place add most more es ez ep h legal a = asks_apart
     (outline_of w)))
     (slice_index_or (marks_of_word w) (place + 1) false ∷ drop (place + 1 + 1) (marks_of_word w))
     (slice_index_or (marks_of_word w) ((valley_place (outline_of w).signs) + 1) false ∷ drop (valley_place (outline_of w).signs + 1 + 1)
-    (marks_of_word w)) add most more
+    (marks_of_word w)) asks
     (sym (drop_more signs (place + 1) Above h) ∙ (λ i. drop (ep i + 1) (es i)))
     (λ i. slice_index_or (ez i) (ep i + 1) 0 ∷ drop (ep i + 1 + 1) (ez i))
     (λ i. slice_index_or (marks_of_word w) (ep i + 1) false ∷ drop (ep i + 1 + 1) (marks_of_word w)) a)
 
 -- what the one segment behind the valley asks for by the lists, with its own mark, is asked for behind it
-pub told_apart_last : (low : Bool) (w : Word) (signs : List Sign) (sizes : List ℕ) (place add most more : ℕ) → signs ≡ (outline_of w).signs
+pub told_apart_last : (low : Bool) (w : Word) (signs : List Sign) (sizes : List ℕ) (place : ℕ) (asks : Asks) → signs ≡ (outline_of w).signs
     → sizes ≡ sizes_of (outline_of w) → place ≡ valley_place (outline_of w).signs → place + 1 ≡ length signs → IsLegal w
     → AreAsks low [] (slice_index_or sizes (place + 1) 0 ∷ []) (slice_index_or (marks_of_word w)
-    (place + 1) false ∷ []) add most more → AreAskedBehind low (behind_marks w) w add most more
-told_apart_last low w signs sizes place add most more es ez ep h legal a = asks_apart low w add most more (omega (
+    (place + 1) false ∷ []) asks → AreAskedBehind low (behind_marks w) w asks
+told_apart_last low w signs sizes place asks es ez ep h legal a = asks_apart low w asks (omega (
   arith,
   h,
   ep,
@@ -181,7 +182,7 @@ told_apart_last low w signs sizes place add most more es ez ep h legal a = asks_
     (outline_of w)))
     (slice_index_or (marks_of_word w) (place + 1) false ∷ [])
     (slice_index_or (marks_of_word w) ((valley_place (outline_of w).signs) + 1) false ∷ drop (valley_place (outline_of w).signs + 1 + 1)
-    (marks_of_word w)) add most more
+    (marks_of_word w)) asks
     (sym (drop_all (valley_place (outline_of w).signs + 1) (outline_of w).signs (omega (arith, h, ep, ap (λ (l : List Sign). length l) es))))
     (λ i. slice_index_or (ez i) (ep i + 1) 0 ∷ sym (drop_all (valley_place (outline_of w).signs + 1 + 1) (sizes_of (outline_of w))
     (omega (arith, h, ep, ap (λ (l : List Sign). length l) es, sizes_long w legal))) i)
@@ -195,14 +196,14 @@ told_apart_last low w signs sizes place add most more es ez ep h legal a = asks_
       (shape_of_word w legal).many,
     ))) i) a)
 
--- with a square more at the first of them
-pub told_joined : (low : Bool) (w : Word) (signs : List Sign) (sizes : List ℕ) (place add most more : ℕ) → signs ≡ (outline_of w).signs
+-- what the segments behind the valley ask for by the lists, with a square more in the first, is asked for behind it
+pub told_joined : (low : Bool) (w : Word) (signs : List Sign) (sizes : List ℕ) (place : ℕ) (asks : Asks) → signs ≡ (outline_of w).signs
     → sizes ≡ sizes_of (outline_of w)
     → place ≡ valley_place (outline_of w).signs → place + 1 < length signs → IsLegal w
     → AreAsks low (slice_index_or signs (place + 1) Above ∷ drop (place + 1 + 1) signs) (slice_index_or sizes (place + 1) 0 ∷ drop (place + 1 + 1) sizes)
     ((slice_index_or (marks_of_word w) (place + 1) false || nat_le (first_count w) (slice_index_or (sizes_of (outline_of w))
-    (place + 1) 0 + 1)) ∷ drop (place + 1 + 1) (marks_of_word w)) add most more → AreAskedBehind low (joined_marks w) w add most more
-told_joined low w signs sizes place add most more es ez ep h legal a = asks_joined low w add most more (omega (
+    (place + 1) 0 + 1)) ∷ drop (place + 1 + 1) (marks_of_word w)) asks → AreAskedBehind low (joined_marks w) w asks
+told_joined low w signs sizes place asks es ez ep h legal a = asks_joined low w asks (omega (
   arith,
   h,
   ep,
@@ -216,18 +217,18 @@ told_joined low w signs sizes place add most more es ez ep h legal a = asks_join
     ((slice_index_or (marks_of_word w) (place + 1) false || nat_le (first_count w) (slice_index_or (sizes_of (outline_of w))
     (place + 1) 0 + 1)) ∷ drop (place + 1 + 1) (marks_of_word w))
     ((slice_index_or (marks_of_word w) ((valley_place (outline_of w).signs) + 1) false || nat_le (first_count w) (slice_index_or (sizes_of
-    (outline_of w)) ((valley_place (outline_of w).signs) + 1) 0 + 1)) ∷ drop (valley_place (outline_of w).signs + 1 + 1) (marks_of_word w)) add most more
+    (outline_of w)) ((valley_place (outline_of w).signs) + 1) 0 + 1)) ∷ drop (valley_place (outline_of w).signs + 1 + 1) (marks_of_word w)) asks
     (sym (drop_more signs (place + 1) Above h) ∙ (λ i. drop (ep i + 1) (es i)))
     (λ i. slice_index_or (ez i) (ep i + 1) 0 ∷ drop (ep i + 1 + 1) (ez i))
     (λ i. (slice_index_or (marks_of_word w) (ep i + 1) false || nat_le (first_count w) (slice_index_or (sizes_of (outline_of w))
     (ep i + 1) 0 + 1)) ∷ drop (ep i + 1 + 1) (marks_of_word w)) a)
 
 -- what the one segment behind the valley asks for by the lists, with a square more, is asked for behind it
-pub told_joined_last : (low : Bool) (w : Word) (signs : List Sign) (sizes : List ℕ) (place add most more : ℕ) → signs ≡ (outline_of w).signs
+pub told_joined_last : (low : Bool) (w : Word) (signs : List Sign) (sizes : List ℕ) (place : ℕ) (asks : Asks) → signs ≡ (outline_of w).signs
     → sizes ≡ sizes_of (outline_of w) → place ≡ valley_place (outline_of w).signs → place + 1 ≡ length signs → IsLegal w
     → AreAsks low [] (slice_index_or sizes (place + 1) 0 ∷ []) ((slice_index_or (marks_of_word w) (place + 1) false || nat_le (first_count w)
-    (slice_index_or (sizes_of (outline_of w)) (place + 1) 0 + 1)) ∷ []) add most more → AreAskedBehind low (joined_marks w) w add most more
-told_joined_last low w signs sizes place add most more es ez ep h legal a = asks_joined low w add most more (omega (
+    (slice_index_or (sizes_of (outline_of w)) (place + 1) 0 + 1)) ∷ []) asks → AreAskedBehind low (joined_marks w) w asks
+told_joined_last low w signs sizes place asks es ez ep h legal a = asks_joined low w asks (omega (
   arith,
   h,
   ep,
@@ -239,7 +240,7 @@ told_joined_last low w signs sizes place add most more es ez ep h legal a = asks
     (outline_of w)))
     ((slice_index_or (marks_of_word w) (place + 1) false || nat_le (first_count w) (slice_index_or (sizes_of (outline_of w)) (place + 1) 0 + 1)) ∷ [])
     ((slice_index_or (marks_of_word w) ((valley_place (outline_of w).signs) + 1) false || nat_le (first_count w) (slice_index_or (sizes_of
-    (outline_of w)) ((valley_place (outline_of w).signs) + 1) 0 + 1)) ∷ drop (valley_place (outline_of w).signs + 1 + 1) (marks_of_word w)) add most more
+    (outline_of w)) ((valley_place (outline_of w).signs) + 1) 0 + 1)) ∷ drop (valley_place (outline_of w).signs + 1 + 1) (marks_of_word w)) asks
     (sym (drop_all (valley_place (outline_of w).signs + 1) (outline_of w).signs (omega (arith, h, ep, ap (λ (l : List Sign). length l) es))))
     (λ i. slice_index_or (ez i) (ep i + 1) 0 ∷ sym (drop_all (valley_place (outline_of w).signs + 1 + 1) (sizes_of (outline_of w))
     (omega (arith, h, ep, ap (λ (l : List Sign). length l) es, sizes_long w legal))) i)
@@ -254,7 +255,7 @@ told_joined_last low w signs sizes place add most more es ez ep h legal a = asks
       (shape_of_word w legal).many,
     ))) i) a)
 
--- the mark of the first of them, with a square more
+-- a segment that is marked, or has as many squares as the top with one more, is marked with a square more
 pub wide_mark : (w : Word) (place : ℕ)
     → (slice_index_or (marks_of_word w) place false ≡ true) ⊎ (first_count w ≤ slice_index_or (sizes_of (outline_of w)) place 0 + 1)
     → (slice_index_or (marks_of_word w) place false || nat_le (first_count w) (slice_index_or (sizes_of (outline_of w)) place 0 + 1)) ≡ true

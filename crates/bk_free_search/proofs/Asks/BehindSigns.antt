@@ -22,6 +22,7 @@ use Rattle.bk_free_search.proofs.Asks.PassesOn.{ArePartsButLast, further_signs, 
 use Rattle.bk_free_search.proofs.Asks.SharedAround.{joined_marks_shared, marks_behind_shared, signs_behind, sizes_behind}
 use Rattle.bk_free_search.specs.Apart.{AreAskedBehind, IsCountedTo, behind_marks, behind_signs, behind_sizes, joined_marks, marks_apart, sizes_apart}
 use Rattle.bk_free_search.specs.Apart.{wide_first}
+use Rattle.bk_free_search.specs.declared.behind.Asks.{Asks}
 
 -- a pass ends with at least these
 pub record EndsWith (p : Passed) (most more : ℕ) : Type 0 where
@@ -140,13 +141,13 @@ module _ (front : Word) (m : Move) (legal : IsLegal (front ++ m ∷ [])) where
   )
 
   -- what is asked for where the move has all its signs
-  pub asked_with_all : (p : Passed) (low : Bool) (marks : List Bool) (add most more : ℕ)
+  pub asked_with_all : (p : Passed) (low : Bool) (marks : List Bool) (asks : Asks)
       → IsCountedTo front m (valley_place (outline_of front).signs - 1 + length m.signs) p → p.low ≡ low
       → length marks ≡ length (behind_sizes (outline_of front)) → ((t : ℕ) → slice_index_or marks t false ≡ true
       → slice_index_or (marks_apart front m) (valley_place (outline_of front).signs - 1 + length m.signs + t) false ≡ true)
-      → AreAskedBehind low marks front add most more
-      → (max (p.most + add) (p.aboves + most) ≤ strong_bound_of (front ++ m ∷ [])) × (p.more + more ≤ weight_of (front ++ m ∷ []))
-  asked_with_all p low marks add most more counted is_low same each asked = onto
+      → AreAskedBehind low marks front asks
+      → (max (p.most + asks.add) (p.aboves + asks.most) ≤ strong_bound_of (front ++ m ∷ [])) × (p.more + asks.more ≤ weight_of (front ++ m ∷ []))
+  asked_with_all p low marks asks counted is_low same each asked = onto
       (all_told p (behind_signs (outline_of front)) (behind_sizes (outline_of front)) marks
       (drop (valley_place (outline_of front).signs - 1 + length m.signs) (marks_apart front m)) behind_long
       (omega (
@@ -184,7 +185,7 @@ module _ (front : Word) (m : Move) (legal : IsLegal (front ++ m ∷ [])) where
           (outline_of front)))
           (p.aboves + strong_from p.low (behind_signs (outline_of front)) (behind_sizes (outline_of front)) marks))
           (p.more + weight_from p.low (behind_signs (outline_of front)) (behind_sizes (outline_of front)))
-          → (max (p.most + add) (p.aboves + most) ≤ strong_bound_of (front ++ m ∷ [])) × (p.more + more ≤ weight_of (front ++ m ∷ []))
+          → (max (p.most + asks.add) (p.aboves + asks.most) ≤ strong_bound_of (front ++ m ∷ [])) × (p.more + asks.more ≤ weight_of (front ++ m ∷ []))
       onto e = (
         omega (
           arith,
@@ -271,11 +272,11 @@ module _ (front : Word) (m : Move) (legal : IsLegal (front ++ m ∷ [])) where
           (touched_or_wide (first_count front) (edges_on_lines front) (drop (valley_place (outline_of front).signs + 1) (outline_of front).segments)) t
 
   -- if some signs are still to come behind a move's first ones, what is asked for behind them
-  pub asked_with_some : (p : Passed) (signs : List Sign) (sign : Sign) (more_signs : List Sign) (add most more : ℕ)
+  pub asked_with_some : (p : Passed) (signs : List Sign) (sign : Sign) (more_signs : List Sign) (asks : Asks)
       → m.signs ≡ signs ++ sign ∷ more_signs → IsCountedTo front m (valley_place (outline_of front).signs - 1 + length signs) p
-      → ArePartsButLast (sign ∷ more_signs) → AreAskedBehind false (joined_marks front) front add most more
-      → (max (p.most + add) (p.aboves + most) ≤ strong_bound_of (front ++ m ∷ [])) × (p.more + more ≤ weight_of (front ++ m ∷ []))
-  asked_with_some p signs sign more_signs add most more are counted apart asked = onto
+      → ArePartsButLast (sign ∷ more_signs) → AreAskedBehind false (joined_marks front) front asks
+      → (max (p.most + asks.add) (p.aboves + asks.most) ≤ strong_bound_of (front ++ m ∷ [])) × (p.more + asks.more ≤ weight_of (front ++ m ∷ []))
+  asked_with_some p signs sign more_signs asks are counted apart asked = onto
       (some_at p sign more_signs (behind_signs (outline_of front)) (signs_apart (outline_of front) m) (sizes_apart front m)
       (behind_sizes (outline_of front)) (marks_apart front m) (joined_marks front)
       (valley_place (outline_of front).signs - 1 + length signs) (valley_place (outline_of front).signs - 1 + length m.signs) from
@@ -322,7 +323,7 @@ module _ (front : Word) (m : Move) (legal : IsLegal (front ++ m ∷ [])) where
           (outline_of front)))
           (p.aboves + strong_from false (behind_signs (outline_of front)) (behind_sizes (outline_of front)) (joined_marks front)))
           (p.more + weight_from false (behind_signs (outline_of front)) (behind_sizes (outline_of front)))
-          → (max (p.most + add) (p.aboves + most) ≤ strong_bound_of (front ++ m ∷ [])) × (p.more + more ≤ weight_of (front ++ m ∷ []))
+          → (max (p.most + asks.add) (p.aboves + asks.most) ≤ strong_bound_of (front ++ m ∷ [])) × (p.more + asks.more ≤ weight_of (front ++ m ∷ []))
       onto e = (
         omega (arith, e.most_least, counted.most, asked.add_is, asked.most_is),
         omega (arith, e.more_least, counted.more, asked.more_is),

@@ -7,8 +7,8 @@ use Rattle.bk_word.specs.declared.Sign.{Sign}
 use Rattle.bk_word.specs.declared.Sign.TheVariants.{Above, Even, Under}
 use Rattle.bk_layout.specs.LineNumbers.{lefts_of}
 use Rattle.bk_free_search.specs.Joining.{JoinsLeft, JoinsRight}
-use Rattle.bk_free_search.specs.Lefts.{IsLeftOfOne}
-use Rattle.bk_free_search.specs.Rights.{IsRightOfOne, rights_of}
+use Rattle.bk_free_search.specs.NodeLines.{IsLineOfOne}
+use Rattle.bk_free_search.specs.Rights.{rights_of}
 use Rattle.bk_play.specs.SmallSkeleton.{IsValleyPlace}
 
 abbrev move : ℕ → List Sign → Move
@@ -25,10 +25,10 @@ valley : IsValleyPlace word (record { place = 1; start = 1; end = 3 })
 valley = record { stands = record { place_is = refl; first_is = refl }; end_is = refl }
 
 -- at the left of the square 4 stands the left wall, and at the right of the square 3 the right one
-left_of_joined : IsLeftOfOne (lefts_of word) (4 ∷ []) 0
+left_of_joined : IsLineOfOne (lefts_of word) (4 ∷ []) 0 0
 left_of_joined = record { place = 0; number = 4; at = refl; is = refl }
 
-right_of_joined : IsRightOfOne (rights_of word) (3 ∷ []) 1
+right_of_joined : IsLineOfOne (rights_of word) (3 ∷ []) 1 1
 right_of_joined = record { place = 0; number = 3; at = refl; is = refl }
 
 -- the move 1ea joins its square with the square 4, and with none at the right

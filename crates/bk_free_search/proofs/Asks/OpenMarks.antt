@@ -79,7 +79,8 @@ module _ (top : ℕ) (lines : List Bool) (sizes ends : List ℕ) where
 
     -- its mark
     mark_is : marks_by_lists top lines (drop i sizes) (drop start ends)
-        ≡ is_marked_segment top lines ends start (slice_index_or sizes i 0) (slice_index_or sizes (i + 1) 0)
+        ≡ is_marked_segment top lines (take (slice_index_or sizes i 0) (drop start ends))
+        (take (slice_index_or sizes (i + 1) 0) (drop (start + slice_index_or sizes i 0) ends)) (slice_index_or sizes i 0)
         ∷ marks_by_lists top lines (drop (i + 1) sizes) (drop (start + slice_index_or sizes i 0) ends)
     mark_is = ap (λ l. marks_by_lists top lines l (drop start ends)) (drop_more sizes i 0 low)
         ∙ (λ j. ((list_any (on_line lines) (take (slice_index_or sizes i 0) (drop start ends)) || here j) || nat_le top (as_many j))
@@ -96,7 +97,8 @@ module _ (top : ℕ) (lines : List Bool) (sizes ends : List ℕ) where
         as_many = omega (arith, length-take (slice_index_or sizes i 0) (drop start ends), length-drop start ends, two_fit)
 
     pub mark_there : slice_index_or (marks_by_lists top lines sizes ends) i false
-        ≡ is_marked_segment top lines ends start (slice_index_or sizes i 0) (slice_index_or sizes (i + 1) 0)
+        ≡ is_marked_segment top lines (take (slice_index_or sizes i 0) (drop start ends))
+        (take (slice_index_or sizes (i + 1) 0) (drop (start + slice_index_or sizes i 0) ends)) (slice_index_or sizes i 0)
     mark_there = let e : i ≡ i + 0 = omega arith in ap (λ k. slice_index_or (marks_by_lists top lines sizes ends) k false) e
         ∙ h.rest 0 ∙ ap (λ l. slice_index_or l 0 false) mark_is
 
@@ -146,7 +148,7 @@ module _ (top : ℕ) (lines : List Bool) (sizes ends : List ℕ) where
         here = on (start + one.more) one.has
 
         cases : (one.more < size) ⊎ (size ≤ one.more)
-            → is_marked_segment top lines ends start (slice_index_or sizes i 0) (slice_index_or sizes (i + 1) 0) ≡ true
+            → is_marked_segment top lines (take size (drop start ends)) (take (slice_index_or sizes (i + 1) 0) (drop (start + size) ends)) size ≡ true
         cases (inl low) = ap (λ b. (b || begins_on_line lines (take (slice_index_or sizes (i + 1) 0) (drop (start + size) ends))) || nat_le top size)
             (list_any_at (on_line lines) (take size (drop start ends)) one.more 0
             (omega (arith, low, here.0, length-take size (drop start ends), length-drop start ends))

@@ -17,9 +17,8 @@ use Rattle.bk_layout.specs.LineNumbers.{left_end, lefts_of, new_sides, right_end
 use Rattle.bk_layout.specs.NodeCut.{ShareANode, TouchesClosed}
 use Rattle.bk_free_search.proofs.Boards.TouchedLines.{sides_many, sides_snoc, touch_more}
 use Rattle.bk_free_search.specs.Joining.{JoinsLeft, JoinsRight, ShareBefore, ShareBehind, TouchOneNode, TouchOneOf}
-use Rattle.bk_free_search.specs.Lefts.{IsLeftOfOne}
-use Rattle.bk_free_search.specs.NodeLines.{Has}
-use Rattle.bk_free_search.specs.Rights.{IsRightOfOne, rights_of}
+use Rattle.bk_free_search.specs.NodeLines.{Has, IsLineOfOne}
+use Rattle.bk_free_search.specs.Rights.{rights_of}
 use Rattle.bk_free_search.specs.declared.line_set.LineSet.{LineSet}
 use Rattle.bk_free_search.proofs.Asks.JoinedSegments.{IsJoined, is_joined}
 use Rattle.bk_free_search.proofs.Boards.LeftLines.{index_left}
@@ -134,7 +133,7 @@ module _ (w : Word) (m : Move) (word : IsLegal w) (legal : IsLegalMove (outline_
   right_line : (number line : ℕ) → slice_index_or (rights_of w) (number - 1) 1 ≡ line → line ≡ (sides_at (square_lines w) number).1
   right_line number line e = sym (index_right (square_lines w) (number - 1) ∙ e)
 
-  before_share : (first second : ℕ) → IsLeftOfOne (lefts_of w) left first → TouchOneNode w first second → ShareBefore w left second
+  before_share : (first second : ℕ) → IsLineOfOne (lefts_of w) left 0 first → TouchOneNode w first second → ShareBefore w left second
   before_share first second a touch = record {
     place = a.place;
     number = a.number;
@@ -144,7 +143,7 @@ module _ (w : Word) (m : Move) (word : IsLegal w) (legal : IsLegalMove (outline_
 
   -- a line at the left of an earlier square, and one at the right of the new one or of a later one
   pub parted_before : (lefts rights ends : LineSet) (line : ℕ) → line ≡ right_end (square_lines w) (valley_of (outline_of w))
-      → ((k : ℕ) → Has lefts k → IsLeftOfOne (lefts_of w) left k) → ((k : ℕ) → Has rights k → IsRightOfOne (rights_of w) right k)
+      → ((k : ℕ) → Has lefts k → IsLineOfOne (lefts_of w) left 0 k) → ((k : ℕ) → Has rights k → IsLineOfOne (rights_of w) right 1 k)
       → ((k : ℕ) → Has ends k → (k ≡ line) ⊎ Has rights k) → TouchOneOf w lefts ends → ShareANode (w ++ m ∷ [])
   parted_before lefts rights ends line is at_left at_right at_end t = cases (at_end t.right t.in_rights)
     where
@@ -161,7 +160,7 @@ module _ (w : Word) (m : Move) (word : IsLegal w) (legal : IsLegalMove (outline_
 
   -- the line at the left of the new square, and one at the right of a later one
   pub parted_behind : (begins rights : LineSet) (line : ℕ) → line ≡ left_end (square_lines w) (valley_of (outline_of w))
-      → ((k : ℕ) → Has rights k → IsRightOfOne (rights_of w) right k) → ((k : ℕ) → Has begins k → k ≡ line)
+      → ((k : ℕ) → Has rights k → IsLineOfOne (rights_of w) right 1 k) → ((k : ℕ) → Has begins k → k ≡ line)
       → TouchOneOf w begins rights → ShareANode (w ++ m ∷ [])
   parted_behind begins rights line is at_right at_begin t = let b = at_right t.right t.in_rights in
       shared_behind line is (record {

@@ -11,7 +11,7 @@ use Rattle.bk_free_search.proofs.Boards.TouchedLines.{AreNextLines, nodes_less, 
 use Rattle.bk_free_search.proofs.Boards.WordCounts.{left_walls, lefts_then, right_walls, rights_then}
 use Rattle.bk_layout.specs.LineNumbers.{left_end, lefts_of, right_end, square_lines}
 use Rattle.bk_free_search.specs.BoardOutlines.{IsBoardOutline}
-use Rattle.bk_free_search.specs.Boards.{IsBoardOf}
+use Rattle.bk_free_search.specs.Boards.{BoardLists, IsBoardOf}
 use Rattle.bk_free_search.specs.Lefts.{IsLeftWord, first_left}
 use Rattle.bk_free_search.specs.Joining.{TouchOneOf}
 use Rattle.bk_free_search.specs.NodeLines.{AreNodeLines, Has, HasPair, IsBesideNew, IsBesideOneOf}
@@ -19,8 +19,8 @@ use Rattle.bk_free_search.specs.Rights.{last_right, rights_of}
 use Rattle.bk_free_search.specs.declared.board.BoardOutline.{BoardOutline}
 use Rattle.bk_free_search.specs.declared.line_set.LineSet.{LineSet}
 
--- what is known of a move that is played
-pub record IsPlayed (w : Word) (m : Move) (lefts rights : List ℕ) (nodes : List LineSet) (first at_left at_right : ℕ) : Type 0 where
+-- what is known of a move that is played, by what the board keeps before and after it
+pub record IsPlayed (w : Word) (m : Move) (b after : BoardLists) : Type 0 where
   pub hung : ℕ
   pub hung_is : hung ≡ order_of w
   pub count : ℕ
@@ -28,24 +28,19 @@ pub record IsPlayed (w : Word) (m : Move) (lefts rights : List ℕ) (nodes : Lis
   pub squares : List ℕ
   pub squares_are : squares ≡ valley_of (outline_of w)
   pub left : ℕ
-  pub left_is : left ≡ first_left lefts squares
+  pub left_is : left ≡ first_left b.lefts squares
   pub right : ℕ
-  pub right_is : right ≡ last_right rights squares
-  pub lefts_then : List ℕ
-  pub lefts_are : lefts_then ≡ lefts ++ left ∷ numbers_from (hung + 2) (count - 1)
-  pub rights_then : List ℕ
-  pub rights_are : rights_then ≡ rights ++ numbers_from (hung + 2) (count - 1) ++ right ∷ []
+  pub right_is : right ≡ last_right b.rights squares
+  pub lefts_are : after.lefts ≡ b.lefts ++ left ∷ numbers_from (hung + 2) (count - 1)
+  pub rights_are : after.rights ≡ b.rights ++ numbers_from (hung + 2) (count - 1) ++ right ∷ []
   pub lines : LineSet
-  pub only : (line : ℕ) → Has lines line → IsBesideOneOf lefts_then rights_then squares line ⊎ IsBesideNew lefts_then rights_then hung count line
-  pub all : (line : ℕ) → line < 32 → IsBesideOneOf lefts_then rights_then squares line ⊎ IsBesideNew lefts_then rights_then hung count line → Has lines line
-  pub nodes_then : List LineSet
-  pub nodes_are : nodes_then ≡ nodes ++ lines ∷ []
-  pub first_then : ℕ
-  pub first_is : first_then ≡ cond (nat_eq hung 0) count first
-  pub left_then : ℕ
-  pub left_then_is : left_then ≡ at_left + cond (nat_eq left 0) 1 0
-  pub right_then : ℕ
-  pub right_then_is : right_then ≡ at_right + cond (nat_eq right 1) 1 0
+  pub only : (line : ℕ) → Has lines line → IsBesideOneOf after.lefts after.rights squares line ⊎ IsBesideNew after.lefts after.rights hung count line
+  pub all : (line : ℕ) → line < 32 → IsBesideOneOf after.lefts after.rights squares line ⊎ IsBesideNew after.lefts after.rights hung count line
+      → Has lines line
+  pub nodes_are : after.nodes ≡ b.nodes ++ lines ∷ []
+  pub first_is : after.first ≡ cond (nat_eq hung 0) count b.first
+  pub left_then_is : after.left ≡ b.left + cond (nat_eq left 0) 1 0
+  pub right_then_is : after.right ≡ b.right + cond (nat_eq right 1) 1 0
 
 -- the line is at a side of one of these squares, or of one of so many new ones
 abbrev pub beside : List ℕ → List ℕ → List ℕ → ℕ → ℕ → ℕ → Type 0
@@ -63,61 +58,66 @@ beside_same lefts lefts' rights rights' squares squares' hung hung' count count'
     (subst (λ (k : ℕ). beside lefts rights squares hung k line) e h))))
 
 -- after a legal move a board keeps the lines, nodes and counts of the word with that move
-pub board_more : (w more : Word) (m : Move) (lefts rights : List ℕ) (nodes : List LineSet) (first at_left at_right : ℕ)
-    → IsBoardOf w lefts rights nodes first at_left at_right → IsLegalMove (outline_of w) m → more ≡ w ++ m ∷ []
-    → (p : IsPlayed w m lefts rights nodes first at_left at_right)
-    → IsBoardOf more p.lefts_then p.rights_then p.nodes_then p.first_then p.left_then p.right_then
-board_more w more m lefts rights nodes first at_left at_right board legal e p = record {
+pub board_more : (w more : Word) (m : Move) (b after : BoardLists) → IsBoardOf w b → IsLegalMove (outline_of w) m → more ≡ w ++ m ∷ []
+    → IsPlayed w m b after → IsBoardOf more after
+board_more w more m b after board legal e p = record {
   left_word = left;
   rights_are = right ∙ ap rights_of (sym e);
-  node_lines = subst (λ (v : Word). AreNodeLines v p.nodes_then) (sym e)
-      (subst (λ (l : List LineSet). AreNodeLines (w ++ m ∷ []) l) (sym p.nodes_are) (nodes_more w m nodes p.lines board.left_word.legal board.node_lines next));
-  first_is = first_more w more m e p.hung first p.first_then board.left_word.legal p.hung_is board.first_is
-      (p.first_is ∙ ap (λ k. cond (nat_eq p.hung 0) k first) p.count_is);
+  node_lines = subst (λ (v : Word). AreNodeLines v after.nodes) (sym e)
+      (subst (λ (l : List LineSet). AreNodeLines (w ++ m ∷ []) l) (sym p.nodes_are)
+      (nodes_more w m b.nodes p.lines board.left_word.legal board.node_lines next));
+  first_is = first_more w more m e p.hung b.first after.first board.left_word.legal p.hung_is board.first_is
+      (p.first_is ∙ ap (λ k. cond (nat_eq p.hung 0) k b.first) p.count_is);
   left_is = p.left_then_is ∙ ap (λ k. k + cond {A = ℕ} (nat_eq p.left 0) 1 0) left_before
-      ∙ sym (lefts_then lefts p.left (p.hung + 2) (p.count - 1) (omega arith))
+      ∙ sym (lefts_then b.lefts p.left (p.hung + 2) (p.count - 1) (omega arith))
       ∙ ap (count_by (λ l. nat_eq l 0)) (sym p.lefts_are ∙ left.lefts_are) ∙ left_walls more;
   right_is = p.right_then_is ∙ ap (λ k. k + cond {A = ℕ} (nat_eq p.right 1) 1 0) right_before
-      ∙ sym (rights_then rights p.right (p.hung + 2) (p.count - 1) (omega arith))
+      ∙ sym (rights_then b.rights p.right (p.hung + 2) (p.count - 1) (omega arith))
       ∙ ap (count_by (λ l. nat_eq l 1)) (sym p.rights_are ∙ right ∙ ap rights_of (sym e)) ∙ right_walls more;
 }
   where
-    left : IsLeftWord more p.lefts_then
-    left = left_more w more lefts p.lefts_then m p.left p.count board.left_word legal (p.left_is ∙ ap (first_left lefts) p.squares_are) p.count_is e
-        (p.lefts_are ∙ ap (λ k. lefts ++ p.left ∷ numbers_from (k + 2) (p.count - 1)) p.hung_is)
+    left : IsLeftWord more after.lefts
+    left = left_more w more b.lefts after.lefts m p.left p.count board.left_word legal (p.left_is ∙ ap (first_left b.lefts) p.squares_are) p.count_is e
+        (p.lefts_are ∙ ap (λ k. b.lefts ++ p.left ∷ numbers_from (k + 2) (p.count - 1)) p.hung_is)
 
-    lefts_are : p.lefts_then ≡ lefts_of (w ++ m ∷ [])
+    lefts_are : after.lefts ≡ lefts_of (w ++ m ∷ [])
     lefts_are = left.lefts_are ∙ ap lefts_of e
 
-    right : p.rights_then ≡ rights_of (w ++ m ∷ [])
-    right = p.rights_are ∙ ap (λ k. rights ++ numbers_from (k + 2) (p.count - 1) ++ p.right ∷ []) p.hung_is
-        ∙ right_more w m rights p.right p.count legal board.rights_are (p.right_is ∙ ap (last_right rights) p.squares_are) p.count_is
+    right : after.rights ≡ rights_of (w ++ m ∷ [])
+    right = p.rights_are ∙ ap (λ k. b.rights ++ numbers_from (k + 2) (p.count - 1) ++ p.right ∷ []) p.hung_is
+        ∙ right_more w m b.rights p.right p.count legal board.rights_are (p.right_is ∙ ap (last_right b.rights) p.squares_are) p.count_is
 
-    left_before : at_left ≡ count_by (λ l. nat_eq l 0) lefts
+    left_before : b.left ≡ count_by (λ l. nat_eq l 0) b.lefts
     left_before = board.left_is ∙ sym (left_walls w) ∙ ap (count_by (λ l. nat_eq l 0)) (sym board.left_word.lefts_are)
 
-    right_before : at_right ≡ count_by (λ l. nat_eq l 1) rights
+    right_before : b.right ≡ count_by (λ l. nat_eq l 1) b.rights
     right_before = board.right_is ∙ sym (right_walls w) ∙ ap (count_by (λ l. nat_eq l 1)) (sym board.rights_are)
 
     next : AreNextLines w m p.lines
     next = record {
-      only = λ line has. beside_same p.lefts_then (lefts_of (w ++ m ∷ [])) p.rights_then (rights_of (w ++ m ∷ [])) p.squares
+      only = λ line has. beside_same after.lefts (lefts_of (w ++ m ∷ [])) after.rights (rights_of (w ++ m ∷ [])) p.squares
           (valley_of (outline_of w)) p.hung (order_of w) p.count m.count line lefts_are right p.squares_are p.hung_is p.count_is (p.only line has);
-      all = λ line low b. p.all line low (beside_same (lefts_of (w ++ m ∷ [])) p.lefts_then (rights_of (w ++ m ∷ [])) p.rights_then
+      all = λ line low near. p.all line low (beside_same (lefts_of (w ++ m ∷ [])) after.lefts (rights_of (w ++ m ∷ [])) after.rights
           (valley_of (outline_of w)) p.squares (order_of w) p.hung m.count p.count line (sym lefts_are) (sym right) (sym p.squares_are)
-          (sym p.hung_is) (sym p.count_is) b);
+          (sym p.hung_is) (sym p.count_is) near);
     }
 
--- what is left when the last move is taken back, by the outline before it
-pub board_less : (w front : Word) (before : BoardOutline) (lefts rights : List ℕ) (nodes : List LineSet) (first at_left at_right order moves : ℕ)
-    (lefts_then rights_then : List ℕ) (nodes_then : List LineSet)
-    → IsBoardOf w lefts rights nodes first at_left at_right → IsBoardOutline front before → 0 < length w → front ≡ take (length w - 1) w
-    → order ≡ order_of front → moves ≡ length front → lefts_then ≡ take order lefts → rights_then ≡ take order rights → nodes_then ≡ take moves nodes
-    → IsBoardOf front lefts_then rights_then nodes_then before.first before.left before.right
-board_less w front before lefts rights nodes first at_left at_right order moves lefts_then rights_then nodes_then board outline some e o n l r t = record {
-  left_word = left_less w front lefts lefts_then order board.left_word e o l;
-  rights_are = right_less w front rights rights_then order board.rights_are e o r;
-  node_lines = nodes_less w front nodes nodes_then some board.node_lines e (t ∙ ap (λ k. take k nodes) n);
+-- when the last move is taken back, a board keeps the lines, nodes and counts of the word before it
+pub board_less : (w front : Word) (before : BoardOutline) (b : BoardLists) (order moves : ℕ) (lefts rights : List ℕ) (nodes : List LineSet)
+    → IsBoardOf w b → IsBoardOutline front before → 0 < length w → front ≡ take (length w - 1) w
+    → order ≡ order_of front → moves ≡ length front → lefts ≡ take order b.lefts → rights ≡ take order b.rights → nodes ≡ take moves b.nodes
+    → IsBoardOf front (record {
+      lefts = lefts;
+      rights = rights;
+      nodes = nodes;
+      first = before.first;
+      left = before.left;
+      right = before.right;
+    })
+board_less w front before b order moves lefts rights nodes board outline some e o n l r t = record {
+  left_word = left_less w front b.lefts lefts order board.left_word e o l;
+  rights_are = right_less w front b.rights rights order board.rights_are e o r;
+  node_lines = nodes_less w front b.nodes nodes some board.node_lines e (t ∙ ap (λ k. take k b.nodes) n);
   first_is = outline.first_is;
   left_is = outline.left_is;
   right_is = outline.right_is;
@@ -125,22 +125,22 @@ board_less w front before lefts rights nodes first at_left at_right order moves 
 
 -- ---- two lines at one node
 
--- that touch one of the kept nodes touch a closed node of the word
+-- lines that touch one of the nodes that a board keeps touch a closed node of the word
 pub touch_lines : (w : Word) (nodes : List LineSet) (lefts rights : LineSet) → AreNodeLines w nodes → HasPair nodes lefts rights → TouchOneOf w lefts rights
 touch_lines w nodes lefts rights are p = record {
-  left = p.pair.left;
-  right = p.pair.right;
-  in_lefts = p.pair.in_lefts;
-  in_rights = p.pair.in_rights;
+  left = p.left;
+  right = p.right;
+  in_lefts = p.in_lefts;
+  in_rights = p.in_rights;
   touch = record {
     node = p.node;
-    at_left = are.touch p.node p.pair.left p.lines p.at p.pair.has_left;
-    at_right = are.touch p.node p.pair.right p.lines p.at p.pair.has_right;
-    not_walls = p.pair.not_walls;
+    at_left = are.touch p.node p.left p.lines p.at p.has_left;
+    at_right = are.touch p.node p.right p.lines p.at p.has_right;
+    not_walls = p.not_walls;
   };
 }
 
--- the lines at both ends of a segment
+-- the left line of the first of some squares is found in the list of all left lines of a word
 pub left_end_on_board : (w : Word) (lefts squares : List ℕ) → lefts ≡ lefts_of w → first_left lefts squares ≡ left_end (square_lines w) squares
 left_end_on_board w lefts squares are = ap (λ (ls : List ℕ). first_left ls squares) are ∙ sym (end_left (square_lines w) squares)
 

@@ -9,6 +9,7 @@ use Rattle.bk_word.proofs.PlayLists.{numbers-length}
 use Rattle.bk_word.specs.Play.{numbers_from}
 use Rattle.bk_free_search.specs.NodeLines.{Has, IsAtSquare, IsBesideNew, IsBesideOneOf, StandBetween}
 use Rattle.bk_free_search.specs.declared.line_set.LineSet.{LineSet}
+use Rattle.bk_free_search.specs.declared.node_lines.NewSquares.{NewSquares}
 
 -- of the squares before a place all lines are gathered, and none but such
 pub record Gathered (lefts rights squares : List ℕ) (place : ℕ) (lines : LineSet) : Type 0 where
@@ -18,7 +19,8 @@ pub record Gathered (lefts rights squares : List ℕ) (place : ℕ) (lines : Lin
 -- the lines beside some squares, gathered, with those of one square more
 pub gathered_more : (lefts rights squares : List ℕ) (place d : ℕ) (before lines : LineSet) → Gathered lefts rights squares place before → place < length squares
     → ((line : ℕ) → Has lines line → IsAtSquare lefts rights (slice_index_or squares place d) line ⊎ Has before line)
-    → ((line : ℕ) → line < 32 → IsAtSquare lefts rights (slice_index_or squares place d) line → Has lines line) → ((line : ℕ) → Has before line → Has lines line)
+    → ((line : ℕ) → line < 32 → IsAtSquare lefts rights (slice_index_or squares place d) line → Has lines line) → ((line : ℕ) → Has before line
+    → Has lines line)
     → Gathered lefts rights squares (place + 1) lines
 gathered_more lefts rights squares place d before lines g within only all kept = record {
   only = λ line has. found line (only line has);
@@ -43,57 +45,60 @@ all_gathered lefts rights squares place lines g over line low b = g.all line b l
 
 -- ---- new squares
 
-module _ (lefts rights : List ℕ) (hung count first last : ℕ) (b : StandBetween lefts rights hung count first last) (some : 0 < count) where
+module _ (lefts rights : List ℕ) (new : NewSquares) (b : StandBetween lefts rights new) (some : 0 < new.count) where
   -- their lines are the two between which they stand, and their own
-  pub beside_new : (line : ℕ) → IsBesideNew lefts rights hung count line → (line ≡ first) ⊎ ((line ≡ last) ⊎ ((hung + 2 ≤ line) × (line < hung + count + 1)))
+  pub beside_new : (line : ℕ) → IsBesideNew lefts rights new.hung new.count line
+      → (line ≡ new.first) ⊎ ((line ≡ new.last) ⊎ ((new.hung + 2 ≤ line) × (line < new.hung + new.count + 1)))
   beside_new line n = sides n.beside
     where
-      by_left : (k : ℕ) → k < count → slice_index_or lefts (hung + k) 0 ≡ line
-          → (line ≡ first) ⊎ ((line ≡ last) ⊎ ((hung + 2 ≤ line) × (line < hung + count + 1)))
-      by_left zero low e = let same : hung + 0 ≡ hung = omega arith in inl (sym e ∙ ap (λ j. slice_index_or lefts j 0) same ∙ b.first_is)
+      by_left : (k : ℕ) → k < new.count → slice_index_or lefts (new.hung + k) 0 ≡ line
+          → (line ≡ new.first) ⊎ ((line ≡ new.last) ⊎ ((new.hung + 2 ≤ line) × (line < new.hung + new.count + 1)))
+      by_left zero low e = let same : new.hung + 0 ≡ new.hung = omega arith in inl (sym e ∙ ap (λ j. slice_index_or lefts j 0) same ∙ b.first_is)
       by_left (suc k) low e =
-          let same : hung + suc k ≡ hung + k + 1 = omega arith in
-          let is : line ≡ hung + k + 2 = sym e ∙ ap (λ j. slice_index_or lefts j 0) same ∙ b.lefts_are k (omega (arith, low)) in
+          let same : new.hung + suc k ≡ new.hung + k + 1 = omega arith in
+          let is : line ≡ new.hung + k + 2 = sym e ∙ ap (λ j. slice_index_or lefts j 0) same ∙ b.lefts_are k (omega (arith, low)) in
           inr (inr (omega (arith, is), omega (arith, is, low)))
 
-      by_right : (k : ℕ) → (k + 1 < count) ⊎ (count ≤ k + 1) → k < count → slice_index_or rights (hung + k) 1 ≡ line
-          → (line ≡ first) ⊎ ((line ≡ last) ⊎ ((hung + 2 ≤ line) × (line < hung + count + 1)))
-      by_right k (inl more) low e = let is : line ≡ hung + k + 2 = sym e ∙ b.rights_are k more in inr (inr (omega (arith, is), omega (arith, is, more)))
-      by_right k (inr none) low e = let same : hung + k ≡ hung + count - 1 = omega (arith, none, low) in
+      by_right : (k : ℕ) → (k + 1 < new.count) ⊎ (new.count ≤ k + 1) → k < new.count → slice_index_or rights (new.hung + k) 1 ≡ line
+          → (line ≡ new.first) ⊎ ((line ≡ new.last) ⊎ ((new.hung + 2 ≤ line) × (line < new.hung + new.count + 1)))
+      by_right k (inl more) low e = let is : line ≡ new.hung + k + 2 = sym e ∙ b.rights_are k more in inr (inr (omega (arith, is), omega (arith, is, more)))
+      by_right k (inr none) low e = let same : new.hung + k ≡ new.hung + new.count - 1 = omega (arith, none, low) in
           inr (inl (sym e ∙ ap (λ j. slice_index_or rights j 1) same ∙ b.last_is))
 
-      sides : IsAtSquare lefts rights (hung + n.k + 1) line → (line ≡ first) ⊎ ((line ≡ last) ⊎ ((hung + 2 ≤ line) × (line < hung + count + 1)))
-      sides (inl e) = let same : hung + n.k ≡ hung + n.k + 1 - 1 = omega arith in by_left n.k n.low (ap (λ j. slice_index_or lefts j 0) same ∙ e)
-      sides (inr e) = let same : hung + n.k ≡ hung + n.k + 1 - 1 = omega arith in
-          by_right n.k (cases_lt (n.k + 1) count) n.low (ap (λ j. slice_index_or rights j 1) same ∙ e)
+      sides : IsAtSquare lefts rights (new.hung + n.k + 1) line
+          → (line ≡ new.first) ⊎ ((line ≡ new.last) ⊎ ((new.hung + 2 ≤ line) × (line < new.hung + new.count + 1)))
+      sides (inl e) = let same : new.hung + n.k ≡ new.hung + n.k + 1 - 1 = omega arith in by_left n.k n.low (ap (λ j. slice_index_or lefts j 0) same ∙ e)
+      sides (inr e) = let same : new.hung + n.k ≡ new.hung + n.k + 1 - 1 = omega arith in
+          by_right n.k (cases_lt (n.k + 1) new.count) n.low (ap (λ j. slice_index_or rights j 1) same ∙ e)
 
   -- the line at the left of the first new square is beside a new square
-  pub first_beside : (line : ℕ) → line ≡ first → IsBesideNew lefts rights hung count line
+  pub first_beside : (line : ℕ) → line ≡ new.first → IsBesideNew lefts rights new.hung new.count line
   first_beside line e = record {
     k = 0;
     low = some;
-    beside = inl (let same : hung + 0 + 1 - 1 ≡ hung = omega arith in ap (λ j. slice_index_or lefts j 0) same ∙ b.first_is ∙ sym e);
+    beside = inl (let same : new.hung + 0 + 1 - 1 ≡ new.hung = omega arith in ap (λ j. slice_index_or lefts j 0) same ∙ b.first_is ∙ sym e);
   }
 
   -- the line at the right of the last new square is beside a new square
-  pub last_beside : (line : ℕ) → line ≡ last → IsBesideNew lefts rights hung count line
+  pub last_beside : (line : ℕ) → line ≡ new.last → IsBesideNew lefts rights new.hung new.count line
   last_beside line e = record {
-    k = count - 1;
+    k = new.count - 1;
     low = omega (arith, some);
-    beside = inr (let same : hung + (count - 1) + 1 - 1 ≡ hung + count - 1 = omega (arith, some) in
+    beside = inr (let same : new.hung + (new.count - 1) + 1 - 1 ≡ new.hung + new.count - 1 = omega (arith, some) in
         ap (λ j. slice_index_or rights j 1) same ∙ b.last_is ∙ sym e);
   }
 
   -- a line between two new squares is beside a new square
-  pub own_beside : (line : ℕ) → hung + 2 ≤ line → line < hung + count + 1 → IsBesideNew lefts rights hung count line
+  pub own_beside : (line : ℕ) → new.hung + 2 ≤ line → line < new.hung + new.count + 1 → IsBesideNew lefts rights new.hung new.count line
   own_beside line low high = record {
-    k = line - hung - 2;
+    k = line - new.hung - 2;
     low = omega (arith, low, high);
-    beside = inr (let same : hung + (line - hung - 2) + 1 - 1 ≡ hung + (line - hung - 2) = omega arith in ap (λ j. slice_index_or rights j 1) same
-        ∙ b.rights_are (line - hung - 2) (omega (arith, low, high)) ∙ omega (arith, low));
+    beside = inr (let same : new.hung + (line - new.hung - 2) + 1 - 1 ≡ new.hung + (line - new.hung - 2) = omega arith in ap
+        (λ j. slice_index_or rights j 1) same
+        ∙ b.rights_are (line - new.hung - 2) (omega (arith, low, high)) ∙ omega (arith, low));
   }
 
--- so they stand where a move's lines were appended
+-- the numbers from one on, each at its place
 numbers_at : (from many k d : ℕ) → k < many → slice_index_or (numbers_from from many) k d ≡ from + k
 numbers_at from zero k d h = absurd (omega (arith, h))
 numbers_at from (suc many) zero d h = omega arith
@@ -102,7 +107,7 @@ numbers_at from (suc many) (suc k) d h = numbers_at (from + 1) many k d (omega (
 -- new squares put behind the old left and right lines stand between the first and the last line
 pub stand_between : (lefts rights lefts_then rights_then : List ℕ) (hung count first last : ℕ) → 0 < count → length lefts ≡ hung → length rights ≡ hung
     → lefts_then ≡ lefts ++ first ∷ numbers_from (hung + 2) (count - 1) → rights_then ≡ rights ++ numbers_from (hung + 2) (count - 1) ++ last ∷ []
-    → StandBetween lefts_then rights_then hung count first last
+    → StandBetween lefts_then rights_then (record { hung = hung; count = count; first = first; last = last })
 stand_between lefts rights lefts_then rights_then hung count first last some l r le re = record {
   first_is = ap (λ ls. slice_index_or ls hung 0) le ∙ get_back lefts (first ∷ numbers_from (hung + 2) (count - 1)) 0 hung 0 (omega (arith, l));
   last_is = ap (λ rs. slice_index_or rs (hung + count - 1) 1) right

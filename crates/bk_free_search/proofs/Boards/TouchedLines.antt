@@ -56,7 +56,8 @@ pub record AreNextLines (w : Word) (m : Move) (lines : LineSet) : Type 0 where
   pub all : (line : ℕ) → line < 32 → IsBesideOneOf (lefts_of (w ++ m ∷ [])) (rights_of (w ++ m ∷ [])) (valley_of (outline_of w)) line
       ⊎ IsBesideNew (lefts_of (w ++ m ∷ [])) (rights_of (w ++ m ∷ [])) (order_of w) m.count line → Has lines line
 
-next_only : (w : Word) (m : Move) (line : ℕ) → IsLegal w → TouchesClosed (outline_of (w ++ m ∷ [])) (square_lines (w ++ m ∷ [])) line (length (outline_of w).closed)
+next_only : (w : Word) (m : Move) (line : ℕ) → IsLegal w
+    → TouchesClosed (outline_of (w ++ m ∷ [])) (square_lines (w ++ m ∷ [])) line (length (outline_of w).closed)
     → IsBesideOneOf (lefts_of (w ++ m ∷ [])) (rights_of (w ++ m ∷ [])) (valley_of (outline_of w)) line
     ⊎ IsBesideNew (lefts_of (w ++ m ∷ [])) (rights_of (w ++ m ∷ [])) (order_of w) m.count line
 next_only w m line legal t = subst (λ (k : ℕ). IsBesideOneOf (lefts_of (w ++ m ∷ [])) (rights_of (w ++ m ∷ [])) (valley_of (outline_of w)) line

@@ -10,6 +10,7 @@ use Rattle.bk_word.proofs.StoredBytes.{order_append, order_more}
 use Rattle.bk_layout.specs.NormalCuts.{IsNormalBarren}
 use Rattle.bk_layout.specs.NormalImage.{IsNormalSought}
 use Rattle.bk_free_search.specs.Sought.{GoesOn, GoesOnBy}
+use Rattle.bk_free_search.specs.Unchanged.{IsUnchanged}
 use Rattle.bk_free_search.specs.declared.state.Begun.{Begun}
 use Rattle.bk_free_search.specs.declared.state.Search.{Search}
 
@@ -106,8 +107,8 @@ begins_empty front w none = record { rest = w; is = ap (λ v. v ++ w) (sym none)
 -- ---- where nothing has changed
 
 -- a word that an equal search looks for is looked for
-pub sought_in : (s t : Search) (w : Word) → s ≡ t → IsNormalSought t.order w → IsNormalSought s.order w
-sought_in s t w same sought = subst (λ (x : Search). IsNormalSought x.order w) (sym same) sought
+pub sought_in : {s t : Search} (w : Word) → t ≡ s → IsNormalSought s.order w → IsNormalSought t.order w
+sought_in w same sought = subst (λ (x : Search). IsNormalSought x.order w) (sym same) sought
 
 -- the words that go on so from equal moves
 pub by_count : (front board w : Word) (h : HasNextMove front w) (count : ℕ) (signs : List Sign) → board ≡ front → h.move.count ≡ count → signs ≡ []
@@ -121,19 +122,20 @@ by_count front board w h count signs same count_is none = record {
   signs_are = ap (λ l. l ++ h.move.signs) (sym none);
 }
 
--- a word that goes on by one sign more in an equal search goes on so with an equal begun move
-pub by_sign : (s t : Search) (a b : Begun) (sign : Sign) (w : Word) → s ≡ t → a ≡ b → GoesOnBy t.board b.m.count (b.m.signs ++ sign ∷ []) w
-    → GoesOnBy s.board a.m.count (a.m.signs ++ sign ∷ []) w
-by_sign s t a b sign w same same_move on = subst (λ (x : Search). GoesOnBy x.board a.m.count (a.m.signs ++ sign ∷ []) w) (sym same)
-    (subst (λ (x : Begun). GoesOnBy t.board x.m.count (x.m.signs ++ sign ∷ []) w) (sym same_move) on)
+-- a word that goes on by one sign more of the move that a search has begun does so of one that is as it was
+pub by_sign : {s t : Search} {a b : Begun} (sign : Sign) (w : Word) → IsUnchanged s a t b → GoesOnBy s.board a.m.count (a.m.signs ++ sign ∷ []) w
+    → GoesOnBy t.board b.m.count (b.m.signs ++ sign ∷ []) w
+by_sign {s = s} {b = b} sign w same on =
+    subst (λ (x : Search). GoesOnBy x.board b.m.count (b.m.signs ++ sign ∷ []) w) (sym same.search)
+    (subst (λ (x : Begun). GoesOnBy s.board x.m.count (x.m.signs ++ sign ∷ []) w) (sym same.begun) on)
 
 -- the words that go on by equal counts and signs
-pub by_same : (front w : Word) (count k : ℕ) (signs l : List Sign) → k ≡ count → l ≡ signs → GoesOnBy front count signs w → GoesOnBy front k l w
-by_same front w count k signs l same same_signs on = record {
+pub by_same : {front w : Word} {count k : ℕ} {signs l : List Sign} → k ≡ count → l ≡ signs → GoesOnBy front count signs w → GoesOnBy front k l w
+by_same same same_signs on = record {
   move = on.move;
   rest = on.rest;
   is = on.is;
   count_is = on.count_is ∙ sym same;
   more = on.more;
-  signs_are = on.signs_are ∙ ap (λ z. z ++ on.more) (sym same_signs);
+  signs_are = on.signs_are ∙ ap (λ (z : List Sign). z ++ on.more) (sym same_signs);
 }

@@ -16,19 +16,22 @@ use Rattle.bk_free_search.proofs.Asks.AskedSigns.{begun_is_barred}
 use Rattle.bk_free_search.proofs.NextWords.Cutting.{above_is_barred, even_is_barred, normal, turned_is_barred}
 use Rattle.bk_free_search.proofs.Asks.EvenSigns.{evens_append, side_few, signs_lack_evens}
 use Rattle.bk_free_search.proofs.NextWords.NextMoves.{next_fertile}
-use Rattle.bk_free_search.specs.AskedSigns.{AreFewAsks, BarsSigns, IsAsked, IsMoveBegun, IsNextCount, IsWithOwn, NeedsLeft, StandBeside}
+use Rattle.bk_free_search.specs.AskedSigns.{BarsNext, BarsSigns, IsAsked, IsMoveBegun, IsNextCount, IsWithOwn}
+use Rattle.bk_free_search.specs.AskedSigns.{NeedsLeft, StandBeside}
 use Rattle.bk_free_search.specs.Sought.{GoesOnBy}
 use Rattle.bk_free_search.proofs.Asks.AskedNext.{few_up}
 use Rattle.bk_free_search.specs.Strong.{IsFewPassed}
 use Rattle.bk_free_search.specs.declared.asking.Asked.{Asked}
 use Rattle.bk_free_search.specs.declared.asking.Beside.{Beside}
 use Rattle.bk_free_search.specs.declared.asking.Next.{Next}
-use Rattle.bk_free_search.specs.declared.behind.Asks.{Asks}
+use Rattle.bk_free_search.specs.declared.state.Begun.{Begun}
+use Rattle.bk_free_search.specs.declared.counts.TheConstants.{FEW, MANY}
+use Rattle.bk_free_search.specs.declared.state.Search.{Search}
 
 -- no sought word goes on by signs that are barred
-pub none_goes_on_so : (n : ℕ) (front w : Word) (count : ℕ) (signs : List Sign) → BarsSigns n front count signs → IsNormalSought n w
+pub none_goes_on_so : {n : ℕ} {front w : Word} {count : ℕ} {signs : List Sign} → BarsSigns n front count signs → IsNormalSought n w
     → GoesOnBy front count signs w → ⊥
-none_goes_on_so n front w count signs bars sought on =
+none_goes_on_so {n = n} {front = front} {w = w} bars sought on =
     next_fertile n front w on.move on.rest sought on.is (bars.barren on.move on.more on.count_is on.signs_are)
 
 -- at a left neighbour the first sign isn't above
@@ -75,14 +78,15 @@ left_lacks_even n front around beside lacks all sign not = record {
 }
 
 -- the sign at the right neighbour is even if the signs before it have too few even ones
-pub right_lacks_even : (n : ℕ) (front : Word) (m : Move) (next : Next) (around : Beside) (asked : Asked) → IsMoveBegun n front m next around
-    → IsAsked front m.signs asked → asked.evens < around.ahead.evens → length m.signs + 1 ≡ next.wanted → (sign : Sign) → (sign ≡ Even → ⊥)
-    → BarsSigns n front m.count (m.signs ++ sign ∷ [])
-right_lacks_even n front m next around asked begun is lacks last sign not = record {
-  barren = λ other more count are. signs_lack_evens n front (m.signs ++ sign ∷ []) other more around.ahead.evens asked.evens 0 begun.around_is.evens_are
-      (omega (arith, length-append m.signs (sign ∷ []))) are
-      (omega (arith, is.evens_are, evens_append m.signs (sign ∷ []), none_even sign not)) (omega (arith, lacks))
-      (λ low. absurd (omega (arith, low, count, begun.next_is.wanted_is, last, length-append m.signs (sign ∷ []))));
+pub right_lacks_even : {s : Search} {b : Begun} {around : Beside} (asked : Asked) → IsMoveBegun s b around
+    → IsAsked s.board b.m.signs asked → asked.evens < around.ahead.evens → length b.m.signs + 1 ≡ b.next.wanted → (sign : Sign) → (sign ≡ Even → ⊥)
+    → BarsNext s b sign
+right_lacks_even {s = s} {b = b} {around = around} asked begun is lacks last sign not = record {
+  barren = λ other more count are. signs_lack_evens s.order s.board (b.m.signs ++ sign ∷ []) other more around.ahead.evens asked.evens 0
+      begun.around_is.evens_are
+      (omega (arith, length-append b.m.signs (sign ∷ []))) are
+      (omega (arith, is.evens_are, evens_append b.m.signs (sign ∷ []), none_even sign not)) (omega (arith, lacks))
+      (λ low. absurd (omega (arith, low, count, begun.next_is.wanted_is, last, length-append b.m.signs (sign ∷ []))));
 }
 
 -- where as many signs are even as there are, there is no other
@@ -94,28 +98,27 @@ one_even (Above ∷ []) long even = absurd (omega (arith, even, evens-cons Above
 one_even (Under ∷ []) long even = absurd (omega (arith, even, evens-cons Under []))
 
 -- fewer squares are left than the first signs need
-pub need_is_barred : (n : ℕ) (front : Word) (m : Move) (next : Next) (around : Beside) (signs : List Sign) (asked : Asked) (need : ℕ)
-    → IsMoveBegun n front m next around → IsAsked front signs asked → open_side (has_left_wall (outline_of front)) ≤ length signs
-    → length signs ≤ next.own → NeedsLeft asked.passed around.behind.even around.ahead.moves need → next.left < need → BarsSigns n front m.count signs
-need_is_barred n front m next around signs asked need begun is from own needs less =
-    begun_is_barred n front m next around begun signs asked is from own
-    (needs next.left less (omega (arith, begun.next_is.left_is, begun.most)))
+pub need_is_barred : {s : Search} {b : Begun} {around : Beside} (signs : List Sign) (asked : Asked) (need : ℕ) → IsMoveBegun s b around
+    → IsAsked s.board signs asked → open_side (has_left_wall (outline_of s.board)) ≤ length signs → length signs ≤ b.next.own
+    → NeedsLeft asked.passed around.behind.even around.ahead.moves need → b.next.left < need → BarsSigns s.order s.board b.m.count signs
+need_is_barred {b = b} signs asked need begun is from own needs less =
+    begun_is_barred begun signs asked is from own (needs b.next.left less (omega (arith, begun.next_is.left_is, begun.most)))
 
--- before the first sign, at the left wall
-pub none_is_barred : (n : ℕ) (front : Word) (m : Move) (next : Next) (around : Beside) → IsMoveBegun n front m next around → m.signs ≡ []
-    → has_left_wall (outline_of front) ≡ true → next.left < around.needs.none → BarsSigns n front m.count m.signs
-none_is_barred n front m next around begun none wall less =
-    need_is_barred n front m next around m.signs around.before.none around.needs.none begun
-    (subst (λ (l : List Sign). IsAsked front l around.before.none) (sym none) begun.around_is.before_is.none)
+-- too few squares are left before the first sign of a move at the left wall
+pub none_is_barred : {s : Search} {b : Begun} {around : Beside} → IsMoveBegun s b around → b.m.signs ≡ []
+    → has_left_wall (outline_of s.board) ≡ true → b.next.left < around.needs.none → BarsSigns s.order s.board b.m.count b.m.signs
+none_is_barred {s = s} {b = b} {around = around} begun none wall less =
+    need_is_barred b.m.signs around.before.none around.needs.none begun
+    (subst (λ (l : List Sign). IsAsked s.board l around.before.none) (sym none) begun.around_is.before_is.none)
     (omega (arith, ap open_side wall)) (omega (arith, ap (λ (l : List Sign). length l) none)) begun.around_is.needs_are.none less
 
--- with the sign at a left neighbour
-pub first_is_barred : (n : ℕ) (front : Word) (m : Move) (next : Next) (around : Beside) (sign : Sign) (asked : Asked) (need : ℕ) → IsMoveBegun n front m next around
-    → m.signs ≡ [] → has_left_wall (outline_of front) ≡ false → IsAsked front (sign ∷ []) asked
-    → NeedsLeft asked.passed around.behind.even around.ahead.moves need → next.left < need → BarsSigns n front m.count (m.signs ++ sign ∷ [])
-first_is_barred n front m next around sign asked need begun none apart is needs less =
-    subst (λ (l : List Sign). BarsSigns n front m.count (l ++ sign ∷ [])) (sym none)
-    (need_is_barred n front m next around (sign ∷ []) asked need begun is (omega (arith, side_few (has_left_wall (outline_of front))))
+-- too few squares are left with this sign at a left neighbour
+pub first_is_barred : {s : Search} {b : Begun} {around : Beside} (sign : Sign) (asked : Asked) (need : ℕ) → IsMoveBegun s b around
+    → b.m.signs ≡ [] → has_left_wall (outline_of s.board) ≡ false → IsAsked s.board (sign ∷ []) asked
+    → NeedsLeft asked.passed around.behind.even around.ahead.moves need → b.next.left < need → BarsNext s b sign
+first_is_barred {s = s} {b = b} sign asked need begun none apart is needs less =
+    subst (λ (l : List Sign). BarsSigns s.order s.board b.m.count (l ++ sign ∷ [])) (sym none)
+    (need_is_barred (sign ∷ []) asked need begun is (omega (arith, side_few (has_left_wall (outline_of s.board))))
     (omega (arith, begun.next_is.own_is, begun.some, ap open_side apart)) needs less)
 
 -- a move isn't whole before its last own sign
@@ -124,27 +127,27 @@ pub not_whole : (n : ℕ) (front : Word) (count : ℕ) (signs : List Sign) (next
 not_whole n front count signs next is low legal = omega (arith, legal.signs, is.wanted_is, low)
 
 -- at a left neighbour the first sign is still to come
-pub first_missing : (n : ℕ) (front : Word) (m : Move) (next : Next) (around : Beside) → IsMoveBegun n front m next around → m.signs ≡ []
-    → has_left_wall (outline_of front) ≡ false → IsLegalMove (outline_of front) m → ⊥
-first_missing n front m next around begun none apart legal =
+pub first_missing : {s : Search} {b : Begun} {around : Beside} → IsMoveBegun s b around → b.m.signs ≡ []
+    → has_left_wall (outline_of s.board) ≡ false → IsLegalMove (outline_of s.board) b.m → ⊥
+first_missing begun none apart legal =
     omega (arith, legal.signs, begun.some, ap open_side apart, ap (λ (l : List Sign). length l) none)
 
--- at a right neighbour the last one is, when those before it are there
-pub last_missing : (n : ℕ) (front : Word) (m : Move) (next : Next) (around : Beside) → IsMoveBegun n front m next around → length m.signs ≡ next.own
-    → around.right_wall ≡ false → length m.signs + 1 ≡ next.wanted
-last_missing n front m next around begun own apart =
+-- at a right neighbour the last sign is still to come when those before it are there
+pub last_missing : {s : Search} {b : Begun} {around : Beside} → IsMoveBegun s b around → length b.m.signs ≡ b.next.own
+    → around.right_wall ≡ false → length b.m.signs + 1 ≡ b.next.wanted
+last_missing begun own apart =
     omega (arith, own, begun.next_is.own_is, begun.next_is.wanted_is, ap open_side begun.around_is.right_is, ap open_side apart)
 
--- at the right wall none is
-pub none_missing : (n : ℕ) (front : Word) (m : Move) (next : Next) (around : Beside) → IsMoveBegun n front m next around → length m.signs ≡ next.own
-    → around.right_wall ≡ true → length m.signs ≡ next.wanted
-none_missing n front m next around begun own wall =
+-- at the right wall no sign is still to come when the own ones are there
+pub none_missing : {s : Search} {b : Begun} {around : Beside} → IsMoveBegun s b around → length b.m.signs ≡ b.next.own
+    → around.right_wall ≡ true → length b.m.signs ≡ b.next.wanted
+none_missing begun own wall =
     omega (arith, own, begun.next_is.own_is, begun.next_is.wanted_is, ap open_side begun.around_is.right_is, ap open_side wall)
 
 -- a move with all its signs is legal
-pub whole_is_legal : (n : ℕ) (front : Word) (m k : Move) (next : Next) (around : Beside) → IsMoveBegun n front m next around → k.count ≡ m.count
-    → length k.signs ≡ next.wanted → IsLegalMove (outline_of front) k
-whole_is_legal n front m k next around begun count whole =
+pub whole_is_legal : {s : Search} {b : Begun} {around : Beside} (m : Move) → IsMoveBegun s b around → m.count ≡ b.m.count
+    → length m.signs ≡ b.next.wanted → IsLegalMove (outline_of s.board) m
+whole_is_legal m begun count whole =
     record { some = omega (arith, begun.some, count); signs = omega (arith, begun.next_is.wanted_is, whole, count) }
 
 -- what is barred as the first sign
@@ -152,46 +155,40 @@ pub bars_first : (n : ℕ) (front : Word) (count : ℕ) (signs : List Sign) (sig
     → BarsSigns n front count (signs ++ sign ∷ [])
 bars_first n front count signs sign none bars = subst (λ (l : List Sign). BarsSigns n front count (l ++ sign ∷ [])) (sym none) bars
 
--- above behind the sign even alone
-pub own_turned_is_barred : (n : ℕ) (front : Word) (m : Move) (next : Next) (around : Beside) → IsMoveBegun n front m next around
-    → length m.signs < next.own → m.signs ≡ Even ∷ [] → BarsSigns n front m.count (m.signs ++ Above ∷ [])
-own_turned_is_barred n front m next around begun low even = own_above_is_barred n front m.count m.signs (omega (
+-- the sign above is barred behind the sign even alone
+pub own_turned_is_barred : {s : Search} {b : Begun} {around : Beside} → IsMoveBegun s b around → length b.m.signs < b.next.own
+    → b.m.signs ≡ Even ∷ [] → BarsNext s b Above
+own_turned_is_barred {s = s} {b = b} begun low even = own_above_is_barred s.order s.board b.m.count b.m.signs (omega (
   arith,
   ap (λ (l : List Sign). length l) even,
   low,
   begun.next_is.own_is,
-  side_few (has_left_wall (outline_of front)),
+  side_few (has_left_wall (outline_of s.board)),
 )) even
 
 -- the numbers that are counted are small
-pub few_now : (n : ℕ) (front : Word) (m : Move) (next : Next) (around : Beside) (asked : Asked) (k : ℕ) → IsWithOwn n front m next around asked → 480 ≤ k
-    → IsFewPassed asked.passed k
-few_now n front m next around asked k is many = few_up asked.passed (450 + length m.signs) k (omega (
+pub few_now : {s : Search} {b : Begun} {around : Beside} {asked : Asked} (k : ℕ) → IsWithOwn s b around asked → FEW + 30 ≤ k → IsFewPassed asked.passed k
+few_now {s = s} {b = b} {asked = asked} k is many = few_up asked.passed (FEW + length b.m.signs) k (omega (
   arith,
   many,
   is.begun.signs,
   is.begun.next_is.wanted_is,
   is.begun.fits,
   is.begun.most,
-  side_few (has_left_wall (outline_of front)),
-  side_few (has_right_wall (outline_of front)),
+  side_few (has_left_wall (outline_of s.board)),
+  side_few (has_right_wall (outline_of s.board)),
 )) is.asked_is.few
 
--- of the signs that a next move has so far at most 1000 are even
-pub evens_now : (n : ℕ) (front : Word) (m : Move) (next : Next) (around : Beside) (asked : Asked) → IsWithOwn n front m next around asked
-    → asked.evens ≤ 1000
-evens_now n front m next around asked is = omega (
+-- of the signs that a next move has so far few are even
+pub evens_now : {s : Search} {b : Begun} {around : Beside} {asked : Asked} → IsWithOwn s b around asked → asked.evens ≤ MANY
+evens_now {s = s} {b = b} is = omega (
   arith,
   is.asked_is.evens_are,
-  count_by-le-length is_even m.signs,
+  count_by-le-length is_even b.m.signs,
   is.begun.signs,
   is.begun.next_is.wanted_is,
   is.begun.fits,
   is.begun.most,
-  side_few (has_left_wall (outline_of front)),
-  side_few (has_right_wall (outline_of front)),
+  side_few (has_left_wall (outline_of s.board)),
+  side_few (has_right_wall (outline_of s.board)),
 )
-
--- numbers that segments behind the valley ask for, small at a count, are small above it
-pub few_behind : (asks : Asks) (k n : ℕ) → k ≤ n → AreFewAsks asks k → AreFewAsks asks n
-few_behind asks k n h few = record { add = omega (arith, h, few.add); most = omega (arith, h, few.most); more = omega (arith, h, few.more) }

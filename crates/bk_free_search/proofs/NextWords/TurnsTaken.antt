@@ -1,5 +1,5 @@
 -- What a search hands on from call to call: a move that is begun, on a board and with signs that are as before, and the number that falls.
-use Rattle.std.proofs.Common.{List, [], ap, arith, false, length, subst, sym, take, ℕ, ◌*◌, ◌++◌, ◌+◌, ◌-◌, ◌<◌, ◌∙◌, ◌∷◌, ◌≡◌, ◌≤◌}
+use Rattle.std.proofs.Common.{List, [], ap, arith, false, length, refl, subst, sym, take, ◌*◌, ◌++◌, ◌+◌, ◌-◌, ◌<◌, ◌∙◌, ◌∷◌, ◌≡◌, ◌≤◌}
 use Rattle.std.proofs.Math.Seq.{take-append_seam}
 use Rattle.std.proofs.lemmas.List.{length-append}
 use Rattle.bk_word.specs.Outline.{has_left_wall, has_right_wall, open_side}
@@ -12,63 +12,84 @@ use Rattle.bk_free_search.specs.declared.asking.Beside.{Beside}
 use Rattle.bk_free_search.specs.declared.asking.Next.{Next}
 use Rattle.bk_free_search.specs.declared.state.Begun.{Begun}
 use Rattle.bk_free_search.specs.declared.state.Search.{Search}
+use Rattle.bk_free_search.specs.Unchanged.{IsUnchanged, KeepsMet}
 
--- what holds of a search and a move begun holds where both are as before
-as_before : (P : Search → Begun → Type 0) (s t : Search) (a b : Begun) → s ≡ t → a ≡ b → P t b → P s a
-as_before P s t a b same same_move p = subst (λ (x : Search). P x a) (sym same) (subst (λ (x : Begun). P t x) (sym same_move) p)
+-- what holds of a search and a move begun holds of those that are as they were
+as_before : (P : Search → Begun → Type 0) {s t : Search} {a b : Begun} → IsUnchanged s a t b → P s a → P t b
+as_before P {s = s} {t = t} {a = a} {b = b} same p =
+    subst (λ (x : Search). P x b) (sym same.search) (subst (λ (x : Begun). P s x) (sym same.begun) p)
 
--- so a number falls and a claim holds, where both do before
-pub handed_on : {W : Type 0} (F P : Search → Begun → Type 0) (s t : Search) (a b : Begun) → s ≡ t → a ≡ b → F t b → W → P t b → F s a × (W × P s a)
-handed_on F P s t a b same same_move falls within p = (as_before F s t a b same same_move falls, (within, as_before P s t a b same same_move p))
+-- if a number falls and a claim holds, they do for a search and a move begun that are as they were
+pub handed_on : {W : Type 0} (F P : Search → Begun → Type 0) {s t : Search} {a b : Begun} → IsUnchanged s a t b → F s a → W → P s a → F t b × (W × P t b)
+handed_on F P same falls within p = (as_before F same falls, (within, as_before P same p))
+
+-- a search and a move begun that nothing touches are as they were
+pub untouched : (s : Search) (b : Begun) → IsUnchanged s b s b
+untouched s b = record { search = refl; begun = refl }
+
+-- what two calls one after the other leave as it was
+pub unchanged_twice : {s t u : Search} {a b c : Begun} → IsUnchanged s a t b → IsUnchanged t b u c → IsUnchanged s a u c
+unchanged_twice first second = record { search = second.search ∙ first.search; begun = second.begun ∙ first.begun }
+
+-- leaves that meet nothing keep what they met
+pub none_met : {L F : Type 0} {has_met : L → Word → Type 0} {fixed : L → F} (l : L) → KeepsMet has_met fixed l l
+none_met l = record { kept = λ w met. met; fixed_is = refl }
+
+-- leaves keep what they met over two calls
+pub met_twice : {L F : Type 0} {has_met : L → Word → Type 0} {fixed : L → F} {k l m : L} → KeepsMet has_met fixed k l → KeepsMet has_met fixed l m
+    → KeepsMet has_met fixed k m
+met_twice first second = record { kept = λ w met. second.kept w (first.kept w met); fixed_is = second.fixed_is ∙ first.fixed_is }
 
 -- how often signs can be pushed, in steps of four: less than the steps of a word
-pub few_steps : (n : ℕ) (front : Word) (m : Move) (next : Next) (around : Beside) → IsMoveBegun n front m next around → 4 * (m.count + 2 - length m.signs) < 800
-few_steps n front m next around begun = omega (arith, begun.fits, begun.most)
+pub few_steps : {s : Search} {b : Begun} {around : Beside} → IsMoveBegun s b around → 4 * (b.m.count + 2 - length b.m.signs) < 800
+few_steps begun = omega (arith, begun.fits, begun.most)
 
 -- a move begun goes on with one sign more
-pub begun_with : (n : ℕ) (front : Word) (m k : Move) (next : Next) (around : Beside) (sign : Sign) → IsMoveBegun n front m next around → k.count ≡ m.count
-    → k.signs ≡ m.signs ++ sign ∷ [] → length m.signs < next.wanted → IsMoveBegun n front k next around
-begun_with n front m k next around sign begun count signs low = record {
+pub begun_with : {s : Search} {b : Begun} {around : Beside} (c : Begun) (sign : Sign) → IsMoveBegun s b around → c.m.count ≡ b.m.count
+    → c.m.signs ≡ b.m.signs ++ sign ∷ [] → c.next ≡ b.next → length b.m.signs < b.next.wanted → IsMoveBegun s c around
+begun_with {s = s} {b = b} c sign begun count signs next low = record {
   least = begun.least;
   most = begun.most;
   some = omega (arith, begun.some, count);
   fits = omega (arith, begun.fits, count);
-  signs = omega (arith, low, ap (λ (l : List Sign). length l) signs, length-append m.signs (sign ∷ []));
+  signs = omega (arith, low, longer, ap (λ (x : Next). x.wanted) next);
   next_is = record {
-    own_is = omega (arith, begun.next_is.own_is, count);
-    wanted_is = omega (arith, begun.next_is.wanted_is, count);
-    left_is = omega (arith, begun.next_is.left_is, count);
+    own_is = omega (arith, begun.next_is.own_is, count, ap (λ (x : Next). x.own) next);
+    wanted_is = omega (arith, begun.next_is.wanted_is, count, ap (λ (x : Next). x.wanted) next);
+    left_is = omega (arith, begun.next_is.left_is, count, ap (λ (x : Next). x.left) next);
   };
   around_is = begun.around_is;
 }
+  where
+    longer : length c.m.signs ≡ length b.m.signs + 1
+    longer = ap (λ (l : List Sign). length l) signs ∙ length-append b.m.signs (sign ∷ [])
 
 -- a move has no more own signs than squares
-pub own_few : (n : ℕ) (front : Word) (m : Move) (next : Next) (around : Beside) → IsMoveBegun n front m next around → next.own ≤ m.count
-own_few n front m next around begun = omega (arith, begun.next_is.own_is, side_few (has_left_wall (outline_of front)))
+pub own_few : {s : Search} {b : Begun} {around : Beside} → IsMoveBegun s b around → b.next.own ≤ b.m.count
+own_few {s = s} begun = omega (arith, begun.next_is.own_is, side_few (has_left_wall (outline_of s.board)))
 
 -- no sign is too many for a small move
-pub room_for_sign : (n : ℕ) (front : Word) (m : Move) (next : Next) (around : Beside) → IsMoveBegun n front m next around → length m.signs < next.wanted
-    → length m.signs < 17
-room_for_sign n front m next around begun low = omega (
+pub room_for_sign : {s : Search} {b : Begun} {around : Beside} → IsMoveBegun s b around → length b.m.signs < b.next.wanted → length b.m.signs < 17
+room_for_sign {s = s} begun low = omega (
   arith,
   low,
   begun.fits,
   begun.most,
   begun.next_is.wanted_is,
-  side_few (has_left_wall (outline_of front)),
-  side_few (has_right_wall (outline_of front)),
+  side_few (has_left_wall (outline_of s.board)),
+  side_few (has_right_wall (outline_of s.board)),
 )
 
 -- the sign at a left neighbour is one of the move's own
-pub first_fits : (n : ℕ) (front : Word) (m : Move) (next : Next) (around : Beside) → IsMoveBegun n front m next around → m.signs ≡ []
-    → has_left_wall (outline_of front) ≡ false → length m.signs + 1 ≤ next.own
-first_fits n front m next around begun none apart =
+pub first_fits : {s : Search} {b : Begun} {around : Beside} → IsMoveBegun s b around → b.m.signs ≡ [] → has_left_wall (outline_of s.board) ≡ false
+    → length b.m.signs + 1 ≤ b.next.own
+first_fits begun none apart =
     omega (arith, ap (λ (l : List Sign). length l) none, begun.next_is.own_is, begun.some, ap open_side apart)
 
 -- an own sign of a move is one that it wants
-pub own_wanted : (n : ℕ) (front : Word) (m : Move) (next : Next) (around : Beside) → IsMoveBegun n front m next around → length m.signs + 1 ≤ next.own
-    → length m.signs < next.wanted
-own_wanted n front m next around begun own = omega (arith, own, begun.next_is.own_is, begun.next_is.wanted_is)
+pub own_wanted : {s : Search} {b : Begun} {around : Beside} → IsMoveBegun s b around → length b.m.signs + 1 ≤ b.next.own
+    → length b.m.signs < b.next.wanted
+own_wanted begun own = omega (arith, own, begun.next_is.own_is, begun.next_is.wanted_is)
 
 -- the word before a move that is taken back
 pub without_last : (w v : Word) (m : Move) → v ≡ w ++ m ∷ [] → take (length v - 1) v ≡ w

@@ -36,21 +36,31 @@ first_kept (m ∷ front) rest some = refl
 
 -- at least as many moves at the right wall come as more squares stand at the left wall now
 module _ (n : ℕ) (l : Layout) (w : Word) (sound : IsSound n l) (normal : IsNormalLayout l) (word : IsWordOfLayout l w) where
+  -- the squares at the walls are the moves there, of the beginning and of the rest
+  walls_at : (front rest : Word) → w ≡ front ++ rest
+      → ((counts_of_layout l).left ≡ left_moves_from start front + left_moves_from (outline_of front) rest)
+      × ((counts_of_layout l).right ≡ right_moves_from start front + right_moves_from (outline_of front) rest)
+  walls_at front rest is = (
+    omega (
+      arith,
+      left_is l w sound.fits sound.walls word,
+      (wall_moves_hang_one w (word.complete).legal).left,
+      ap (left_moves_from start) is,
+      left_moves_append start front rest,
+    ),
+    omega (
+      arith,
+      right_is l w sound.fits sound.walls word,
+      (wall_moves_hang_one w (word.complete).legal).right,
+      ap (right_moves_from start) is,
+      right_moves_append start front rest,
+    ),
+  )
+
   -- in a word of a normal layout at most as many moves are at the left wall as at the right
   pub walls_left : (front rest : Word) → w ≡ front ++ rest
       → left_moves_from start front + left_moves_from (outline_of front) rest ≤ right_moves_from start front + right_moves_from (outline_of front) rest
-  walls_left front rest is = omega (
-    arith,
-    normal.across,
-    left_is l w sound.fits sound.walls word,
-    right_is l w sound.fits sound.walls word,
-    (wall_moves_hang_one w (word.complete).legal).left,
-    (wall_moves_hang_one w (word.complete).legal).right,
-    ap (left_moves_from start) is,
-    ap (right_moves_from start) is,
-    left_moves_append start front rest,
-    right_moves_append start front rest,
-  )
+  walls_left front rest is = omega (arith, normal.across, (walls_at front rest is).0, (walls_at front rest is).1)
 
   module _ (front rest : Word) (is : w ≡ front ++ rest) where
     legal_then : AreLegalFrom start front
@@ -61,14 +71,8 @@ module _ (n : ℕ) (l : Layout) (w : Word) (sound : IsSound n l) (normal : IsNor
     right_more = omega (
       arith,
       normal.across,
-      left_is l w sound.fits sound.walls word,
-      right_is l w sound.fits sound.walls word,
-      (wall_moves_hang_one w (word.complete).legal).left,
-      (wall_moves_hang_one w (word.complete).legal).right,
-      ap (left_moves_from start) is,
-      ap (right_moves_from start) is,
-      left_moves_append start front rest,
-      right_moves_append start front rest,
+      (walls_at front rest is).0,
+      (walls_at front rest is).1,
       (wall_moves_hang_one front legal_then).left,
       (wall_moves_hang_one front legal_then).right,
     )

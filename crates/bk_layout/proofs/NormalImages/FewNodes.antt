@@ -4,7 +4,8 @@ use Rattle.bk_laws.proofs.NumberOrder.{le_or_ge, lt_or_gt_or_eq, max-of_equal, m
 use Rattle.bk_tiling.specs.Tiling.{IsTiling, Tiling, order}
 use Rattle.bk_sym.specs.Image.{image}
 use Rattle.bk_sym.specs.declared.Turn.TheVariants.{FlipX, FlipY}
-use Rattle.bk_layout.proofs.NormalImages.ImageCounts.{flip_x_bottom, flip_x_left, flip_x_right, flip_x_top, flip_y_bottom, flip_y_left, flip_y_right, flip_y_top}
+use Rattle.bk_layout.proofs.NormalImages.ImageCounts.{flip_x_bottom, flip_x_left, flip_x_right, flip_x_top, flip_y_bottom, flip_y_left, flip_y_right}
+use Rattle.bk_layout.proofs.NormalImages.ImageCounts.{flip_y_top}
 use Rattle.bk_layout.proofs.NormalImages.ImageCounts.{image_order}
 use Rattle.bk_layout.proofs.NormalImages.MirroredGroups.{flip_x_groups}
 use Rattle.bk_layout.proofs.NormalImages.UpendedGroups.{flip_y_groups, groups_of}

@@ -11,7 +11,7 @@ use Rattle.bk_word.specs.declared.Sign.TheVariants.{Above, Even}
 use Rattle.bk_word_net.proofs.Outlines.ValleyCut.{AtValley}
 use Rattle.bk_layout.proofs.Sweeps.Chains.{last_from}
 use Rattle.bk_layout.proofs.Sweeps.Sweep.{State, ValleyAt}
-use Rattle.bk_layout.proofs.Sweeps.SweepMove.{move}
+use Rattle.bk_layout.proofs.Sweeps.SweepSteps.{move}
 use Rattle.bk_layout.proofs.Sweeps.WholeRuns.{Hung}
 use Rattle.bk_layout.specs.Layout.{Fits, Layout}
 use Rattle.bk_layout.proofs.Lists.Pieces.{put_at, put_other}

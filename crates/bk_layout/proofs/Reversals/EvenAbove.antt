@@ -9,7 +9,7 @@ use Rattle.bk_word_net.proofs.Outlines.ValleyCut.{AtValley}
 use Rattle.bk_layout.proofs.Sweeps.Chains.{Chain, chain_behind, even_neighbours, known_last, last_append, last_from, singles}
 use Rattle.bk_layout.proofs.Lists.SquareLists.{lists_at, sq_of}
 use Rattle.bk_layout.proofs.Sweeps.Sweep.{State, ValleyAt, ending_times}
-use Rattle.bk_layout.proofs.Sweeps.SweepMove.{move}
+use Rattle.bk_layout.proofs.Sweeps.SweepSteps.{move}
 use Rattle.bk_layout.proofs.Sweeps.Turning.{AtLeft}
 use Rattle.bk_layout.proofs.Sweeps.WholeRuns.{Hung, run_below, whole_run}
 use Rattle.bk_layout.specs.Layout.{AreNeighbours, Fits, IsFirst, IsLast, Layout}

@@ -8,17 +8,15 @@ use Rattle.bk_word.specs.Outline.{Outline}
 use Rattle.bk_layout.proofs.Sweeps.Chains.{Chain, singles}
 use Rattle.bk_layout.proofs.Lists.SquareLists.{lists_at, sq_of, times_singles}
 use Rattle.bk_layout.proofs.Sweeps.Sweep.{State, ValleyAt, valley_at}
-use Rattle.bk_layout.proofs.Sweeps.SweepMove.{move}
+use Rattle.bk_layout.proofs.Sweeps.SweepSteps.{move}
 use Rattle.bk_layout.proofs.Sweeps.WholeRuns.{Hung, hung_from}
 use Rattle.bk_layout.proofs.Sweeps.MoveChain.{apart_of, many_marks, marks_chain}
 use Rattle.bk_layout.proofs.Lists.Drops.{Drops, drops_before, drops_behind, same_before, same_behind}
 use Rattle.bk_layout.specs.Layout.{Fits, Layout}
 use Rattle.bk_layout.proofs.Lists.Pieces.{times_tail}
 use Rattle.bk_layout.specs.Reversal.{CanReverse, reversed}
-use Rattle.bk_layout.proofs.Reversals.ReversedSquare.{around}
-use Rattle.bk_layout.proofs.Reversals.ReversedFits.{fits_then}
-use Rattle.bk_layout.proofs.Reversals.SameSigns.{dropped_signs, same_signs}
-use Rattle.bk_layout.proofs.Reversals.AroundSquare.{Around}
+use Rattle.bk_layout.proofs.Reversals.ReversedLists.{around}
+use Rattle.bk_layout.proofs.Reversals.ReversedFits.{dropped_signs, fits_then, same_signs}
 
 -- how often a square stands among the open ones
 module _ (l : Layout) (o : Outline) (st : State l o) (c : AtValley o) (at : ValleyAt l o st.laid c) where
@@ -53,15 +51,6 @@ module _ (l : Layout) (fits : Fits l) (q p r : ℕ) (can : CanReverse l q p r) w
   abbrev m : Layout
   m = reversed l q p r
 
-  abbrev u : ℕ
-  u = l.above q
-
-  abbrev v : ℕ
-  v = l.below q
-
-  abbrev about : Around l fits q p r can
-  about = around l fits q p r can
-
   -- the next move of both sweeps
   pub record MovesBoth (o : Outline) (st : State l o) (both : State m o) (c : AtValley o) (at : ValleyAt l o st.laid c)
       (low : l.below at.q < l.bottom) (h : Hung l (l.below at.q)) : Type 0 where
@@ -78,7 +67,7 @@ module _ (l : Layout) (fits : Fits l) (q p r : ℕ) (can : CanReverse l q p r) w
   -- the next move, where it lays no q and does not close v, is the same in both sweeps, or its signs drop where it lays p
   pub moves_both : (o : Outline) (st : State l o) (both : State m o) → both.laid ≡ st.laid
       → (c : AtValley o) (at : ValleyAt l o st.laid c) (low : l.below at.q < l.bottom) (h : Hung l (l.below at.q))
-      → times q st.laid ≡ 0 → times p st.laid ≡ 0 → times v st.done ≡ 0 → times q (h.first ∷ h.more) ≡ 0 → (l.below at.q ≡ v → ⊥)
+      → times q st.laid ≡ 0 → times p st.laid ≡ 0 → times (l.below q) st.done ≡ 0 → times q (h.first ∷ h.more) ≡ 0 → (l.below at.q ≡ l.below q → ⊥)
       → MovesBoth o st both c at low h
   moves_both o st both laid c at low h no_q no_p no_v no_new no_close = record {
     at_both = at_both;
@@ -119,18 +108,18 @@ module _ (l : Layout) (fits : Fits l) (q p r : ℕ) (can : CanReverse l q p r) w
       q_same = head_same at_both.q at.q at_both.qs at.qs (sym at_both.is ∙ ap (λ (xs : List ℕ). map (sq_of xs) c.valley) laid ∙ at.is)
 
       node_same : m.below at_both.q ≡ l.below at.q
-      node_same = ap m.below q_same ∙ about.below_x at.q not_q
+      node_same = ap m.below q_same ∙ (around l fits q p r can).below_x at.q not_q
 
       low_both : m.below at_both.q < m.bottom
       low_both = omega (arith, node_same, low)
 
-      not_u : l.below at.q ≡ u → ⊥
+      not_u : l.below at.q ≡ l.above q → ⊥
       not_u e = omega (
         arith,
         no_new,
         ap (times q) (sym h.is),
         ap (λ (w : ℕ). times q (l.hanging w)) e,
-        times_tail (l.hanging u) q q can.first,
+        times_tail (l.hanging (l.above q)) q q can.first,
         cond_count-nat_eq_same q q refl,
       )
 
@@ -138,7 +127,7 @@ module _ (l : Layout) (fits : Fits l) (q p r : ℕ) (can : CanReverse l q p r) w
       hung_both = hung_from m (fits_then l fits q p r can) (m.below at_both.q) low_both
 
       hung_same : ◌≡◌ {A = List ℕ} (hung_both.first ∷ hung_both.more) (h.first ∷ h.more)
-      hung_same = sym hung_both.is ∙ ap m.hanging node_same ∙ about.hanging_w (l.below at.q) not_u no_close ∙ h.is
+      hung_same = sym hung_both.is ∙ ap m.hanging node_same ∙ (around l fits q p r can).hanging_w (l.below at.q) not_u no_close ∙ h.is
 
       first_same : hung_both.first ≡ h.first
       first_same = head_same hung_both.first h.first hung_both.more h.more hung_same

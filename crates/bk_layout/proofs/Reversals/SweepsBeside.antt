@@ -8,28 +8,20 @@ use Rattle.bk_word.specs.Play.{after_move}
 use Rattle.bk_word.specs.Word.{Move, Word}
 use Rattle.bk_layout.proofs.Sweeps.Trace.{IsStep, Trace, traced}
 use Rattle.bk_layout.proofs.Sweeps.Sweep.{State}
-use Rattle.bk_layout.proofs.Sweeps.SweepStates.{state_then}
-use Rattle.bk_layout.proofs.Sweeps.SweepMove.{move}
+use Rattle.bk_layout.proofs.Sweeps.SweepSteps.{move, state_then}
 use Rattle.bk_layout.proofs.Lists.Drops.{Drops, IsLess}
 use Rattle.bk_layout.specs.Layout.{Fits, Layout}
 use Rattle.bk_layout.specs.Reversal.{CanReverse, reversed}
-use Rattle.bk_layout.proofs.Reversals.ReversedPlaces.{Places, places}
-use Rattle.bk_layout.proofs.Reversals.ReversedFits.{fits_then}
-use Rattle.bk_layout.proofs.Reversals.ReversedStates.{state_moved}
+use Rattle.bk_layout.proofs.Reversals.ReversedLists.{places}
+use Rattle.bk_layout.proofs.Reversals.ReversedFits.{fits_then, state_moved}
 use Rattle.bk_layout.proofs.Reversals.MovesBoth.{MovesBoth, moves_both}
 
 module _ (l : Layout) (fits : Fits l) (q p r : ℕ) (can : CanReverse l q p r) where
   abbrev m : Layout
   m = reversed l q p r
 
-  abbrev u : ℕ
-  u = l.above q
-
   abbrev v : ℕ
   v = l.below q
-
-  abbrev by_place : Places l fits q p r can
-  by_place = places l fits q p r can
 
   -- along the trace p is laid while q isn't laid and v isn't closed
   abbrev pub Late : (o : Outline) → (st : State l o) → (w : Word) → Trace l fits o st w → Type 0
@@ -44,7 +36,7 @@ module _ (l : Layout) (fits : Fits l) (q p r : ℕ) (can : CanReverse l q p r) w
   -- it was so before
   pub later_out : (o : Outline) (st : State l o) (mv : Move) (next : State l (after_move o mv)) → IsStep l fits o st mv next
       → times q next.laid ≡ 0 → times v next.done ≡ 0 → (times q st.laid ≡ 0) × (times v st.done ≡ 0)
-  later_out o st mv next step a b = (omega (arith, a, grown q), under (get_some (l.hanging v) 0 by_place.hv_some))
+  later_out o st mv next step a b = (omega (arith, a, grown q), under (get_some (l.hanging v) 0 (places l fits q p r can).hv_some))
     where
       grown : (x : ℕ) → times x next.laid ≡ times x st.laid + times x (step.h.first ∷ step.h.more)
       grown x = ap (times x) step.grows ∙ times-append x st.laid (step.h.first ∷ step.h.more)

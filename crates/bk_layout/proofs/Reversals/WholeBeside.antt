@@ -13,10 +13,8 @@ use Rattle.bk_layout.proofs.Sweeps.WholeRuns.{Hung, hung_from, is_last}
 use Rattle.bk_layout.proofs.Lists.Drops.{Drops, IsLess}
 use Rattle.bk_layout.specs.Layout.{Fits, IsLast, Layout}
 use Rattle.bk_layout.specs.Reversal.{CanReverse, reversed}
-use Rattle.bk_layout.proofs.Reversals.ReversedLines.{top_is}
-use Rattle.bk_layout.proofs.Reversals.ReversedFits.{fits_then}
-use Rattle.bk_layout.proofs.Reversals.SameSigns.{dropped_signs, same_signs}
-use Rattle.bk_layout.proofs.Reversals.ReversedStates.{state_moved}
+use Rattle.bk_layout.proofs.Reversals.ReversedParts.{top_is}
+use Rattle.bk_layout.proofs.Reversals.ReversedFits.{dropped_signs, fits_then, same_signs, state_moved}
 use Rattle.bk_layout.proofs.Reversals.SweepsBeside.{Beside, beside_it, late_out}
 
 module _ (l : Layout) (fits : Fits l) (q p r : ℕ) (can : CanReverse l q p r) where

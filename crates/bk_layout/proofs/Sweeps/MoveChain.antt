@@ -6,7 +6,7 @@ use Rattle.bk_word_net.proofs.Outlines.ValleyCut.{AtValley}
 use Rattle.bk_layout.proofs.Sweeps.Chains.{Chain, last_from, singles}
 use Rattle.bk_layout.proofs.Lists.SquareLists.{lists_at, sq_of}
 use Rattle.bk_layout.proofs.Sweeps.Sweep.{State, ValleyAt}
-use Rattle.bk_layout.proofs.Sweeps.SweepMove.{move}
+use Rattle.bk_layout.proofs.Sweeps.SweepSteps.{move}
 use Rattle.bk_layout.proofs.Sweeps.Turning.{AtLeft, many_signs}
 use Rattle.bk_layout.proofs.Sweeps.WholeRuns.{Hung, is_last}
 use Rattle.bk_layout.specs.Layout.{Fits, IsLast, Layout}

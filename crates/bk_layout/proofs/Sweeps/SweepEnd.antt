@@ -16,9 +16,7 @@ use Rattle.bk_layout.proofs.Lists.Counting.{at_most, just_as_many}
 use Rattle.bk_layout.proofs.Lists.SquareLists.{lists_at, sq_of}
 use Rattle.bk_layout.proofs.Sweeps.Sweep.{State, ValleyAt, ending_times, valley_at}
 use Rattle.bk_layout.proofs.Sweeps.SweepStart.{first_by_lines, first_by_node, first_free, first_legal, first_move, first_no_twins, first_state, left_wall}
-use Rattle.bk_layout.proofs.Sweeps.SweepStates.{state_then}
-use Rattle.bk_layout.proofs.Sweeps.SweepMove.{free, legal, move, no_twins}
-use Rattle.bk_layout.proofs.Sweeps.SweepStep.{by_lines, by_node}
+use Rattle.bk_layout.proofs.Sweeps.SweepSteps.{by_lines, by_node, free, legal, move, no_twins, state_then}
 use Rattle.bk_layout.proofs.Sweeps.WholeRuns.{Hung, hung_from}
 use Rattle.bk_layout.specs.FreeWord.{AreFreeFrom, HangNoTwinsFrom, IsFree, IsWithoutTwins}
 use Rattle.bk_layout.specs.Layout.{Fits, HasNoTwins, Layout}

@@ -11,9 +11,7 @@ use Rattle.bk_layout.proofs.Lists.SquareLists.{sq_of}
 use Rattle.bk_layout.proofs.Sweeps.Sweep.{State, ValleyAt, valley_at}
 use Rattle.bk_layout.proofs.Sweeps.SweepEnd.{Ended, WholeSweep, bounded, ended}
 use Rattle.bk_layout.proofs.Sweeps.SweepStart.{first_by_lines, first_by_node, first_free, first_legal, first_move, first_no_twins, first_state, left_wall}
-use Rattle.bk_layout.proofs.Sweeps.SweepStates.{state_then}
-use Rattle.bk_layout.proofs.Sweeps.SweepMove.{free, legal, move, no_twins}
-use Rattle.bk_layout.proofs.Sweeps.SweepStep.{by_lines, by_node}
+use Rattle.bk_layout.proofs.Sweeps.SweepSteps.{by_lines, by_node, free, legal, move, no_twins, state_then}
 use Rattle.bk_layout.proofs.Sweeps.WholeRuns.{Hung, hung_from}
 use Rattle.bk_layout.specs.FreeWord.{AreFreeFrom, HangNoTwinsFrom, HangsNoTwins, IsFreeMove}
 use Rattle.bk_layout.specs.Layout.{Fits, HasNoTwins, Layout}

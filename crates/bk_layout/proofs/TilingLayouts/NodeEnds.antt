@@ -13,9 +13,16 @@ module _ (t : Tiling) (tiling : IsTiling t) (v : ℕ) (node : IsNode t v) where
   abbrev Ended : Square → Type 0
   Ended q = node_below (square_groups t.squares) q ≡ v
 
+  -- a node on which a square ends, with another square going on below its level, isn't the last
+  above_end : (q : Square) → IsOneOf q t.squares → Ended q → (b : Square) → IsOneOf b t.squares → q.y + q.s < b.y + b.s
+      → ((v < length (square_groups t.squares)) × (node.level < t.height))
+      ⊎ ((v ≡ length (square_groups t.squares)) × (node.level ≡ t.height) × (node.left ≡ 0) × (node.right ≡ t.width)) → v < length (square_groups t.squares)
+  above_end q h e b is below (inl m) = m.0
+  above_end q h e b is below (inr m) = absurd (omega (arith, m.1, (node.end_to q h e).0, below, bottom_within t tiling b is))
+
   -- a node ends beside a line that goes on
   pub ends_at_left : (q : Square) → IsOneOf q t.squares → Ended q → GoesOnLeft t.squares q → (q.x ≡ node.left) × (v < length (square_groups t.squares))
-  ends_at_left q h e g = (at (cases_lt node.left q.x), above node.inner)
+  ends_at_left q h e g = (at (cases_lt node.left q.x), above_end q h e g.beside g.is g.bottom node.inner)
     where
       at : (node.left < q.x) ⊎ (q.x ≤ node.left) → q.x ≡ node.left
       at (inr m) = omega (arith, m, (node.end_to q h e).1)
@@ -33,14 +40,9 @@ module _ (t : Tiling) (tiling : IsTiling t) (v : ℕ) (node : IsNode t v) where
             }),
       ))
 
-      above : ((v < length (square_groups t.squares)) × (node.level < t.height))
-          ⊎ ((v ≡ length (square_groups t.squares)) × (node.level ≡ t.height) × (node.left ≡ 0) × (node.right ≡ t.width)) → v < length (square_groups t.squares)
-      above (inl m) = m.0
-      above (inr m) = absurd (omega (arith, m.1, (node.end_to q h e).0, g.bottom, bottom_within t tiling g.beside g.is))
-
   -- a node ends at the right beside a line that goes on at the right
   pub ends_at_right : (q : Square) → IsOneOf q t.squares → Ended q → GoesOnRight t.squares q → (q.x + q.s ≡ node.right) × (v < length (square_groups t.squares))
-  ends_at_right q h e g = (at (cases_lt (q.x + q.s) node.right), above node.inner)
+  ends_at_right q h e g = (at (cases_lt (q.x + q.s) node.right), above_end q h e g.beside g.is g.bottom node.inner)
     where
       at : (q.x + q.s < node.right) ⊎ (node.right ≤ q.x + q.s) → q.x + q.s ≡ node.right
       at (inr m) = omega (arith, m, (node.end_to q h e).2)
@@ -57,11 +59,6 @@ module _ (t : Tiling) (tiling : IsTiling t) (v : ℕ) (node : IsNode t v) where
               bottom = omega (arith, (node.end_to q h e).0, g.bottom);
             }),
       ))
-
-      above : ((v < length (square_groups t.squares)) × (node.level < t.height))
-          ⊎ ((v ≡ length (square_groups t.squares)) × (node.level ≡ t.height) × (node.left ≡ 0) × (node.right ≡ t.width)) → v < length (square_groups t.squares)
-      above (inl m) = m.0
-      above (inr m) = absurd (omega (arith, m.1, (node.end_to q h e).0, g.bottom, bottom_within t tiling g.beside g.is))
 
   -- where two squares end side by side at one level, both end on the node of the first
   pub ends_beside : (q r : Square) → IsOneOf q t.squares → IsOneOf r t.squares → Ended q → q.x + q.s ≡ r.x → q.y + q.s ≡ r.y + r.s → Ended r

@@ -5,7 +5,7 @@ use Rattle.bk_tiling.specs.KeptTiling.{IsKept}
 use Rattle.bk_tiling.specs.Refusal.{HaveSides, ShareNoCell}
 use Rattle.bk_tiling.specs.Scale.{moved_square}
 use Rattle.bk_pair.specs.Pair.{laid_squares}
-use Rattle.bk_pair.proofs.LaidSquares.{apart, have_sides, kept_square, laid_items, made, room_left}
+use Rattle.bk_pair.proofs.LaidSquares.{squares_stand_apart, have_sides, kept_square, laid_items, parts_make_square, room_left}
 use Rattle.bk_pair.proofs.laid.Goals as goal
 
 pub push_moved-requires-2-clause-room : goal.push_moved-requires-2-clause-room
@@ -31,7 +31,7 @@ put_in_order-requires-clause-apart c =
     c.push_moved.new.squares.items c.push.new.self.items c.push-2.new.self.items c.push_moved-2.new.squares.items
     c.width-width.ensures.value c.height-height.ensures.value c.image.ensures.value c.new-squares.ensures c.push_moved.ensures c.push.ensures.items
     c.push-2.ensures.items c.push_moved-2.ensures in
-    subst ShareNoCell (sym items) (apart c.args.a.now c.args.b.now c.width-width.ensures.kept
+    subst ShareNoCell (sym items) (squares_stand_apart c.args.a.now c.args.b.now c.width-width.ensures.kept
     (subst IsKept c.image.ensures.value c.image.ensures.kept) c.requires)
 
 pub from_known-requires : goal.from_known-requires
@@ -41,7 +41,7 @@ from_known-requires c =
     c.push_moved.new.squares.items c.push.new.self.items c.push-2.new.self.items c.push_moved-2.new.squares.items
     c.width-width.ensures.value c.height-height.ensures.value c.image.ensures.value c.new-squares.ensures c.push_moved.ensures c.push.ensures.items
     c.push-2.ensures.items c.push_moved-2.ensures in
-    subst IsKept (sym (made c.args.a.now c.args.b.now c.width-width.result c.height-height.result c.put_in_order.new.squares.items
+    subst IsKept (sym (parts_make_square c.args.a.now c.args.b.now c.width-width.result c.height-height.result c.put_in_order.new.squares.items
     c.width-width.ensures.value c.height-height.ensures.value (c.put_in_order.ensures ∙ ap in_code_order items)))
     (kept_square c.args.a.now c.args.b.now c.width-width.ensures.kept (subst IsKept c.image.ensures.value c.image.ensures.kept) c.requires)
 
@@ -53,7 +53,7 @@ returns c =
     c.width-width.ensures.value c.height-height.ensures.value c.image.ensures.value c.new-squares.ensures c.push_moved.ensures c.push.ensures.items
     c.push-2.ensures.items c.push_moved-2.ensures in
     c.from_known.ensures
-    ∙ made c.args.a.now c.args.b.now c.width-width.result c.height-height.result c.put_in_order.new.squares.items c.width-width.ensures.value
+    ∙ parts_make_square c.args.a.now c.args.b.now c.width-width.result c.height-height.result c.put_in_order.new.squares.items c.width-width.ensures.value
     c.height-height.ensures.value (c.put_in_order.ensures ∙ ap in_code_order items)
 
 pub new-squares-requires : goal.new-squares-requires

@@ -1,19 +1,10 @@
-use Rattle.std.proofs.Common.{false, true, ◌≡◌, ap, arith, count_by, take, ◌+◌, ◌∙◌}
+use Rattle.std.proofs.Common.{false, true, ◌≡◌, ap, count_by, take, ◌+◌, ◌∙◌}
 use Rattle.bk_simple.proofs.TwoParts.{uncut_parts, inside_parts, uncut_whole}
 use Rattle.bk_simple.specs.Border.{rectangle_of, is_inside}
-use Rattle.std.specs.List.{All}
-use Rattle.bk_tiling.specs.KeptTiling.{IsKept}
 use Rattle.bk_tiling.specs.Sharing.{EdgesFit}
-use Rattle.bk_simple.proofs.UncutParts.{side_at, within_at}
-use Rattle.bk_tiling.specs.Tiling.{Tiling}
 use Rattle.std.proofs.lemmas.List.Elements.{All-drop, All-take}
+use Rattle.bk_simple.proofs.KeptEdges.{edges_of_kept_fit}
 use Rattle.bk_simple.proofs.count_inside.Goals as goal
-
--- the edges of a square fit
-edges_fit : (t : Tiling) → IsKept t → All EdgesFit t.squares
-edges_fit t kept k d few =
-    let w = within_at t kept.tiling k d few in
-    (side_at t kept.tiling k d few, omega (arith, w.right, kept.width_fits), omega (arith, w.bottom, kept.height_fits))
 
 pub returns-in_err-behind-clause-uncut : goal.returns-in_err-behind-clause-uncut
 returns-in_err-behind-clause-uncut c = rw c.from_residual.ensures (
@@ -28,7 +19,7 @@ slice_bounds-count_among-count c = rw c.squares-squares.ensures.value c.requires
 pub count_among-requires-clause-squares : goal.count_among-requires-clause-squares
 count_among-requires-clause-squares c =
     rw c.squares-squares.ensures.value (All-take EdgesFit _ _ (All-drop EdgesFit c.args.first c.args.tiling.now.squares
-    (edges_fit c.args.tiling.now c.squares-squares.ensures.kept)))
+    (edges_of_kept_fit c.args.tiling.now c.squares-squares.ensures.kept)))
 
 pub count_among-requires-clause-fits : goal.count_among-requires-clause-fits
 count_among-requires-clause-fits c = c.requires.fits
@@ -38,7 +29,7 @@ returns-in_err-behind-clause-count c = rw c.from_residual.ensures tt
 
 pub count_among-requires-2-clause-squares : goal.count_among-requires-2-clause-squares
 count_among-requires-2-clause-squares c =
-    rw c.squares-squares.ensures.value (All-take EdgesFit _ _ (edges_fit c.args.tiling.now c.squares-squares.ensures.kept))
+    rw c.squares-squares.ensures.value (All-take EdgesFit _ _ (edges_of_kept_fit c.args.tiling.now c.squares-squares.ensures.kept))
 
 pub count_among-requires-2-clause-fits : goal.count_among-requires-2-clause-fits
 count_among-requires-2-clause-fits c = c.requires.fits

@@ -1,41 +1,17 @@
-use Rattle.std.specs.Prelude.{get_or, length, ◌+◌, ◌<◌, ◌≡◌, ◌≤◌, ℕ, ◌^◌}
-use Rattle.std.proofs.Common.{arith, Fits, w64, ◌*◌}
+use Rattle.std.specs.Prelude.{get_or, length, ◌+◌, ◌<◌, ◌≡◌, ◌≤◌}
+use Rattle.std.proofs.Common.{arith}
 use Rattle.std.proofs.lemmas.Bool.{false≢true}
 use Rattle.bk_tiling.specs.Tiling.{IsTiling, Tiling}
 use Rattle.bk_tiling.specs.declared.Square.{Square}
 use Rattle.bk_simple.proofs.Seams.{run_more, run_start}
 use Rattle.bk_simple.proofs.TopRuns.{begins_left, goes_past, none_beyond}
-use Rattle.std.specs.List.{All}
-use Rattle.bk_tiling.specs.KeptTiling.{IsKept}
-use Rattle.bk_tiling.specs.Sharing.{EdgesFit}
-use Rattle.bk_simple.proofs.UncutParts.{side_at, within_at}
+use Rattle.bk_laws.proofs.FixedWidths.{number_below_fits}
+use Rattle.bk_simple.proofs.KeptEdges.{edges_of_kept_fit, end_from_column_fits, next_place_fits, place_in_memory_fits}
 use Rattle.bk_simple.proofs.has_none_past.Goals as goal
 use Rattle.bk_simple.proofs.has_none_past.Goals.{then-q-first-via-else-q-first+then-q-end, then-q-first-via-then-q-first}
 
 abbrev none : Square
 none = record { x = 0; y = 0; s = 0 }
-
--- the edges of a square fit
-edges_fit : (t : Tiling) → IsKept t → All EdgesFit t.squares
-edges_fit t kept k d few =
-    let w = within_at t kept.tiling k d few in
-    (side_at t kept.tiling k d few, omega (arith, w.right, kept.width_fits), omega (arith, w.bottom, kept.height_fits))
-
--- a number below that bound fits
-fits_below : {n : ℕ} → n < 2 ^ 64 → Fits w64 n
-fits_below low = omega (arith, low)
-
--- the place of a square in memory fits
-place_fits : (t : Tiling) → IsKept t → (k : ℕ) → k < length t.squares → Fits w64 (k * 24)
-place_fits t kept k few = omega (arith, few, kept.few)
-
--- the place after a square's fits
-step_fits : (t : Tiling) → IsKept t → (k : ℕ) → k < length t.squares → Fits w64 (k + 1)
-step_fits t kept k few = omega (arith, few, kept.few)
-
--- the end of a square at a column fits
-end_fits : (q : Square) (end : ℕ) → q.x ≡ end → EdgesFit q → Fits w64 (end + q.s)
-end_fits q end begins fits = omega (arith, begins, fits.1)
 
 pub loop-last-init : goal.loop-last-init
 loop-last-init c =
@@ -85,28 +61,29 @@ returns c is r part first wide =
     omega (arith, within, c.loop-last.invariant.past r part first wide)
 
 pub offset_bounds-squares-i : goal.offset_bounds-squares-i
-offset_bounds-squares-i c = place_fits c.args.tiling.now c.squares-squares.ensures.kept c.args.i c.requires
+offset_bounds-squares-i c = place_in_memory_fits c.args.tiling.now c.squares-squares.ensures.kept c.args.i c.requires
 
 pub bounds-squares-i : goal.bounds-squares-i
 bounds-squares-i c = rw c.squares-squares.ensures.value c.requires
 
 pub overflow_add-end : goal.overflow_add-end
-overflow_add-end c = rw c.squares-squares.ensures.value (fits_below (edges_fit c.args.tiling.now c.squares-squares.ensures.kept c.args.i none c.requires).1)
+overflow_add-end c = rw c.squares-squares.ensures.value (number_below_fits
+    (edges_of_kept_fit c.args.tiling.now c.squares-squares.ensures.kept c.args.i none c.requires).1)
 
 pub overflow_step-last : goal.overflow_step-last
-overflow_step-last c = step_fits c.args.tiling.now c.squares-squares.ensures.kept c.args.i c.requires
+overflow_step-last c = next_place_fits c.args.tiling.now c.squares-squares.ensures.kept c.args.i c.requires
 
 pub offset_bounds-squares-last : goal.offset_bounds-squares-last
 offset_bounds-squares-last c =
-    place_fits c.args.tiling.now c.squares-squares.ensures.kept c.loop-last.last (rw c.squares-squares.ensures.value at c.loop-last-test.true)
+    place_in_memory_fits c.args.tiling.now c.squares-squares.ensures.kept c.loop-last.last (rw c.squares-squares.ensures.value at c.loop-last-test.true)
 
 pub bounds-squares-last : goal.bounds-squares-last
 bounds-squares-last c = c.loop-last-test.true
 
 pub overflow_add-end-in-loop-last : goal.overflow_add-end-in-loop-last
 overflow_add-end-in-loop-last c =
-    rw c.squares-squares.ensures.value (end_fits _ _ (rw c.squares-squares.ensures.value at c.if-q-end.false)
-    (edges_fit c.args.tiling.now c.squares-squares.ensures.kept c.loop-last.last none (rw c.squares-squares.ensures.value at c.loop-last-test.true)))
+    rw c.squares-squares.ensures.value (end_from_column_fits _ _ (rw c.squares-squares.ensures.value at c.if-q-end.false)
+    (edges_of_kept_fit c.args.tiling.now c.squares-squares.ensures.kept c.loop-last.last none (rw c.squares-squares.ensures.value at c.loop-last-test.true)))
 
 pub has_none_under-requires-clause-places : goal.has_none_under-requires-clause-places
 has_none_under-requires-clause-places c = (c.loop-last.invariant.run.some, rw c.squares-squares.ensures.value at c.loop-last-test.true)

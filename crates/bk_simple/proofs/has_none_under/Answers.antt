@@ -1,37 +1,17 @@
-use Rattle.std.specs.Prelude.{IsTrue, false, get_or, length, nat_eq, ℕ, ◌+◌, ◌<◌, ◌≡◌, ◌^◌}
-use Rattle.std.proofs.Common.{arith, inl, inr, ◌∙◌, Fits, w64, ◌*◌}
+use Rattle.std.specs.Prelude.{IsTrue, false, get_or, length, nat_eq, ℕ, ◌+◌, ◌<◌, ◌≡◌}
+use Rattle.std.proofs.Common.{arith, inl, inr, ◌∙◌}
 use Rattle.std.proofs.lemmas.Bool.{eq-eqb, eqb-true, false_from_ne_true, false≢true}
 use Rattle.bk_tiling.specs.Tiling.{IsTiling, Tiling}
 use Rattle.bk_tiling.specs.declared.Square.{Square}
 use Rattle.bk_simple.proofs.SideWalks.{AreNext, left_low, none_but_whole, walk_all, walk_crossed, walk_more, walk_start}
 use Rattle.bk_simple.proofs.TopRuns.{begins_right, run_of}
-use Rattle.std.specs.List.{All}
-use Rattle.bk_tiling.specs.KeptTiling.{IsKept}
-use Rattle.bk_tiling.specs.Sharing.{EdgesFit}
-use Rattle.bk_simple.proofs.UncutParts.{side_at, within_at}
+use Rattle.bk_laws.proofs.FixedWidths.{number_below_fits}
+use Rattle.bk_simple.proofs.KeptEdges.{edges_of_kept_fit, next_place_fits, place_in_memory_fits}
 use Rattle.bk_simple.proofs.has_none_under.Goals as goal
 use Rattle.bk_simple.proofs.has_none_under.Goals.{then-crosses-via-else-crosses+then-crosses-2, then-crosses-via-then-crosses}
 
 abbrev none : Square
 none = record { x = 0; y = 0; s = 0 }
-
--- the edges of a square fit
-edges_fit : (t : Tiling) → IsKept t → All EdgesFit t.squares
-edges_fit t kept k d few =
-    let w = within_at t kept.tiling k d few in
-    (side_at t kept.tiling k d few, omega (arith, w.right, kept.width_fits), omega (arith, w.bottom, kept.height_fits))
-
--- a number below that bound fits
-fits_below : {n : ℕ} → n < 2 ^ 64 → Fits w64 n
-fits_below low = omega (arith, low)
-
--- the place of a square in memory fits
-place_fits : (t : Tiling) → IsKept t → (k : ℕ) → k < length t.squares → Fits w64 (k * 24)
-place_fits t kept k few = omega (arith, few, kept.few)
-
--- the place after a square's fits
-step_fits : (t : Tiling) → IsKept t → (k : ℕ) → k < length t.squares → Fits w64 (k + 1)
-step_fits t kept k few = omega (arith, few, kept.few)
 
 -- a place before one of a square is one
 before_few : (i last n : ℕ) → i < last → last < n → i < n
@@ -129,66 +109,71 @@ returns c is r part first ends =
     (rw c.squares-squares.ensures.value at (c.loop-k.invariant tiling)) all r (record { part = part; first = first; ends = ends })
 
 pub offset_bounds-squares-i : goal.offset_bounds-squares-i
-offset_bounds-squares-i c = place_fits c.args.tiling.now c.squares-squares.ensures.kept c.args.i (before_few _ _ _ c.requires.places.0 c.requires.places.1)
+offset_bounds-squares-i c = place_in_memory_fits c.args.tiling.now c.squares-squares.ensures.kept c.args.i
+    (before_few _ _ _ c.requires.places.0 c.requires.places.1)
 
 pub bounds-squares-i : goal.bounds-squares-i
 bounds-squares-i c = rw c.squares-squares.ensures.value (before_few _ _ _ c.requires.places.0 c.requires.places.1)
 
 pub offset_bounds-squares-i-2 : goal.offset_bounds-squares-i-2
-offset_bounds-squares-i-2 c = place_fits c.args.tiling.now c.squares-squares.ensures.kept c.args.i (before_few _ _ _ c.requires.places.0 c.requires.places.1)
+offset_bounds-squares-i-2 c = place_in_memory_fits c.args.tiling.now c.squares-squares.ensures.kept c.args.i
+    (before_few _ _ _ c.requires.places.0 c.requires.places.1)
 
 pub bounds-squares-i-2 : goal.bounds-squares-i-2
 bounds-squares-i-2 c = rw c.squares-squares.ensures.value (before_few _ _ _ c.requires.places.0 c.requires.places.1)
 
 pub offset_bounds-squares-i-3 : goal.offset_bounds-squares-i-3
-offset_bounds-squares-i-3 c = place_fits c.args.tiling.now c.squares-squares.ensures.kept c.args.i (before_few _ _ _ c.requires.places.0 c.requires.places.1)
+offset_bounds-squares-i-3 c = place_in_memory_fits c.args.tiling.now c.squares-squares.ensures.kept c.args.i
+    (before_few _ _ _ c.requires.places.0 c.requires.places.1)
 
 pub bounds-squares-i-3 : goal.bounds-squares-i-3
 bounds-squares-i-3 c = rw c.squares-squares.ensures.value (before_few _ _ _ c.requires.places.0 c.requires.places.1)
 
 pub offset_bounds-squares-i-then-right-left : goal.offset_bounds-squares-i-then-right-left
 offset_bounds-squares-i-then-right-left c =
-    place_fits c.args.tiling.now c.squares-squares.ensures.kept c.args.i (before_few _ _ _ c.requires.places.0 c.requires.places.1)
+    place_in_memory_fits c.args.tiling.now c.squares-squares.ensures.kept c.args.i (before_few _ _ _ c.requires.places.0 c.requires.places.1)
 
 pub bounds-squares-i-then-right-left : goal.bounds-squares-i-then-right-left
 bounds-squares-i-then-right-left c = rw c.squares-squares.ensures.value (before_few _ _ _ c.requires.places.0 c.requires.places.1)
 
 pub offset_bounds-squares-last : goal.offset_bounds-squares-last
-offset_bounds-squares-last c = place_fits c.args.tiling.now c.squares-squares.ensures.kept c.args.last c.requires.places.1
+offset_bounds-squares-last c = place_in_memory_fits c.args.tiling.now c.squares-squares.ensures.kept c.args.last c.requires.places.1
 
 pub bounds-squares-last : goal.bounds-squares-last
 bounds-squares-last c = rw c.squares-squares.ensures.value c.requires.places.1
 
 pub offset_bounds-squares-last-2 : goal.offset_bounds-squares-last-2
-offset_bounds-squares-last-2 c = place_fits c.args.tiling.now c.squares-squares.ensures.kept c.args.last c.requires.places.1
+offset_bounds-squares-last-2 c = place_in_memory_fits c.args.tiling.now c.squares-squares.ensures.kept c.args.last c.requires.places.1
 
 pub bounds-squares-last-2 : goal.bounds-squares-last-2
 bounds-squares-last-2 c = rw c.squares-squares.ensures.value c.requires.places.1
 
 pub offset_bounds-squares-last-3 : goal.offset_bounds-squares-last-3
-offset_bounds-squares-last-3 c = place_fits c.args.tiling.now c.squares-squares.ensures.kept c.args.last c.requires.places.1
+offset_bounds-squares-last-3 c = place_in_memory_fits c.args.tiling.now c.squares-squares.ensures.kept c.args.last c.requires.places.1
 
 pub bounds-squares-last-3 : goal.bounds-squares-last-3
 bounds-squares-last-3 c = rw c.squares-squares.ensures.value c.requires.places.1
 
 pub offset_bounds-squares-last-4 : goal.offset_bounds-squares-last-4
-offset_bounds-squares-last-4 c = place_fits c.args.tiling.now c.squares-squares.ensures.kept c.args.last c.requires.places.1
+offset_bounds-squares-last-4 c = place_in_memory_fits c.args.tiling.now c.squares-squares.ensures.kept c.args.last c.requires.places.1
 
 pub bounds-squares-last-4 : goal.bounds-squares-last-4
 bounds-squares-last-4 c = rw c.squares-squares.ensures.value c.requires.places.1
 
 pub overflow_add-right : goal.overflow_add-right
 overflow_add-right c =
-    rw c.squares-squares.ensures.value (fits_below (edges_fit c.args.tiling.now c.squares-squares.ensures.kept c.args.last none c.requires.places.1).1)
+    rw c.squares-squares.ensures.value (number_below_fits
+    (edges_of_kept_fit c.args.tiling.now c.squares-squares.ensures.kept c.args.last none c.requires.places.1).1)
 
 pub overflow_add-left_end : goal.overflow_add-left_end
 overflow_add-left_end c =
-    rw c.squares-squares.ensures.value (fits_below (edges_fit c.args.tiling.now c.squares-squares.ensures.kept c.args.i none
+    rw c.squares-squares.ensures.value (number_below_fits (edges_of_kept_fit c.args.tiling.now c.squares-squares.ensures.kept c.args.i none
     (before_few _ _ _ c.requires.places.0 c.requires.places.1)).2)
 
 pub overflow_add-right_end : goal.overflow_add-right_end
 overflow_add-right_end c =
-    rw c.squares-squares.ensures.value (fits_below (edges_fit c.args.tiling.now c.squares-squares.ensures.kept c.args.last none c.requires.places.1).2)
+    rw c.squares-squares.ensures.value (number_below_fits
+    (edges_of_kept_fit c.args.tiling.now c.squares-squares.ensures.kept c.args.last none c.requires.places.1).2)
 
 pub returns-then-left_end-right_end : goal.returns-then-left_end-right_end
 returns-then-left_end-right_end c = λ e. absurd (false≢true e)
@@ -197,25 +182,26 @@ pub returns-else-right-left : goal.returns-else-right-left
 returns-else-right-left c = λ e. absurd (c.if-right-left.false (eqb-true _ _ e))
 
 pub overflow_step-k : goal.overflow_step-k
-overflow_step-k c = step_fits c.args.tiling.now c.squares-squares.ensures.kept c.args.last c.requires.places.1
+overflow_step-k c = next_place_fits c.args.tiling.now c.squares-squares.ensures.kept c.args.last c.requires.places.1
 
 pub offset_bounds-squares-k : goal.offset_bounds-squares-k
-offset_bounds-squares-k c = place_fits c.args.tiling.now c.squares-squares.ensures.kept c.loop-k.k (rw c.squares-squares.ensures.value at c.loop-k-test.true)
+offset_bounds-squares-k c = place_in_memory_fits c.args.tiling.now c.squares-squares.ensures.kept c.loop-k.k
+    (rw c.squares-squares.ensures.value at c.loop-k-test.true)
 
 pub bounds-squares-k : goal.bounds-squares-k
 bounds-squares-k c = c.loop-k-test.true
 
 pub end_with-left_end-requires : goal.end_with-left_end-requires
 end_with-left_end-requires c =
-    rw c.squares-squares.ensures.value (edges_fit c.args.tiling.now c.squares-squares.ensures.kept c.loop-k.k none
+    rw c.squares-squares.ensures.value (edges_of_kept_fit c.args.tiling.now c.squares-squares.ensures.kept c.loop-k.k none
     (rw c.squares-squares.ensures.value at c.loop-k-test.true)).2
 
 pub overflow_add-q : goal.overflow_add-q
 overflow_add-q c =
-    rw c.squares-squares.ensures.value (fits_below (edges_fit c.args.tiling.now c.squares-squares.ensures.kept c.loop-k.k none
+    rw c.squares-squares.ensures.value (number_below_fits (edges_of_kept_fit c.args.tiling.now c.squares-squares.ensures.kept c.loop-k.k none
     (rw c.squares-squares.ensures.value at c.loop-k-test.true)).1)
 
 pub end_with-right_end-requires : goal.end_with-right_end-requires
 end_with-right_end-requires c =
-    rw c.squares-squares.ensures.value (edges_fit c.args.tiling.now c.squares-squares.ensures.kept c.loop-k.k none
+    rw c.squares-squares.ensures.value (edges_of_kept_fit c.args.tiling.now c.squares-squares.ensures.kept c.loop-k.k none
     (rw c.squares-squares.ensures.value at c.loop-k-test.true)).2

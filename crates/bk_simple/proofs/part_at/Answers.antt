@@ -1,32 +1,17 @@
-use Rattle.std.proofs.Common.{false, true, arith, ◌≡◌, Fits, get_or, length, w64, ℕ, ◌*◌, ◌+◌, ◌<◌, ◌^◌}
+use Rattle.std.proofs.Common.{false, true, arith, ◌≡◌, get_or, ◌+◌, ◌<◌, ◌^◌}
 use Rattle.bk_tiling.specs.declared.Square.{Square}
 use Rattle.bk_simple.proofs.PartTrials.{none_between, none_cut, none_single, none_whole, part_at_from}
 use Rattle.bk_simple.specs.Border.{rectangle_of}
-use Rattle.std.specs.List.{All}
-use Rattle.bk_tiling.specs.KeptTiling.{IsKept}
 use Rattle.bk_tiling.specs.Sharing.{EdgesFit}
-use Rattle.bk_simple.proofs.UncutParts.{side_at, within_at}
-use Rattle.bk_tiling.specs.Tiling.{Rectangle, Tiling}
+use Rattle.bk_simple.proofs.UncutParts.{side_at}
+use Rattle.bk_tiling.specs.Tiling.{Rectangle}
 use Rattle.bk_simple.specs.CornerSquares.{IsBetween}
+use Rattle.bk_simple.proofs.KeptEdges.{edges_of_kept_fit, next_place_fits, place_in_memory_fits}
 use Rattle.bk_simple.proofs.part_at.Goals as goal
 use Rattle.bk_simple.proofs.part_at.Goals.{else-inside-ge2-via-then-inside-ge2+else-inside-order, else-inside-ge2-via-else-inside-ge2}
 
 abbrev none : Square
 none = record { x = 0; y = 0; s = 0 }
-
--- the edges of a square fit
-edges_fit : (t : Tiling) → IsKept t → All EdgesFit t.squares
-edges_fit t kept k d few =
-    let w = within_at t kept.tiling k d few in
-    (side_at t kept.tiling k d few, omega (arith, w.right, kept.width_fits), omega (arith, w.bottom, kept.height_fits))
-
--- the place of a square in memory fits
-place_fits : (t : Tiling) → IsKept t → (k : ℕ) → k < length t.squares → Fits w64 (k * 24)
-place_fits t kept k few = omega (arith, few, kept.few)
-
--- the place after a square's fits
-step_fits : (t : Tiling) → IsKept t → (k : ℕ) → k < length t.squares → Fits w64 (k + 1)
-step_fits t kept k few = omega (arith, few, kept.few)
 
 -- the edges of a rectangle that ends with a square fit
 corner_fits : (p q : Square) (r : Rectangle) → IsBetween p q r → EdgesFit q → (r.x + r.width < 2 ^ 64) × (r.y + r.height < 2 ^ 64)
@@ -65,24 +50,24 @@ returns-else-inside-ge2-clause-none c =
     ]
 
 pub offset_bounds-squares-i : goal.offset_bounds-squares-i
-offset_bounds-squares-i c = place_fits c.args.tiling.now c.squares-squares.ensures.kept c.args.i c.requires.first
+offset_bounds-squares-i c = place_in_memory_fits c.args.tiling.now c.squares-squares.ensures.kept c.args.i c.requires.first
 
 pub bounds-squares-i : goal.bounds-squares-i
 bounds-squares-i c = rw c.squares-squares.ensures.value c.requires.first
 
 pub offset_bounds-squares-j : goal.offset_bounds-squares-j
-offset_bounds-squares-j c = place_fits c.args.tiling.now c.squares-squares.ensures.kept c.args.j c.requires.last
+offset_bounds-squares-j c = place_in_memory_fits c.args.tiling.now c.squares-squares.ensures.kept c.args.j c.requires.last
 
 pub bounds-squares-j : goal.bounds-squares-j
 bounds-squares-j c = rw c.squares-squares.ensures.value c.requires.last
 
 pub between-requires-clause-p_fits : goal.between-requires-clause-p_fits
 between-requires-clause-p_fits c =
-    rw c.squares-squares.ensures.value (let e = edges_fit c.args.tiling.now c.squares-squares.ensures.kept c.args.i none c.requires.first in (e.1, e.2))
+    rw c.squares-squares.ensures.value (let e = edges_of_kept_fit c.args.tiling.now c.squares-squares.ensures.kept c.args.i none c.requires.first in (e.1, e.2))
 
 pub between-requires-clause-q_fits : goal.between-requires-clause-q_fits
 between-requires-clause-q_fits c =
-    rw c.squares-squares.ensures.value (let e = edges_fit c.args.tiling.now c.squares-squares.ensures.kept c.args.j none c.requires.last in (e.1, e.2))
+    rw c.squares-squares.ensures.value (let e = edges_of_kept_fit c.args.tiling.now c.squares-squares.ensures.kept c.args.j none c.requires.last in (e.1, e.2))
 
 pub between-requires-clause-sides : goal.between-requires-clause-sides
 between-requires-clause-sides c =
@@ -95,7 +80,7 @@ pub returns-in_err-tried-clause-part : goal.returns-in_err-tried-clause-part
 returns-in_err-tried-clause-part c = rw c.from_residual.ensures tt
 
 pub overflow_add-i : goal.overflow_add-i
-overflow_add-i c = step_fits c.args.tiling.now c.squares-squares.ensures.kept c.args.i c.requires.first
+overflow_add-i c = next_place_fits c.args.tiling.now c.squares-squares.ensures.kept c.args.i c.requires.first
 
 pub count_inside-requires-clause-place : goal.count_inside-requires-clause-place
 count_inside-requires-clause-place c = omega (arith, c.requires.first)
@@ -104,7 +89,7 @@ pub count_inside-requires-clause-fits : goal.count_inside-requires-clause-fits
 count_inside-requires-clause-fits c =
     corner_fits _ (get_or c.args.tiling.now.squares c.args.j none) (rectangle_of c.in_ok-tried.tried)
     (rw c.squares-squares.ensures.value at c.in_ok-tried.ensures.some).corners
-    (edges_fit c.args.tiling.now c.squares-squares.ensures.kept c.args.j none c.requires.last)
+    (edges_of_kept_fit c.args.tiling.now c.squares-squares.ensures.kept c.args.j none c.requires.last)
 
 pub returns-in_err-inside-clause-part : goal.returns-in_err-inside-clause-part
 returns-in_err-inside-clause-part c = rw c.from_residual-in_err-inside.ensures tt

@@ -1,23 +1,15 @@
-use Rattle.std.proofs.Common.{arith, get_or, length, subst, ◌<◌, ◌≡◌, Fits, w64, ℕ, ◌*◌, ◌+◌}
-use Rattle.bk_tiling.specs.Tiling.{order, Tiling}
+use Rattle.std.proofs.Common.{arith, get_or, length, subst, ◌<◌, ◌≡◌}
+use Rattle.bk_tiling.specs.Tiling.{order}
 use Rattle.bk_simple.proofs.PartTrials.{NoneBelow, none_below_start, none_from, first_from}
 use Rattle.bk_tiling.specs.declared.Square.{Square}
 use Rattle.bk_simple.proofs.Reaching.{none_behind}
 use Rattle.bk_simple.proofs.Seams.{none_higher}
-use Rattle.bk_tiling.specs.KeptTiling.{IsKept}
 use Rattle.bk_simple.specs.Border.{rectangle_of}
+use Rattle.bk_simple.proofs.KeptEdges.{next_place_fits, place_in_memory_fits}
 use Rattle.bk_simple.proofs.part_from.Goals as goal
 
 abbrev none : Square
 none = record { x = 0; y = 0; s = 0 }
-
--- the place of a square in memory fits
-place_fits : (t : Tiling) → IsKept t → (k : ℕ) → k < length t.squares → Fits w64 (k * 24)
-place_fits t kept k few = omega (arith, few, kept.few)
-
--- the place after a square's fits
-step_fits : (t : Tiling) → IsKept t → (k : ℕ) → k < length t.squares → Fits w64 (k + 1)
-step_fits t kept k few = omega (arith, few, kept.few)
 
 pub returns-then-crosses-clause-none : goal.returns-then-crosses-clause-none
 returns-then-crosses-clause-none c =
@@ -41,23 +33,24 @@ pub right_end-requires : goal.right_end-requires
 right_end-requires c = c.requires
 
 pub overflow_step-j : goal.overflow_step-j
-overflow_step-j c = step_fits c.args.tiling.now c.squares-squares.ensures.kept c.args.i c.requires
+overflow_step-j c = next_place_fits c.args.tiling.now c.squares-squares.ensures.kept c.args.i c.requires
 
 pub offset_bounds-squares-j : goal.offset_bounds-squares-j
-offset_bounds-squares-j c = place_fits c.args.tiling.now c.squares-squares.ensures.kept c.loop-j.j (rw c.order-j-end.ensures.value at c.loop-j-test.true)
+offset_bounds-squares-j c = place_in_memory_fits c.args.tiling.now c.squares-squares.ensures.kept c.loop-j.j
+    (rw c.order-j-end.ensures.value at c.loop-j-test.true)
 
 pub bounds-squares-j : goal.bounds-squares-j
 bounds-squares-j c = rw c.squares-squares.ensures.value (rw c.order-j-end.ensures.value at c.loop-j-test.true)
 
 pub offset_bounds-squares-j-in-loop-j : goal.offset_bounds-squares-j-in-loop-j
 offset_bounds-squares-j-in-loop-j c =
-    place_fits c.args.tiling.now c.squares-squares.ensures.kept c.loop-j.j (rw c.order-j-end.ensures.value at c.loop-j-test.true)
+    place_in_memory_fits c.args.tiling.now c.squares-squares.ensures.kept c.loop-j.j (rw c.order-j-end.ensures.value at c.loop-j-test.true)
 
 pub bounds-squares-j-in-loop-j : goal.bounds-squares-j-in-loop-j
 bounds-squares-j-in-loop-j c = rw c.squares-squares.ensures.value (rw c.order-j-end.ensures.value at c.loop-j-test.true)
 
 pub offset_bounds-squares-i : goal.offset_bounds-squares-i
-offset_bounds-squares-i c = place_fits c.args.tiling.now c.squares-squares.ensures.kept c.args.i c.requires
+offset_bounds-squares-i c = place_in_memory_fits c.args.tiling.now c.squares-squares.ensures.kept c.args.i c.requires
 
 pub bounds-squares-i : goal.bounds-squares-i
 bounds-squares-i c = rw c.squares-squares.ensures.value c.requires

@@ -1,38 +1,13 @@
-use Rattle.std.proofs.Common.{arith, Fits, length, w64, ℕ, ◌*◌, ◌+◌, ◌<◌, ◌≡◌, ◌^◌}
+use Rattle.std.proofs.Common.{arith}
 use Rattle.bk_tiling.specs.declared.Square.{Square}
 use Rattle.bk_simple.proofs.Seams.{none_wider, run_more, run_start}
-use Rattle.std.specs.List.{All}
-use Rattle.bk_tiling.specs.KeptTiling.{IsKept}
-use Rattle.bk_tiling.specs.Sharing.{EdgesFit}
-use Rattle.bk_simple.proofs.UncutParts.{side_at, within_at}
-use Rattle.bk_tiling.specs.Tiling.{Tiling}
+use Rattle.bk_laws.proofs.FixedWidths.{number_below_fits}
+use Rattle.bk_simple.proofs.KeptEdges.{edges_of_kept_fit, end_from_column_fits, next_place_fits, place_in_memory_fits}
 use Rattle.bk_simple.proofs.right_end.Goals as goal
 use Rattle.bk_simple.proofs.right_end.Goals.{then-q-squares-via-else-q-squares+then-q-end, then-q-squares-via-then-q-squares}
 
 abbrev none : Square
 none = record { x = 0; y = 0; s = 0 }
-
--- the edges of a square fit
-edges_fit : (t : Tiling) → IsKept t → All EdgesFit t.squares
-edges_fit t kept k d few =
-    let w = within_at t kept.tiling k d few in
-    (side_at t kept.tiling k d few, omega (arith, w.right, kept.width_fits), omega (arith, w.bottom, kept.height_fits))
-
--- a number below that bound fits
-fits_below : {n : ℕ} → n < 2 ^ 64 → Fits w64 n
-fits_below low = omega (arith, low)
-
--- the place of a square in memory fits
-place_fits : (t : Tiling) → IsKept t → (k : ℕ) → k < length t.squares → Fits w64 (k * 24)
-place_fits t kept k few = omega (arith, few, kept.few)
-
--- the place after a square's fits
-step_fits : (t : Tiling) → IsKept t → (k : ℕ) → k < length t.squares → Fits w64 (k + 1)
-step_fits t kept k few = omega (arith, few, kept.few)
-
--- the end of a square at a column fits
-end_fits : (q : Square) (end : ℕ) → q.x ≡ end → EdgesFit q → Fits w64 (end + q.s)
-end_fits q end begins fits = omega (arith, begins, fits.1)
 
 pub returns-then-q-squares : goal.returns-then-q-squares
 returns-then-q-squares c =
@@ -48,42 +23,44 @@ returns c =
     (λ few level begins. omega (arith, few, c.loop-k-test.false, c.order-k-end.ensures.value))
 
 pub offset_bounds-squares-i : goal.offset_bounds-squares-i
-offset_bounds-squares-i c = place_fits c.args.tiling.now c.squares-squares.ensures.kept c.args.i c.requires
+offset_bounds-squares-i c = place_in_memory_fits c.args.tiling.now c.squares-squares.ensures.kept c.args.i c.requires
 
 pub bounds-squares-i : goal.bounds-squares-i
 bounds-squares-i c = rw c.squares-squares.ensures.value c.requires
 
 pub offset_bounds-squares-i-2 : goal.offset_bounds-squares-i-2
-offset_bounds-squares-i-2 c = place_fits c.args.tiling.now c.squares-squares.ensures.kept c.args.i c.requires
+offset_bounds-squares-i-2 c = place_in_memory_fits c.args.tiling.now c.squares-squares.ensures.kept c.args.i c.requires
 
 pub bounds-squares-i-2 : goal.bounds-squares-i-2
 bounds-squares-i-2 c = rw c.squares-squares.ensures.value c.requires
 
 pub overflow_add-end : goal.overflow_add-end
-overflow_add-end c = rw c.squares-squares.ensures.value (fits_below (edges_fit c.args.tiling.now c.squares-squares.ensures.kept c.args.i none c.requires).1)
+overflow_add-end c = rw c.squares-squares.ensures.value (number_below_fits
+    (edges_of_kept_fit c.args.tiling.now c.squares-squares.ensures.kept c.args.i none c.requires).1)
 
 pub overflow_step-k : goal.overflow_step-k
-overflow_step-k c = step_fits c.args.tiling.now c.squares-squares.ensures.kept c.args.i c.requires
+overflow_step-k c = next_place_fits c.args.tiling.now c.squares-squares.ensures.kept c.args.i c.requires
 
 pub loop-k-init : goal.loop-k-init
 loop-k-init c = rw c.squares-squares.ensures.value (run_start c.args.tiling.now c.squares-squares.ensures.kept.tiling c.args.i none c.requires)
 
 pub offset_bounds-squares-k : goal.offset_bounds-squares-k
-offset_bounds-squares-k c = place_fits c.args.tiling.now c.squares-squares.ensures.kept c.loop-k.k (rw c.order-k-end.ensures.value at c.loop-k-test.true)
+offset_bounds-squares-k c = place_in_memory_fits c.args.tiling.now c.squares-squares.ensures.kept c.loop-k.k
+    (rw c.order-k-end.ensures.value at c.loop-k-test.true)
 
 pub bounds-squares-k : goal.bounds-squares-k
 bounds-squares-k c = rw c.squares-squares.ensures.value (rw c.order-k-end.ensures.value at c.loop-k-test.true)
 
 pub offset_bounds-squares-i-in-loop-k : goal.offset_bounds-squares-i-in-loop-k
-offset_bounds-squares-i-in-loop-k c = place_fits c.args.tiling.now c.squares-squares.ensures.kept c.args.i c.requires
+offset_bounds-squares-i-in-loop-k c = place_in_memory_fits c.args.tiling.now c.squares-squares.ensures.kept c.args.i c.requires
 
 pub bounds-squares-i-in-loop-k : goal.bounds-squares-i-in-loop-k
 bounds-squares-i-in-loop-k c = rw c.squares-squares.ensures.value c.requires
 
 pub overflow_add-end-in-loop-k : goal.overflow_add-end-in-loop-k
 overflow_add-end-in-loop-k c =
-    rw c.squares-squares.ensures.value (end_fits _ _ (rw c.squares-squares.ensures.value at c.if-q-end.false)
-    (edges_fit c.args.tiling.now c.squares-squares.ensures.kept c.loop-k.k none (rw c.order-k-end.ensures.value at c.loop-k-test.true)))
+    rw c.squares-squares.ensures.value (end_from_column_fits _ _ (rw c.squares-squares.ensures.value at c.if-q-end.false)
+    (edges_of_kept_fit c.args.tiling.now c.squares-squares.ensures.kept c.loop-k.k none (rw c.order-k-end.ensures.value at c.loop-k-test.true)))
 
 pub loop-k-preserved : goal.loop-k-preserved
 loop-k-preserved c =

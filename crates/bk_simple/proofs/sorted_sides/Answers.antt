@@ -1,6 +1,5 @@
 use Rattle.std.specs.List.Sorted.{IsPermutation}
-use Rattle.std.proofs.Common.{List, ap, arith, length, map, subst, ℕ, ◌++◌, ◌∙◌}
-use Rattle.std.proofs.lemmas.List.{length-map}
+use Rattle.std.proofs.Common.{List, ap, arith, length, subst, ℕ, ◌++◌, ◌∙◌}
 use Rattle.arrayvec.proofs.ArrayVecLemmas.{items-with_items}
 use Rattle.std.proofs.lemmas.List.Sorted.{IsNonDecreasingBy-from_sort}
 use Rattle.bk_tiling.specs.Tiling.{sides_of}

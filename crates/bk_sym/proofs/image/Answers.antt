@@ -1,24 +1,17 @@
-use Rattle.std.proofs.Common.{List, ap, map, subst, sym, ℕ, ◌∙◌, ◌≡◌, arith, get_or, length, ◌+◌, ◌<◌, ◌≤◌, [], lit<, take, ◌++◌, ◌∷◌}
+use Rattle.std.proofs.Common.{List, ap, map, subst, sym, ℕ, ◌∙◌, ◌≡◌, arith, length, ◌<◌, ◌≤◌, [], lit<, take, ◌++◌, ◌∷◌}
 use Rattle.bk_tiling.specs.CodeOrder.{in_code_order}
 use Rattle.bk_tiling.specs.KeptTiling.{IsKept}
 use Rattle.bk_tiling.specs.Refusal.{HaveSides, ShareNoCell}
-use Rattle.bk_tiling.specs.Tiling.{Tiling, IsTiling, IsWithin, whole}
+use Rattle.bk_tiling.specs.Tiling.{Tiling}
 use Rattle.bk_tiling.specs.declared.Square.{Square}
 use Rattle.bk_sym.proofs.KeptImages.{all_turned, kept_image, made, turned_apart, turned_sides}
 use Rattle.bk_sym.specs.Image.{image, image_size, image_square}
-use Rattle.std.proofs.lemmas.List.Elements.{All-from_recursion}
 use Rattle.std.proofs.lemmas.List.{length-map, length-take, map_more}
+use Rattle.bk_sym.proofs.SquaresWithin.{within_by_numbers}
 use Rattle.bk_sym.proofs.image.Goals as goal
 
 abbrev none : Square
 none = record { x = 0; y = 0; s = 0 }
-
--- a square of a tiling is within it, by the code's numbers
-within_at : (t : Tiling) → IsTiling t → (w h : ℕ) (squares : List Square) → w ≡ t.width → h ≡ t.height → squares ≡ t.squares
-    → (k : ℕ) → k < length squares → ((get_or squares k none).x + (get_or squares k none).s ≤ w) × ((get_or squares k none).y + (get_or squares k none).s ≤ h)
-within_at t tiling w h squares wide high value k few =
-    let e = All-from_recursion (IsWithin (whole t)) t.squares tiling.tiles.within k none (rw value at few) in
-    rw (wide, high, value) (omega (arith, e.right), omega (arith, e.bottom))
 
 -- the squares made so far leave room
 room : (f : Square → Square) (made squares : List Square) (k : ℕ) → made ≡ map f
@@ -55,15 +48,15 @@ from_known-requires c =
 
 pub turned-requires-clause-right : goal.turned-requires-clause-right
 turned-requires-clause-right c =
-    (within_at c.args.tiling.now c.squares-q-items.ensures.kept.tiling c.width-width.result c.height-height.result c.squares-q-items.result.now
+    (within_by_numbers c.args.tiling.now c.squares-q-items.ensures.kept.tiling c.width-width.result c.height-height.result c.squares-q-items.result.now
     c.width-width.ensures.value c.height-height.ensures.value
-    c.squares-q-items.ensures.value c.loop-q.q-index c.loop-q-test.true).0
+    c.squares-q-items.ensures.value c.loop-q.q-index none c.loop-q-test.true).0
 
 pub turned-requires-clause-bottom : goal.turned-requires-clause-bottom
 turned-requires-clause-bottom c =
-    (within_at c.args.tiling.now c.squares-q-items.ensures.kept.tiling c.width-width.result c.height-height.result c.squares-q-items.result.now
+    (within_by_numbers c.args.tiling.now c.squares-q-items.ensures.kept.tiling c.width-width.result c.height-height.result c.squares-q-items.result.now
     c.width-width.ensures.value c.height-height.ensures.value
-    c.squares-q-items.ensures.value c.loop-q.q-index c.loop-q-test.true).1
+    c.squares-q-items.ensures.value c.loop-q.q-index none c.loop-q-test.true).1
 
 pub push-requires : goal.push-requires
 push-requires c = (

@@ -1,9 +1,9 @@
-use Rattle.std.proofs.Common.{ap, subst, sym, ◌∙◌, ◌≡◌, List, [], arith, get_or, length, lit<, map, take, ℕ, ◌++◌, ◌/◌, ◌<◌, ◌∷◌, ◌≤◌}
+use Rattle.std.proofs.Common.{ap, subst, sym, ◌∙◌, ◌≡◌, List, [], arith, get_or, length, lit<, map, take, ℕ, ◌++◌, ◌<◌, ◌∷◌, ◌≤◌}
 use Rattle.bk_tiling.specs.KeptTiling.{IsKept}
 use Rattle.bk_tiling.specs.Scale.{IsPrimitiveTiling, enlarged}
 use Rattle.bk_tiling.specs.Tiling.{Tiling}
 use Rattle.bk_sym.proofs.CanonicalPrimitive.{scaled_primitive}
-use Rattle.bk_sym.proofs.KeptImages.{kept_scaled, scaled_made}
+use Rattle.bk_sym.proofs.KeptImages.{divided_square, kept_scaled, scaled_made}
 use Rattle.bk_sym.proofs.ScaledDown.{side_divisor, whole_again}
 use Rattle.bk_sym.specs.Canonical.{scaled_down_tiling}
 use Rattle.std.proofs.lemmas.List.{length-map, length-take, map_more}
@@ -12,10 +12,6 @@ use Rattle.bk_sym.proofs.scale_down.Goals as goal
 
 abbrev none : Square
 none = record { x = 0; y = 0; s = 0 }
-
--- a square with its place and its side divided
-abbrev divided : ℕ → Square → Square
-divided d q = record { x = q.x / d; y = q.y / d; s = q.s / d }
 
 -- the squares made so far leave room
 room : (f : Square → Square) (made squares : List Square) (k : ℕ) → made ≡ map f
@@ -63,15 +59,15 @@ pub push-requires : goal.push-requires
 push-requires c = (
   lit< tt,
   room
-      (divided c.side_divisor-divisor.result) c.loop-q.squares.items c.squares-q-items.result.now c.loop-q.q-index c.loop-q.invariant
+      (divided_square c.side_divisor-divisor.result) c.loop-q.squares.items c.squares-q-items.result.now c.loop-q.q-index c.loop-q.invariant
       c.loop-q-test.true (rw c.squares-q-items.ensures.value c.squares-q-items.ensures.kept.few),
 )
 
 pub loop-q-preserved : goal.loop-q-preserved
 loop-q-preserved c =
-    c.push.ensures.items ∙ ap (λ (s : List Square). s ++ divided c.side_divisor-divisor.result
+    c.push.ensures.items ∙ ap (λ (s : List Square). s ++ divided_square c.side_divisor-divisor.result
     (get_or c.squares-q-items.result.now c.loop-q.q-index none) ∷ []) c.loop-q.invariant
-    ∙ sym (map_more (divided c.side_divisor-divisor.result) c.squares-q-items.result.now c.loop-q.q-index none c.loop-q-test.true)
+    ∙ sym (map_more (divided_square c.side_divisor-divisor.result) c.squares-q-items.result.now c.loop-q.q-index none c.loop-q-test.true)
 
 pub returns-clause-value : goal.returns-clause-value
 returns-clause-value c = same c

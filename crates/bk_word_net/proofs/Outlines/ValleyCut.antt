@@ -1,7 +1,7 @@
 -- An outline cut at its leftmost valley, and the outline after a move as one of the same parts: only the valley and the
 -- segments beside it give way.
 use Rattle.std.specs.List.{AllByRecursion}
-use Rattle.std.proofs.Common.{List, [], ap, arith, false, inl, inr, length, refl, suc, true, ℕ, ◌++◌, ◌+◌, ◌∙◌, ◌∷◌, ◌≡◌, ◌⊎◌}
+use Rattle.std.proofs.Common.{Bool, List, [], ap, arith, false, inl, inr, length, refl, suc, true, ℕ, ◌++◌, ◌+◌, ◌∙◌, ◌∷◌, ◌≡◌, ◌⊎◌}
 use Rattle.std.proofs.lemmas.Bool.{both_ways}
 use Rattle.std.proofs.lemmas.List.{append_assoc, length-append}
 use Rattle.bk_word.specs.Outline.{Outline, valley_place}
@@ -107,39 +107,53 @@ pub record AtValley (o : Outline) : Type 0 where
   pub before_part : AllPart before_signs
   pub after_part : AllPart after_signs
 
--- the last of some segments and the sign behind it, which is under
-pub record Last (segments : List (List ℕ)) (signs : List Sign) : Type 0 where
-  pub before : List (List ℕ)
-  pub left : List (List ℕ)
-  pub before_signs : List Sign
-  pub left_signs : List Sign
-  pub segments_are : segments ≡ before ++ left
-  pub signs_are : signs ≡ before_signs ++ left_signs
-  pub many : length before ≡ length before_signs
-  pub beside : Beside Under left left_signs
-  pub none : (left ≡ []) → before ≡ []
-  pub part : AllPart before_signs
+-- a list with what stands at its end, or at its start
+abbrev pub with_end : {A : Type 0} → Bool → List A → List A → List A
+with_end true rest end = rest ++ end
+with_end false rest end = end ++ rest
 
-last_of : (segments : List (List ℕ)) (signs : List Sign) → length segments ≡ length signs → AllByRecursion (λ s. s ≡ Under) signs → Last segments signs
-last_of [] [] many falls = record {
-  before = [];
-  left = [];
-  before_signs = [];
-  left_signs = [];
-  segments_are = refl;
-  signs_are = refl;
+no_end : {A : Type 0} (last : Bool) → [] ≡ with_end {A = A} last [] []
+no_end true = refl
+no_end false = refl
+
+-- the last of some segments, or the first, and the sign between it and the valley beside them
+pub record End (last : Bool) (sign : Sign) (segments : List (List ℕ)) (signs : List Sign) : Type 0 where
+  pub rest : List (List ℕ)
+  pub end : List (List ℕ)
+  pub rest_signs : List Sign
+  pub end_signs : List Sign
+  pub segments_are : segments ≡ with_end last rest end
+  pub signs_are : signs ≡ with_end last rest_signs end_signs
+  pub many : length rest ≡ length rest_signs
+  pub beside : Beside sign end end_signs
+  pub none : (end ≡ []) → rest ≡ []
+  pub part : AllPart rest_signs
+
+-- of no segment there is no end
+end_of_none : (last : Bool) (sign : Sign) → End last sign [] []
+end_of_none last sign = record {
+  rest = [];
+  end = [];
+  rest_signs = [];
+  end_signs = [];
+  segments_are = no_end last;
+  signs_are = no_end last;
   many = refl;
   beside = inl (refl, refl);
   none = λ e. refl;
   part = tt;
 }
+
+last_of : (segments : List (List ℕ)) (signs : List Sign) → length segments ≡ length signs → AllByRecursion (λ s. s ≡ Under) signs
+    → End true Under segments signs
+last_of [] [] many falls = end_of_none true Under
 last_of [] (g ∷ signs) many falls = absurd (omega arith)
 last_of (s ∷ segments) [] many falls = absurd (omega arith)
 last_of (s ∷ []) (g ∷ []) many falls = record {
-  before = [];
-  left = s ∷ [];
-  before_signs = [];
-  left_signs = g ∷ [];
+  rest = [];
+  end = s ∷ [];
+  rest_signs = [];
+  end_signs = g ∷ [];
   segments_are = refl;
   signs_are = refl;
   many = refl;
@@ -153,54 +167,30 @@ last_of (s ∷ t ∷ segments) (g ∷ signs) many falls = more (last_of (t ∷ s
     some : (l : List (List ℕ)) → t ∷ segments ≡ [] ++ l → l ≡ [] → ⊥
     some l e n = let f : t ∷ segments ≡ [] = e ∙ n in cc
 
-    more : Last (t ∷ segments) signs → Last (s ∷ t ∷ segments) (g ∷ signs)
+    more : End true Under (t ∷ segments) signs → End true Under (s ∷ t ∷ segments) (g ∷ signs)
     more r = record {
-      before = s ∷ r.before;
-      left = r.left;
-      before_signs = g ∷ r.before_signs;
-      left_signs = r.left_signs;
+      rest = s ∷ r.rest;
+      end = r.end;
+      rest_signs = g ∷ r.rest_signs;
+      end_signs = r.end_signs;
       segments_are = ap (λ (l : List (List ℕ)). s ∷ l) r.segments_are;
       signs_are = ap (λ (l : List Sign). g ∷ l) r.signs_are;
       many = ap suc r.many;
       beside = r.beside;
-      none = λ e. absurd (some r.left (r.segments_are ∙ ap (λ (l : List (List ℕ)). l ++ r.left) (r.none e)) e);
+      none = λ e. absurd (some r.end (r.segments_are ∙ ap (λ (l : List (List ℕ)). l ++ r.end) (r.none e)) e);
       part = (ap parts falls.0, r.part);
     }
 
--- the first of some segments and the sign before it, which is above
-pub record First (segments : List (List ℕ)) (signs : List Sign) : Type 0 where
-  pub right : List (List ℕ)
-  pub after : List (List ℕ)
-  pub right_signs : List Sign
-  pub after_signs : List Sign
-  pub segments_are : segments ≡ right ++ after
-  pub signs_are : signs ≡ right_signs ++ after_signs
-  pub many : length after ≡ length after_signs
-  pub beside : Beside Above right right_signs
-  pub none : (right ≡ []) → after ≡ []
-  pub part : AllPart after_signs
-
 first_of : (segments : List (List ℕ)) (signs : List Sign) → length segments ≡ length signs → (signs ≡ [])
-    ⊎ ((rest : List Sign) × (signs ≡ Above ∷ rest)) → AllPart signs → First segments signs
-first_of [] [] many rises part = record {
-  right = [];
-  after = [];
-  right_signs = [];
-  after_signs = [];
-  segments_are = refl;
-  signs_are = refl;
-  many = refl;
-  beside = inl (refl, refl);
-  none = λ e. refl;
-  part = tt;
-}
+    ⊎ ((rest : List Sign) × (signs ≡ Above ∷ rest)) → AllPart signs → End false Above segments signs
+first_of [] [] many rises part = end_of_none false Above
 first_of [] (g ∷ signs) many rises part = absurd (omega arith)
 first_of (s ∷ segments) [] many rises part = absurd (omega arith)
 first_of (s ∷ segments) (g ∷ signs) many rises part = record {
-  right = s ∷ [];
-  after = segments;
-  right_signs = g ∷ [];
-  after_signs = signs;
+  rest = segments;
+  end = s ∷ [];
+  rest_signs = signs;
+  end_signs = g ∷ [];
   segments_are = refl;
   signs_are = refl;
   many = omega arith;
@@ -220,22 +210,22 @@ first_of (s ∷ segments) (g ∷ signs) many rises part = record {
 pub at_valley : (o : Outline) → AllPart o.signs → length o.segments ≡ length o.signs + 1 → AtValley o
 at_valley o part many = whole (split o.segments o.signs part many)
   where
-    ends : (r : Split o.segments o.signs) → Last r.fronts r.front_signs → First r.backs r.back_signs → AtValley o
+    ends : (r : Split o.segments o.signs) → End true Under r.fronts r.front_signs → End false Above r.backs r.back_signs → AtValley o
     ends r l f = record {
-      before = l.before;
-      left = l.left;
+      before = l.rest;
+      left = l.end;
       valley = r.valley;
-      right = f.right;
-      after = f.after;
-      before_signs = l.before_signs;
-      left_signs = l.left_signs;
-      right_signs = f.right_signs;
-      after_signs = f.after_signs;
-      segments = r.segments_are ∙ (λ i. l.segments_are i ++ r.valley ∷ f.segments_are i) ∙ append_assoc l.before l.left (r.valley ∷ (f.right ++ f.after));
-      signs = r.signs_are ∙ (λ i. l.signs_are i ++ f.signs_are i) ∙ append_assoc l.before_signs l.left_signs (f.right_signs ++ f.after_signs);
+      right = f.end;
+      after = f.rest;
+      before_signs = l.rest_signs;
+      left_signs = l.end_signs;
+      right_signs = f.end_signs;
+      after_signs = f.rest_signs;
+      segments = r.segments_are ∙ (λ i. l.segments_are i ++ r.valley ∷ f.segments_are i) ∙ append_assoc l.rest l.end (r.valley ∷ (f.end ++ f.rest));
+      signs = r.signs_are ∙ (λ i. l.signs_are i ++ f.signs_are i) ∙ append_assoc l.rest_signs l.end_signs (f.end_signs ++ f.rest_signs);
       before_many = l.many;
       after_many = f.many;
-      place = r.place ∙ ap length l.segments_are ∙ length-append l.before l.left;
+      place = r.place ∙ ap length l.segments_are ∙ length-append l.rest l.end;
       left_beside = l.beside;
       right_beside = f.beside;
       no_before = l.none;

@@ -32,19 +32,20 @@ module _ (O : Outline) (played : Played O) (f : Flow) (flow : IsFlow (net_after 
     (width_is : width ≡ out_sum O.hung s.sides 0) where
   module _ (laid : List Square) (o : Outline) (m : Move) (own : Played o) (base : Base O played f flow s width width_is laid o) (some : 0 < m.count) (later
       : IsLater (after_move o m) O) where
+    -- the number of a laid square is that of a wire
+    wire_of : (k : ℕ) (q : Square) → slice_get laid k ≡ Some q → k < length O.hung
+    wire_of k q e = omega (
+      arith,
+      slice_get_within laid k q e,
+      base.count,
+      ap length (hung_is O played f flow s width width_is laid o m own base some later),
+      length-append o.hung (replicate m.count (length o.closed) ++ later.hung),
+    )
+
     -- the bottom of a laid square
     bottom_of : (k : ℕ) (q : Square) → slice_get laid k ≡ Some q → pos (q.y + q.s) ≡ potential f 0 -ℤ potential f (end_of (O.closed ++ O.segments) (1 + k))
-    bottom_of k q e = omega (arith, ints, base.tops k q e, drop_of O played.numbered f flow s k few, side)
+    bottom_of k q e = omega (arith, ints, base.tops k q e, drop_of O played.numbered f flow s k (wire_of k q e), side)
       where
-        few : k < length O.hung
-        few = omega (
-          arith,
-          slice_get_within laid k q e,
-          base.count,
-          ap length (hung_is O played f flow s width width_is laid o m own base some later),
-          length-append o.hung (replicate m.count (length o.closed) ++ later.hung),
-        )
-
         side : slice_index_or s.sides k 0 ≡ q.s
         side = index_got s.sides k q.s (subst (λ (l : List ℕ). slice_get l k ≡ Some q.s) (sym base.prefix)
             (get_append (laid_sides laid) base.rest k q.s (get_side laid k q e)))
@@ -74,17 +75,8 @@ module _ (O : Outline) (played : Played O) (f : Flow) (flow : IsFlow (net_after 
     ends_here : (n : ℕ) (q : Square) → 0 < times n (valley_of o) → IsNumbered laid n q → pos (q.y + q.s) ≡ potential f 0 -ℤ potential f (length o.closed)
     ends_here n q h (k, is, at) = bottom_of k q at ∙ ap (λ (v : ℕ). potential f 0 -ℤ potential f v) place
       where
-        few : k < length O.hung
-        few = omega (
-          arith,
-          slice_get_within laid k q at,
-          base.count,
-          ap length (hung_is O played f flow s width width_is laid o m own base some later),
-          length-append o.hung (replicate m.count (length o.closed) ++ later.hung),
-        )
-
         p : HasPlace (1 + k) (O.closed ++ O.segments) (end_of (O.closed ++ O.segments) (1 + k))
-        p = place_of_number O played.numbered (1 + k) (omega arith) (omega (arith, few))
+        p = place_of_number O played.numbered (1 + k) (omega arith) (omega (arith, wire_of k q at))
 
         stands : times (1 + k) (slice_index_or (O.closed ++ O.segments) (length o.closed) []) ≡ times n (valley_of o)
         stands = ap (times (1 + k)) (get_front O.closed O.segments (length o.closed) [] few_closed ∙ closed_at) ∙ (λ i. times (number i) (valley_of o))

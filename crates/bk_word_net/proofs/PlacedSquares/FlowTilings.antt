@@ -34,7 +34,7 @@ use Rattle.bk_word_net.proofs.WordFlows.LaidFlow.{pos_sides}
 use Rattle.bk_word_net.proofs.WordFlows.NoLoose.{Played, closed_count, played_start, played_word}
 use Rattle.bk_word_net.proofs.WordFlows.Sums.{out_sum, weighted, weighted_nil}
 use Rattle.bk_word_net.specs.FlowTiling.{AFlowPlacesATiling, APrimitiveFlowIsAPrimitiveTiling, IsTilingByFlow, PlacesWord}
-use Rattle.bk_word_net.specs.WordFlow.{LaidAlong}
+use Rattle.bk_word_net.specs.WordFlow.{LaidAlong, laid_so_far}
 use Rattle.bk_word_net.specs.WordNet.{end_of, net_after}
 
 module _ (w : Word) (f : Flow) (complete : IsComplete w) (flow : IsFlow (net_after (outline_of w)) f) (places : PlacesWord w f) where
@@ -119,7 +119,7 @@ module _ (w : Word) (f : Flow) (complete : IsComplete w) (flow : IsFlow (net_aft
       number : n ≡ 1 + k
       number = omega (arith, is)
 
-  followed : IsWordOf the_tiling w × ((all_levels : List ℕ) × LaidAlong the_tiling [] [] w r.all all_levels)
+  followed : IsWordOf the_tiling w × ((all_levels : List ℕ) × LaidAlong the_tiling (laid_so_far [] []) w (laid_so_far r.all all_levels))
   followed = follow the_tiling tiling r.all (λ q h. in_order r.all q h)
       (all_deep (outline_of w) (played_word w complete) f flow (has_sides f places.long)
       (out_sum (outline_of w).hung (has_sides f places.long).sides 0) refl r.all r.base complete.one chain wide)

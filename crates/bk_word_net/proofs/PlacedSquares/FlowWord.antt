@@ -23,7 +23,7 @@ use Rattle.bk_lay.specs.Depiction.{Depicts, FillsFromTop, IsNumbered}
 use Rattle.bk_lay.specs.TilingWord.{IsLeftmostValley, MovesFollow, bottoms, move_under, signs_between, squares_under}
 use Rattle.bk_lay.specs.WordLaws.{NeverDeeperBefore}
 use Rattle.bk_word_net.specs.FlowTiling.{SignsCompare, bottoms_of_move}
-use Rattle.bk_word_net.specs.WordFlow.{LaidAlong}
+use Rattle.bk_word_net.specs.WordFlow.{LaidAlong, laid_so_far}
 use Rattle.bk_word_net.proofs.PlacedSquares.PlacedValley.{IsPlacing, Placing, low, new_is, placing_prefix}
 use Rattle.bk_word_net.proofs.PlacedSquares.MoveBottoms.{bottoms_are}
 
@@ -55,7 +55,7 @@ module _ (t : Tiling) (tiling : IsTiling t) (all : List Square) (all_in : (q : S
   -- the moves of a word whose sides are a flow's are the tiling's, one after another
   pub follow : (w : Word) (o : Outline) (laid : List Square) (nodes : List Segment) (ls : List ℕ) → FillsFromTop t laid
       → Depicts t laid nodes o → AreLegalFrom o w → Placing t.width laid o w all → SignsCompare bottom o w
-      → MovesFollow t laid w × ((all_levels : List ℕ) × LaidAlong t laid ls w all all_levels)
+      → MovesFollow t laid w × ((all_levels : List ℕ) × LaidAlong t (laid_so_far laid ls) w (laid_so_far all all_levels))
   follow [] o laid nodes ls fills d legal p signs = (λ c h. ap (λ (l : List Square). depth l c) p ∙ full c h, (ls ++ t.height ∷ [], (p, refl)))
   follow (m ∷ w) o laid nodes ls fills d legal (x, (level, (new, (turn, rest)))) signs =
       onto (follow w (after_move o m) (laid ++ laid_group x level new) (nodes ++ v.0 ∷ []) (ls ++ (v.0).level ∷ []) next_fills
@@ -85,9 +85,9 @@ module _ (t : Tiling) (tiling : IsTiling t) (all : List Square) (all_in : (q : S
           (move_depicts t laid nodes o v.0 tiling fills d v.1 down).1)
 
       onto : MovesFollow t (laid ++ laid_group x level new) w
-          × ((all_levels : List ℕ) × LaidAlong t (laid ++ laid_group x level new) (ls ++ (v.0).level ∷ []) w all all_levels)
-          → MovesFollow t laid (m ∷ w) × ((all_levels : List ℕ) × LaidAlong t laid ls (m ∷ w) all all_levels)
+          × ((all_levels : List ℕ) × LaidAlong t (laid_so_far (laid ++ laid_group x level new) (ls ++ (v.0).level ∷ [])) w (laid_so_far all all_levels))
+          → MovesFollow t laid (m ∷ w) × ((all_levels : List ℕ) × LaidAlong t (laid_so_far laid ls) (m ∷ w) (laid_so_far all all_levels))
       onto (a, (al, b)) = (
         (v.0, v.1, down, moves, subst (λ (l : List Square). MovesFollow t (laid ++ l) w) (sym news) a),
-        (al, (v.0, v.1, subst (λ (l : List Square). LaidAlong t (laid ++ l) (ls ++ (v.0).level ∷ []) w all al) (sym news) b)),
+        (al, (v.0, v.1, subst (λ (l : List Square). LaidAlong t (laid_so_far (laid ++ l) (ls ++ (v.0).level ∷ [])) w (laid_so_far all al)) (sym news) b)),
       )

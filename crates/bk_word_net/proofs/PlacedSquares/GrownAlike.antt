@@ -23,7 +23,7 @@ use Rattle.bk_lay.proofs.Valleys.{one_leftmost_valley}
 use Rattle.bk_lay.specs.Depiction.{IsNumbered, IsSegment}
 use Rattle.bk_lay.specs.TilingWord.{IsLeftmostValley, MovesFollow, squares_under}
 use Rattle.bk_word_net.proofs.TilingWords.AlongWord.{Along, HasBegun, NotBegun, along_move, top_valley}
-use Rattle.bk_word_net.specs.WordFlow.{LaidAlong}
+use Rattle.bk_word_net.specs.WordFlow.{LaidAlong, laid_so_far}
 
 get_enlarged : (k : ℕ) (squares : List Square) (n : ℕ) (q : Square) → slice_get squares n ≡ Some q
     → slice_get (map (enlarged_square k) squares) n ≡ Some (enlarged_square k q)
@@ -56,7 +56,7 @@ chains_alike m n (q ∷ ts) (r ∷ us) x y tend uend tlevel ulevel c d a b ex el
 
 -- what was laid stays first
 pub along_prefix : (t : Tiling) (laid : List Square) (levels : List ℕ) (w : Word) (all_laid : List Square) (all_levels : List ℕ)
-    → LaidAlong t laid levels w all_laid all_levels → (more : List Square) × (all_laid ≡ laid ++ more)
+    → LaidAlong t (laid_so_far laid levels) w (laid_so_far all_laid all_levels) → (more : List Square) × (all_laid ≡ laid ++ more)
 along_prefix t laid levels [] all_laid all_levels l = ([], sym l.0 ∙ sym (append-nil laid))
 along_prefix t laid levels (m ∷ w) all_laid all_levels l = let p =
     along_prefix t (laid ++ squares_under t l.0) (levels ++ (l.0).level ∷ []) w all_laid all_levels l.2 in
@@ -125,7 +125,7 @@ module _ (m n : ℕ) (t u : Tiling) (tiling : IsTiling t) (other : IsTiling u) w
   -- where the sides stand in proportion, so do the squares that the moves lay
   pub same_laid : (tl ul : List Square) (tn un : List Segment) (tv uv : List ℕ) (o : Outline) (w : Word) → Along t tl tn o → Along u ul un o
       → MovesFollow t tl w → MovesFollow u ul w
-      → (te ue : List Square) (ve we : List ℕ) → LaidAlong t tl tv w te ve → LaidAlong u ul uv w ue we
+      → (te ue : List Square) (ve we : List ℕ) → LaidAlong t (laid_so_far tl tv) w (laid_so_far te ve) → LaidAlong u (laid_so_far ul uv) w (laid_so_far ue we)
       → map (λ q. m * q.s) te ≡ map (λ q. n * q.s) ue → map (enlarged_square m) tl ≡ map (enlarged_square n) ul
       → map (enlarged_square m) te ≡ map (enlarged_square n) ue
   same_laid tl ul tn un tv uv o [] a b p q te ue ve we l k sides step = sym (ap (map (enlarged_square m)) l.0) ∙ step ∙ ap (map (enlarged_square n)) k.0
@@ -136,12 +136,12 @@ module _ (m n : ℕ) (t u : Tiling) (tiling : IsTiling t) (other : IsTiling u) w
       (subst (λ (n : Move). Along u (ul ++ squares_under u q.0) (un ++ q.0 ∷ []) (after_move o n)) (sym q.3) (along_move u ul un o q.0 other b q.1 q.2))
       p.4 q.4 te ue ve we tl_along ul_along sides next
     where
-      tl_along : LaidAlong t (tl ++ squares_under t p.0) (tv ++ (p.0).level ∷ []) w te ve
-      tl_along = subst (λ (v : Segment). LaidAlong t (tl ++ squares_under t v) (tv ++ v.level ∷ []) w te ve)
+      tl_along : LaidAlong t (laid_so_far (tl ++ squares_under t p.0) (tv ++ (p.0).level ∷ [])) w (laid_so_far te ve)
+      tl_along = subst (λ (v : Segment). LaidAlong t (laid_so_far (tl ++ squares_under t v) (tv ++ v.level ∷ [])) w (laid_so_far te ve))
           (one_leftmost_valley t.width tl l.0 p.0 l.1 p.1) l.2
 
-      ul_along : LaidAlong u (ul ++ squares_under u q.0) (uv ++ (q.0).level ∷ []) w ue we
-      ul_along = subst (λ (v : Segment). LaidAlong u (ul ++ squares_under u v) (uv ++ v.level ∷ []) w ue we)
+      ul_along : LaidAlong u (laid_so_far (ul ++ squares_under u q.0) (uv ++ (q.0).level ∷ [])) w (laid_so_far ue we)
+      ul_along = subst (λ (v : Segment). LaidAlong u (laid_so_far (ul ++ squares_under u v) (uv ++ v.level ∷ [])) w (laid_so_far ue we))
           (one_leftmost_valley u.width ul k.0 q.0 k.1 q.1) k.2
 
       counts : length (squares_under t p.0) ≡ length (squares_under u q.0)

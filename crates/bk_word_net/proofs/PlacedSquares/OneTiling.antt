@@ -20,7 +20,7 @@ use Rattle.bk_lay.specs.TilingWord.{MovesFollow, squares_under}
 use Rattle.bk_word_net.proofs.TilingWords.AlongWord.{AtEnd, along_start, at_end}
 use Rattle.bk_word_net.proofs.WordFlows.LaidFlow.{laid_sides_are_a_flow}
 use Rattle.bk_word_net.proofs.WordFlows.NoLoose.{a_word_has_one_flow}
-use Rattle.bk_word_net.specs.WordFlow.{AWordHasOneTiling, LaidAlong, LaidSidesFixATiling, laid_flow}
+use Rattle.bk_word_net.specs.WordFlow.{AWordHasOneTiling, LaidAlong, LaidSidesFixATiling, laid_flow, laid_so_far}
 use Rattle.bk_word_net.proofs.PlacedSquares.GrownAlike.{enlarged_alike, same_laid}
 
 -- the law: each move lays its squares in the one leftmost valley
@@ -58,7 +58,7 @@ laid_sides_fix_a_tiling t u w tl ul tv uv m n tiling other a b p q l k sides = e
 
 -- what is laid along a word
 pub laid_along : (t : Tiling) (laid : List Square) (levels : List ℕ) (w : Word) → MovesFollow t laid w → (all_laid : List Square)
-    × ((all_levels : List ℕ) × LaidAlong t laid levels w all_laid all_levels)
+    × ((all_levels : List ℕ) × LaidAlong t (laid_so_far laid levels) w (laid_so_far all_laid all_levels))
 laid_along t laid levels [] p = (laid, (levels ++ t.height ∷ [], (refl, refl)))
 laid_along t laid levels (m ∷ w) p = let rest = laid_along t (laid ++ squares_under t p.0) (levels ++ (p.0).level ∷ []) w p.4 in
     (rest.0, ((rest.1).0, (p.0, p.1, (rest.1).1)))
@@ -93,10 +93,10 @@ a_word_has_one_tiling t u w tiling other p q = (
       (tl.1).1 (ul.1).1 (sides_alike t.width u.width tl.0 ul.0 proportion),
 )
   where
-    tl : (laid : List Square) × ((levels : List ℕ) × LaidAlong t [] [] w laid levels)
+    tl : (laid : List Square) × ((levels : List ℕ) × LaidAlong t (laid_so_far [] []) w (laid_so_far laid levels))
     tl = laid_along t [] [] w p
 
-    ul : (laid : List Square) × ((levels : List ℕ) × LaidAlong u [] [] w laid levels)
+    ul : (laid : List Square) × ((levels : List ℕ) × LaidAlong u (laid_so_far [] []) w (laid_so_far laid levels))
     ul = laid_along u [] [] w q
 
     proportion : map (λ c. c *ℤ pos t.width) (map (λ q. pos q.s) ul.0) ≡ map (λ c. c *ℤ pos u.width) (map (λ q. pos q.s) tl.0)

@@ -26,7 +26,7 @@ use Rattle.bk_word_net.proofs.WordFlows.NoLoose.{Played, a_word_has_one_flow, a_
 use Rattle.bk_word_net.proofs.Outlines.Numbering.{place_of_number}
 use Rattle.bk_word_net.proofs.PlacedSquares.OneTiling.{laid_along}
 use Rattle.bk_word_net.specs.FlowTiling.{bottom_in}
-use Rattle.bk_word_net.specs.WordFlow.{LaidAlong, laid_flow}
+use Rattle.bk_word_net.specs.WordFlow.{LaidAlong, laid_flow, laid_so_far}
 use Rattle.bk_word_net.specs.WordNet.{end_of, net_after}
 
 module _ (t : Tiling) (w : Word) (f : Flow) (tiling : IsTiling t) (p : IsWordOf t w) (flow : IsFlow (net_after (outline_of w)) f) (all : ℕ)
@@ -36,7 +36,7 @@ module _ (t : Tiling) (w : Word) (f : Flow) (tiling : IsTiling t) (p : IsWordOf 
   complete = (tiling_word_is_complete t w tiling p).0
 
   -- what is laid along the word
-  pub tl : (laid : List Square) × ((levels : List ℕ) × LaidAlong t [] [] w laid levels)
+  pub tl : (laid : List Square) × ((levels : List ℕ) × LaidAlong t (laid_so_far [] []) w (laid_so_far laid levels))
   tl = laid_along t [] [] w p
 
   G : Flow

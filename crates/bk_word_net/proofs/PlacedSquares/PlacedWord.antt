@@ -34,7 +34,7 @@ use Rattle.bk_word_net.proofs.PlacedSquares.PlacedValley.{IsPlacing}
 use Rattle.bk_word_net.proofs.WordFlows.NoLoose.{Played, hung_number, played_move, played_start}
 use Rattle.bk_word_net.proofs.WordFlows.Sums.{positive_sides}
 use Rattle.bk_word_net.specs.FlowTiling.{AWordOfATilingIsPlaced, PlacesWord, SignsCompare, bottom_in, bottoms_of_move}
-use Rattle.bk_word_net.specs.WordFlow.{LaidAlong, laid_flow}
+use Rattle.bk_word_net.specs.WordFlow.{LaidAlong, laid_flow, laid_so_far}
 use Rattle.bk_word_net.specs.WordNet.{net_after}
 use Rattle.bk_word_net.proofs.PlacedSquares.GrownAlike.{along_prefix}
 use Rattle.bk_word_net.proofs.PlacedSquares.AlikeBottoms.{bottoms_alike, signs_scaled}
@@ -44,8 +44,8 @@ use Rattle.bk_word_net.proofs.PlacedSquares.MoveBottoms.{bottoms_are}
 module _ (t : Tiling) (w : Word) (f : Flow) (tiling : IsTiling t) (p : IsWordOf t w) (flow : IsFlow (net_after (outline_of w)) f) (all : ℕ)
     (some : 0 < all) (total_is : f.total ≡ pos all) where
   compare : (v : Word) (o : Outline) (laid : List Square) (nodes : List Segment) (ls : List ℕ) → Played o → AreLegalFrom o v
-      → Along t laid nodes o → MovesFollow t laid v → LaidAlong t laid ls v (tl t w f tiling p flow all some total_is).0 ((tl t w f tiling p flow all some
-      total_is).1).0 → after_moves o v ≡ outline_of w
+      → Along t laid nodes o → MovesFollow t laid v → LaidAlong t (laid_so_far laid ls) v (laid_so_far (tl t w f tiling p flow all some total_is).0
+      ((tl t w f tiling p flow all some total_is).1).0) → after_moves o v ≡ outline_of w
       → SignsCompare (bottom_in f ((outline_of w).closed ++ (outline_of w).segments)) o v
   compare [] o laid nodes ls own legal a q l same = tt
   compare (m ∷ v) o laid nodes ls own legal a q l same = (
@@ -55,10 +55,10 @@ module _ (t : Tiling) (w : Word) (f : Flow) (tiling : IsTiling t) (p : IsWordOf 
         (along_move t laid nodes o q.0 tiling a q.1 q.2)) q.4 next same,
   )
     where
-      next : LaidAlong t (laid ++ squares_under t q.0) (ls ++ (q.0).level ∷ []) v (tl t w f tiling p flow all some total_is).0 ((tl t w f tiling p flow all
-          some total_is).1).0
-      next = subst (λ (s : Segment). LaidAlong t (laid ++ squares_under t s) (ls ++ s.level ∷ []) v (tl t w f tiling p flow all some total_is).0 ((tl t w f
-          tiling p flow all some total_is).1).0)
+      next : LaidAlong t (laid_so_far (laid ++ squares_under t q.0) (ls ++ (q.0).level ∷ [])) v (laid_so_far
+          (tl t w f tiling p flow all some total_is).0 ((tl t w f tiling p flow all some total_is).1).0)
+      next = subst (λ (s : Segment). LaidAlong t (laid_so_far (laid ++ squares_under t s) (ls ++ s.level ∷ [])) v (laid_so_far
+          (tl t w f tiling p flow all some total_is).0 ((tl t w f tiling p flow all some total_is).1).0))
           (one_leftmost_valley t.width laid l.0 q.0 l.1 q.1) l.2
 
       later : IsLater (after_move o m) (outline_of w)

@@ -30,7 +30,7 @@ use Rattle.bk_lay.proofs.Words.{nothing_laid}
 use Rattle.bk_lay.specs.Depiction.{Depicts, FillsFromTop, Hangs, IsSegment}
 use Rattle.bk_lay.specs.TilingWord.{IsLeftmostValley, IsWordOf, MovesFollow, hangs_under, move_under, squares_under}
 use Rattle.bk_word_net.proofs.WordFlows.Sums.{out_sum, out_sum-append, out_sum-here, out_sum-none}
-use Rattle.bk_word_net.specs.WordFlow.{LaidAlong}
+use Rattle.bk_word_net.specs.WordFlow.{LaidAlong, laid_so_far}
 
 -- once something is laid: the first valley is the top, and all columns lie below it
 pub record HasBegun (t : Tiling) (laid : List Square) (nodes : List Segment) (o : Outline) : Type 0 where
@@ -187,7 +187,8 @@ pub record AtEnd (t : Tiling) (o : Outline) (laid : List Square) (all_levels : L
   pub levels_are : levels nodes ++ t.height ∷ [] ≡ all_levels
 
 to_end : (t : Tiling) → IsTiling t → (laid : List Square) (nodes : List Segment) (o : Outline) (w : Word) → Along t laid nodes o → MovesFollow t laid w
-    → (all_laid : List Square) (all_levels : List ℕ) → LaidAlong t laid (levels nodes) w all_laid all_levels → AtEnd t (after_moves o w) all_laid all_levels
+    → (all_laid : List Square) (all_levels : List ℕ) → LaidAlong t (laid_so_far laid (levels nodes)) w (laid_so_far all_laid all_levels)
+    → AtEnd t (after_moves o w) all_laid all_levels
 to_end t tiling laid nodes o [] a p all_laid all_levels l = record {
   nodes = nodes;
   along = subst (λ (s : List Square). Along t s nodes o) l.0 a;
@@ -204,9 +205,11 @@ to_end t tiling laid nodes o (m ∷ w) a p all_laid all_levels l =
     next = subst (λ (n : Move). Along t (laid ++ squares_under t p.0) (nodes ++ p.0 ∷ []) (after_move o n)) (sym p.3)
         (along_move t laid nodes o p.0 tiling a p.1 p.2)
 
-    rest : LaidAlong t (laid ++ squares_under t p.0) (levels (nodes ++ p.0 ∷ [])) w all_laid all_levels
-    rest = subst (λ (ls : List ℕ). LaidAlong t (laid ++ squares_under t p.0) ls w all_laid all_levels) (sym (map-append (λ v. v.level) nodes (p.0 ∷ [])))
-        (subst (λ (v : Segment). LaidAlong t (laid ++ squares_under t v) (levels nodes ++ v.level ∷ []) w all_laid all_levels) same l.2)
+    rest : LaidAlong t (laid_so_far (laid ++ squares_under t p.0) (levels (nodes ++ p.0 ∷ []))) w (laid_so_far all_laid all_levels)
+    rest = subst (λ (ls : List ℕ). LaidAlong t (laid_so_far (laid ++ squares_under t p.0) ls) w (laid_so_far all_laid all_levels))
+        (sym (map-append (λ v. v.level) nodes (p.0 ∷ [])))
+        (subst (λ (v : Segment). LaidAlong t (laid_so_far (laid ++ squares_under t v) (levels nodes ++ v.level ∷ [])) w (laid_so_far all_laid all_levels))
+        same l.2)
 
 -- at the start nothing is laid
 pub along_start : (t : Tiling) → IsTiling t → Along t [] [] start
@@ -220,5 +223,5 @@ along_start t tiling = record {
 
 -- a tiling's word leads there
 pub at_end : (t : Tiling) (w : Word) → IsTiling t → IsWordOf t w → (laid : List Square) (all_levels : List ℕ)
-    → LaidAlong t [] [] w laid all_levels → AtEnd t (after_moves start w) laid all_levels
+    → LaidAlong t (laid_so_far [] []) w (laid_so_far laid all_levels) → AtEnd t (after_moves start w) laid all_levels
 at_end t w tiling p laid all_levels l = to_end t tiling [] [] start w (along_start t tiling) p laid all_levels l

@@ -25,7 +25,7 @@ use Rattle.bk_lay.specs.TilingWord.{MovesFollow, bottoms, depth_before, depth_fr
 use Rattle.bk_word_net.proofs.PlacedSquares.FilledColumns.{columns_are_tiling, columns_tile}
 use Rattle.bk_word_net.proofs.Outlines.RunsAfterTurn.{fills_total}
 use Rattle.bk_word_net.specs.LaidOutline.{FillsValley, ShowsLaid}
-use Rattle.bk_word_net.specs.WordFlow.{LaidAlong}
+use Rattle.bk_word_net.specs.WordFlow.{LaidAlong, laid_so_far}
 
 -- the turns of a word, from what is laid to all squares
 abbrev pub Turns : ℕ → List Square → Word → List Square → Type 0
@@ -127,7 +127,7 @@ module _ (t : Tiling) (tiling : IsTiling t) (all : List Square) (all_in : (q : S
 
   -- the turns are those of the tiling's word
   pub follow_turns : (w : Word) (laid : List Square) (ls : List ℕ) → Turns t.width laid w all → MovesFollow t laid w
-      × ((all_levels : List ℕ) × LaidAlong t laid ls w all all_levels)
+      × ((all_levels : List ℕ) × LaidAlong t (laid_so_far laid ls) w (laid_so_far all all_levels))
   follow_turns [] laid ls p = (λ c h. ap (λ (l : List Square). depth l c) p ∙ full c h, (ls ++ t.height ∷ [], (p, refl)))
   follow_turns (m ∷ w) laid ls (v, (new, (turn, rest))) = onto (follow_turns w (laid ++ laid_group v.x v.level new) (ls ++ v.level ∷ []) rest)
     where
@@ -138,8 +138,8 @@ module _ (t : Tiling) (tiling : IsTiling t) (all : List Square) (all_in : (q : S
       news = new_is laid m new v turn pre.0 pre.1
 
       onto : MovesFollow t (laid ++ laid_group v.x v.level new) w
-          × ((all_levels : List ℕ) × LaidAlong t (laid ++ laid_group v.x v.level new) (ls ++ v.level ∷ []) w all all_levels)
-          → MovesFollow t laid (m ∷ w) × ((all_levels : List ℕ) × LaidAlong t laid ls (m ∷ w) all all_levels)
+          × ((all_levels : List ℕ) × LaidAlong t (laid_so_far (laid ++ laid_group v.x v.level new) (ls ++ v.level ∷ [])) w (laid_so_far all all_levels))
+          → MovesFollow t laid (m ∷ w) × ((all_levels : List ℕ) × LaidAlong t (laid_so_far laid ls) (m ∷ w) (laid_so_far all all_levels))
       onto (a, (al, b)) = (
         (
           v,
@@ -148,5 +148,5 @@ module _ (t : Tiling) (tiling : IsTiling t) (all : List Square) (all_in : (q : S
           move_is laid m new v turn pre.0 pre.1,
           subst (λ (l : List Square). MovesFollow t (laid ++ l) w) (sym news) a,
         ),
-        (al, (v, turn.found, subst (λ (l : List Square). LaidAlong t (laid ++ l) (ls ++ v.level ∷ []) w all al) (sym news) b)),
+        (al, (v, turn.found, subst (λ (l : List Square). LaidAlong t (laid_so_far (laid ++ l) (ls ++ v.level ∷ [])) w (laid_so_far all al)) (sym news) b)),
       )

@@ -24,7 +24,7 @@ use Rattle.bk_word_net.proofs.Outlines.RunsAfterTurn.{fills_total}
 use Rattle.bk_word_net.proofs.WordFlows.Sums.{positive_sides}
 use Rattle.bk_word_net.specs.LaidTiling.{IsLaidWith}
 use Rattle.bk_word_net.specs.LaidOutline.{FillsValley}
-use Rattle.bk_word_net.specs.WordFlow.{LaidAlong}
+use Rattle.bk_word_net.specs.WordFlow.{LaidAlong, laid_so_far}
 use Rattle.bk_word_net.proofs.PlacedSquares.GrownAlike.{along_prefix}
 
 -- the tiling has this width; these squares of it are laid, these moves follow, and these sides
@@ -37,7 +37,7 @@ pub record AgreesAt (width : ℕ) (t : Tiling) (laid : List Square) (o : Outline
   pub levels : List ℕ
   pub all : List Square
   pub all_levels : List ℕ
-  pub later : LaidAlong t laid levels w all all_levels
+  pub later : LaidAlong t (laid_so_far laid levels) w (laid_so_far all all_levels)
   pub sides : laid_sides all ≡ laid_sides laid ++ rest
 
 -- what the tiling's own turn says
@@ -50,7 +50,7 @@ module _ (t : Tiling) (tiling : IsTiling t) (laid : List Square) (nodes : List S
     (a : Along t laid nodes o) (v : Segment) (found : IsLeftmostValley t.width laid v) (low : v.level < t.height)
     (same : m ≡ move_under t laid v) (follow : MovesFollow t (laid ++ squares_under t v) w)
     (levels : List ℕ) (all : List Square) (all_levels : List ℕ)
-    (later : LaidAlong t (laid ++ squares_under t v) (levels ++ v.level ∷ []) w all all_levels)
+    (later : LaidAlong t (laid_so_far (laid ++ squares_under t v) (levels ++ v.level ∷ [])) w (laid_so_far all all_levels))
     (sides : laid_sides all ≡ laid_sides laid ++ (new ++ further)) where
   pre : (more : List Square) × (all ≡ (laid ++ squares_under t v) ++ more)
   pre = along_prefix t (laid ++ squares_under t v) (levels ++ v.level ∷ []) w all all_levels later
@@ -118,8 +118,8 @@ own_turn t laid o m w new further some count g = (
       g.follow.4 g.levels g.all g.all_levels rest g.sides,
 )
   where
-    rest : LaidAlong t (laid ++ squares_under t g.follow.0) (g.levels ++ (g.follow.0).level ∷ []) w g.all g.all_levels
-    rest = subst (λ (u : Segment). LaidAlong t (laid ++ squares_under t u) (g.levels ++ u.level ∷ []) w g.all g.all_levels)
+    rest : LaidAlong t (laid_so_far (laid ++ squares_under t g.follow.0) (g.levels ++ (g.follow.0).level ∷ [])) w (laid_so_far g.all g.all_levels)
+    rest = subst (λ (u : Segment). LaidAlong t (laid_so_far (laid ++ squares_under t u) (g.levels ++ u.level ∷ [])) w (laid_so_far g.all g.all_levels))
         (one_leftmost_valley t.width laid g.later.0 g.follow.0 g.later.1 g.follow.1) g.later.2
 
 -- a tiling that agrees with what is laid agrees with the next turn

@@ -1,10 +1,10 @@
 use Rattle.std.proofs.Common.{inl, inr, subst, sym, ◌≡◌, ◌⊎◌}
 use Rattle.bk_ports.specs.Ending.{EndsWith}
-use Rattle.bk_ports.specs.Entering.{entries_of}
+use Rattle.bk_ports.specs.Entering.{entering_from, entries_of}
 use Rattle.bk_ports.proofs.OtherOutputs.{IsStop}
 use Rattle.bk_ports.specs.declared.Ended.{Ended}
 use Rattle.bk_ports.specs.declared.Ended.TheVariants.{NoMemory, ReadFailed, TooMany, WriteFailed}
-use Rattle.bk_alike.specs.Listed.{Listed, listing_rules}
+use Rattle.bk_alike.specs.Listed.{Listed, listing_start}
 use Rattle.bk_alike.proofs.ClosedLists.{badly_told, closes_broken, closes_well, has_verdict, stops_listing, streams_of, verdict_told, well_told}
 use Rattle.bk_alike.proofs.command.list_into.Goals as goal
 
@@ -12,7 +12,7 @@ pub returns-in-Ok-clause-ending : goal.returns-in-Ok-clause-ending
 returns-in-Ok-clause-ending g c =
     closes_well c.args.wanted c.enter_lines-ended.new.register (g.S.Source.left c.args.source.now) (g.S.Source.left c.enter_lines-ended.new.source)
     (g.O.Sink.written c.args.out.now) (g.O.Sink.written c.enter_lines-ended.new.out) (g.O.Sink.written c.write_closing.new.out) c.enter_lines-ended.result
-    (subst (λ (s : Listed). EndsWith (entries_of listing_rules s c.enter_lines-ended.new.register)
+    (subst (λ (s : Listed). EndsWith (entries_of (entering_from listing_start.rules s 1) c.enter_lines-ended.new.register)
     (streams_of (g.S.Source.left c.args.source.now) (g.S.Source.left c.enter_lines-ended.new.source) (g.O.Sink.written c.args.out.now)
     (g.O.Sink.written c.enter_lines-ended.new.out)) c.enter_lines-ended.result)
     c.requires c.enter_lines-ended.ensures.ending)
@@ -22,7 +22,7 @@ pub returns-in-Err-clause-ending : goal.returns-in-Err-clause-ending
 returns-in-Err-clause-ending g c =
     closes_broken c.args.wanted c.enter_lines-ended.new.register (g.S.Source.left c.args.source.now) (g.S.Source.left c.enter_lines-ended.new.source)
     (g.O.Sink.written c.args.out.now) (g.O.Sink.written c.enter_lines-ended.new.out) (g.O.Sink.written c.write_closing.new.out) c.enter_lines-ended.result
-    (subst (λ (s : Listed). EndsWith (entries_of listing_rules s c.enter_lines-ended.new.register)
+    (subst (λ (s : Listed). EndsWith (entries_of (entering_from listing_start.rules s 1) c.enter_lines-ended.new.register)
     (streams_of (g.S.Source.left c.args.source.now) (g.S.Source.left c.enter_lines-ended.new.source) (g.O.Sink.written c.args.out.now)
     (g.O.Sink.written c.enter_lines-ended.new.out)) c.enter_lines-ended.result)
     c.requires c.enter_lines-ended.ensures.ending)
@@ -60,7 +60,7 @@ returns-in-ReadFailed g c = record {
       stops_listing c.args.wanted c.enter_lines-ended.new.register
       (streams_of (g.S.Source.left c.args.source.now) (g.S.Source.left c.enter_lines-ended.new.source) (g.O.Sink.written c.args.out.now)
       (g.O.Sink.written c.enter_lines-ended.new.out)) c.enter_lines-ended.result (stop_told c.enter_lines-ended.result c.in-ReadFailed.is)
-      (subst (λ (s : Listed). EndsWith (entries_of listing_rules s c.enter_lines-ended.new.register)
+      (subst (λ (s : Listed). EndsWith (entries_of (entering_from listing_start.rules s 1) c.enter_lines-ended.new.register)
       (streams_of (g.S.Source.left c.args.source.now) (g.S.Source.left c.enter_lines-ended.new.source) (g.O.Sink.written c.args.out.now)
       (g.O.Sink.written c.enter_lines-ended.new.out)) c.enter_lines-ended.result)
       c.requires c.enter_lines-ended.ensures.ending);

@@ -6,7 +6,7 @@ use Rattle.std.proofs.lemmas.List.{at_drop_all}
 use Rattle.std.specs.List.{flat_map}
 use Rattle.bk_answer.proofs.PieceByPiece.{failed_later}
 use Rattle.bk_alike.specs.LaterLines.{later_lines}
-use Rattle.bk_alike.specs.Pairs.{pairs_with}
+use Rattle.bk_alike.specs.Pairs.{pair_lines}
 use Rattle.bk_alike.proofs.GroupMembers.{place_below}
 use Rattle.bk_alike.proofs.LaterPairs.{pairs_looked_up}
 use Rattle.bk_alike.proofs.ListLoops.{count_next, ends_broken, loop_broken, loop_more}
@@ -33,7 +33,7 @@ pub returns-in_err-more-clause-lines : goal.returns-in_err-more-clause-lines
 returns-in_err-more-clause-lines g c a e =
     let p = err_from_is_err_and c.from_residual.result c.from_residual.ensures.1 in
     let lines : ℕ → List (List ℕ) = later_lines c.args.kind c.args.items.now c.args.i a in
-    let all : List (List ℕ) = pairs_with c.args.kind a (drop (c.args.i + 1) c.args.items.now) in
+    let all : List (List ℕ) = flat_map (pair_lines c.args.kind a) (drop (c.args.i + 1) c.args.items.now) in
     let places = c.of_size-places.result.now in
     let k = c.loop-place.place-index in
     ends_broken all (g.O.Sink.written c.args.out.now) (g.O.Sink.written c.write_if_pair.new.out) c.from_residual.result p.0 p.1
@@ -48,13 +48,13 @@ loop-place-preserved g c =
     let here = slice_get-get_or places k 0 c.loop-place-test.true in
     record {
       written = λ a e.
-          loop_more (later_lines c.args.kind c.args.items.now c.args.i a) (pairs_with c.args.kind a (drop (c.args.i + 1) c.args.items.now))
+          loop_more (later_lines c.args.kind c.args.items.now c.args.i a) (flat_map (pair_lines c.args.kind a) (drop (c.args.i + 1) c.args.items.now))
           places k (get_or places k 0)
           (g.O.Sink.written c.args.out.now) (g.O.Sink.written c.loop-place.out) (g.O.Sink.written c.write_if_pair.new.out)
           c.loop-place-test.true here (c.loop-place.invariant.written a e) (c.in_ok-more.ensures.lines a e);
       count = λ a e.
           count_next (later_lines c.args.kind c.args.items.now c.args.i a) places
-          (length (pairs_with c.args.kind a (drop (c.args.i + 1) c.args.items.now))) k c.loop-place.pairs c.in_ok-more.more
+          (length (flat_map (pair_lines c.args.kind a) (drop (c.args.i + 1) c.args.items.now))) k c.loop-place.pairs c.in_ok-more.more
           (get_or places k 0) c.loop-place-test.true here (c.loop-place.invariant.count a e) (c.in_ok-more.ensures.count a e);
       few = omega (arith, c.loop-place.invariant.few, c.in_ok-more.ensures.few);
       same = c.in_ok-more.ensures.cause.ok ∙ c.loop-place.invariant.same;
@@ -81,7 +81,7 @@ returns-in_err-more-clause-cause g c =
 pub returns-clause-lines : goal.returns-clause-lines
 returns-clause-lines g c a e =
     let lines : ℕ → List (List ℕ) = later_lines c.args.kind c.args.items.now c.args.i a in
-    written_all (pairs_with c.args.kind a (drop (c.args.i + 1) c.args.items.now))
+    written_all (flat_map (pair_lines c.args.kind a) (drop (c.args.i + 1) c.args.items.now))
     (flat_map lines (drop c.loop-place.place-index c.of_size-places.result.now)) _ _ (c.loop-place.invariant.written a e)
     (at_drop_all (flat_map lines) c.of_size-places.result.now c.loop-place.place-index c.loop-place-test.false)
 

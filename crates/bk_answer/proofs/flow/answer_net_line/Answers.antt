@@ -1,12 +1,16 @@
 use Rattle.bk_report.specs.declared.refusal.Refused.TheVariants.{Long}
-use Rattle.std.proofs.Common.{[], arith, false, subst, sym, true, ◌∷◌}
+use Rattle.std.proofs.Common.{[], arith, false, length, subst, sym, true, ◌<◌, ◌∷◌}
 use Rattle.bk_ports.proofs.Pieces.{writes_none}
+use Rattle.bk_net.specs.Net.{HasNoLoose}
 use Rattle.bk_net.specs.NetLine.{IsNetLine}
 use Rattle.bk_net.specs.ReadNet.{IsKeptLine, net_line_of}
 use Rattle.bk_net.specs.declared.NetLine.{NetLine}
 use Rattle.bk_report.specs.Refusals.{refusal_line}
 use Rattle.bk_report.specs.declared.refusal.Refused.{Refused}
-use Rattle.bk_answer.specs.NetAnswer.{AnswersNet, AnswersNetLine, HasNet, MayWantForNet, NetWants, net_too_long, no_net, no_net_item, of_net}
+use Rattle.bk_answer.specs.Answer.{MayWant}
+use Rattle.bk_answer.specs.NetAnswer.{AnswersNet, AnswersNetLine, HasNet, net_too_long, no_net, no_net_item, of_net}
+use Rattle.bk_answer.specs.declared.command.Command.TheVariants.{Memory}
+use Rattle.bk_answer.specs.declared.command.MemoryCommand.TheVariants.{Flow}
 use Rattle.bk_answer.proofs.ReplySteps.{refusal_replies, replies_more}
 use Rattle.bk_answer.proofs.flow.answer_net_line.Goals as goal
 
@@ -26,13 +30,14 @@ returns-in-Ok-Item-clause-reply g c =
       };
       kept = subst IsKeptLine c.in-Ok-Item.field-0-is c.in-Ok-Item.ensures.kept;
     } in
-    replies_more (AnswersNet c.in-Ok-Item.net) (AnswersNetLine c.args.line.now) (NetWants c.in-Ok-Item.net) (MayWantForNet c.args.line.now)
-    (λ pieces refused. of_net c.in-Ok-Item.net pieces refused has) (λ w. (c.in-Ok-Item.net, has, w))
+    replies_more (AnswersNet c.in-Ok-Item.net) (AnswersNetLine c.args.line.now)
+    (HasNoLoose c.in-Ok-Item.net × (16 < length c.in-Ok-Item.net.wires)) (MayWant (Memory Flow) c.args.line.now)
+    (λ pieces refused. of_net c.in-Ok-Item.net pieces refused has) (λ w. (c.in-Ok-Item.net, has, w.0, w.1))
     (g.O.Sink.written c.args.out.now) (g.O.Sink.written c.answer_net.new.out) c.answer_net.result c.answer_net.ensures.reply
 
 pub returns-in-Err-clause-reply : goal.returns-in-Err-clause-reply
 returns-in-Err-clause-reply g c =
-    refusal_replies (AnswersNetLine c.args.line.now) (MayWantForNet c.args.line.now) c.refused_net.result (g.O.Sink.written c.args.out.now)
+    refusal_replies (AnswersNetLine c.args.line.now) (MayWant (Memory Flow) c.args.line.now) c.refused_net.result (g.O.Sink.written c.args.out.now)
     (g.O.Sink.written c.refuse-in-Err.new.out) c.refuse-in-Err.result
     (subst (λ (r : Refused). AnswersNetLine c.args.line.now (refusal_line r ∷ []) true) (sym c.refused_net.ensures)
     (no_net c.in-Err.fault (omega (arith, c.if-line-gt-LONGEST_LINE.false)) c.in-Err.ensures.fault))
@@ -40,7 +45,7 @@ returns-in-Err-clause-reply g c =
 
 pub returns-then-line-gt-LONGEST_LINE-clause-reply : goal.returns-then-line-gt-LONGEST_LINE-clause-reply
 returns-then-line-gt-LONGEST_LINE-clause-reply g c =
-    refusal_replies (AnswersNetLine c.args.line.now) (MayWantForNet c.args.line.now) Long (g.O.Sink.written c.args.out.now)
+    refusal_replies (AnswersNetLine c.args.line.now) (MayWant (Memory Flow) c.args.line.now) Long (g.O.Sink.written c.args.out.now)
     (g.O.Sink.written c.refuse.new.out) c.refuse.result (net_too_long c.if-line-gt-LONGEST_LINE.true) c.refuse.ensures.outcome c.refuse.ensures.failed
 
 pub returns-in-Ok-Item-clause-cause : goal.returns-in-Ok-Item-clause-cause

@@ -9,7 +9,10 @@ use Rattle.bk_word.specs.Word.{Word, order_of}
 use Rattle.bk_word.specs.WordText.{IsTextOf}
 use Rattle.bk_word.specs.declared.reading.WordFault.{WordFault}
 use Rattle.bk_report.specs.declared.refusal.Refused.TheVariants.{Long, Many}
-use Rattle.bk_answer.specs.WordAnswer.{AnswersWord, AnswersWordLine, HasWord, MayWantForWord, large_word, no_word, no_word_item, of_word, word_too_long}
+use Rattle.bk_answer.specs.Answer.{MayWant}
+use Rattle.bk_answer.specs.WordAnswer.{AnswersWord, AnswersWordLine, HasWord, large_word, no_word, no_word_item, of_word, word_too_long}
+use Rattle.bk_answer.specs.declared.command.Command.TheVariants.{Memory}
+use Rattle.bk_answer.specs.declared.command.MemoryCommand.TheVariants.{Solve}
 use Rattle.bk_answer.proofs.ReplySteps.{refusal_replies, replies_more, text_replies}
 use Rattle.bk_answer.proofs.solve.answer_word_line.Goals as goal
 
@@ -31,24 +34,26 @@ returns-in-Ok-clause-reply g c =
       word = c.in-Ok.ensures.read;
       few = subst (λ (n : ℕ). n ≤ 200) c.order-few.ensures.value c.order-few.ensures.few;
     } in
-    replies_more (AnswersWord c.in-Ok.word) (AnswersWordLine c.args.line.now) (16 < order_of c.in-Ok.word) (MayWantForWord c.args.line.now)
+    replies_more (AnswersWord c.in-Ok.word) (AnswersWordLine c.args.line.now) (16 < order_of c.in-Ok.word) (MayWant (Memory Solve) c.args.line.now)
     (λ pieces refused. of_word c.in-Ok.word pieces refused has) (λ w. (c.in-Ok.word, has, w))
     (g.O.Sink.written c.args.out.now) (g.O.Sink.written c.answer_word.new.out) c.answer_word.result c.answer_word.ensures.reply
 
 pub returns-in-Err-Text-clause-reply : goal.returns-in-Err-Text-clause-reply
 returns-in-Err-Text-clause-reply g c =
-    text_replies (AnswersWordLine c.args.line.now) (MayWantForWord c.args.line.now) c.in-Some.start c.in-Err-Text.at _
+    text_replies (AnswersWordLine c.args.line.now) (MayWant (Memory Solve) c.args.line.now) c.in-Some.start c.in-Err-Text.at _
     (g.O.Sink.written c.args.out.now) (g.O.Sink.written c.refuse-in-Err-Text.new.out) c.refuse-in-Err-Text.result (sym c.in-Err-Text.at-is)
     (no_word c.in-Some.start c.in-Err-Text.at (slice_range c.args.line.now c.in-Some.start c.in-Some.end)
     (record { short = omega (arith, c.if-line-gt-LONGEST_LINE.false); stop = c.in-Some.end; item = c.in-Some.ensures.some; text_is = refl })
-    (subst (λ (f : WordFault). IsWordFaultOf f (slice_range c.args.line.now c.in-Some.start c.in-Some.end)) c.in-Err-Text.field-0-is c.in-Err-Text.ensures.fault))
+    (subst (λ (f : WordFault). IsWordFaultOf f (slice_range c.args.line.now c.in-Some.start c.in-Some.end))
+    c.in-Err-Text.field-0-is c.in-Err-Text.ensures.fault))
     c.refuse-in-Err-Text.ensures.outcome c.refuse-in-Err-Text.ensures.failed
 
 pub returns-in-Err-Many-clause-reply : goal.returns-in-Err-Many-clause-reply
 returns-in-Err-Many-clause-reply g c =
     let cause : (w : Word) × IsTextOf (slice_range c.args.line.now c.in-Some.start c.in-Some.end) w × (200 < order_of w) =
-    subst (λ (f : WordFault). IsWordFaultOf f (slice_range c.args.line.now c.in-Some.start c.in-Some.end)) c.in-Err-Many.field-0-is c.in-Err-Many.ensures.fault in
-    refusal_replies (AnswersWordLine c.args.line.now) (MayWantForWord c.args.line.now) Many (g.O.Sink.written c.args.out.now)
+    subst (λ (f : WordFault). IsWordFaultOf f (slice_range c.args.line.now c.in-Some.start c.in-Some.end))
+    c.in-Err-Many.field-0-is c.in-Err-Many.ensures.fault in
+    refusal_replies (AnswersWordLine c.args.line.now) (MayWant (Memory Solve) c.args.line.now) Many (g.O.Sink.written c.args.out.now)
     (g.O.Sink.written c.refuse-in-Err-Many.new.out) c.refuse-in-Err-Many.result
     (large_word c.in-Some.start (slice_range c.args.line.now c.in-Some.start c.in-Some.end) cause.0
     (record { short = omega (arith, c.if-line-gt-LONGEST_LINE.false); stop = c.in-Some.end; item = c.in-Some.ensures.some; text_is = refl }) cause.1 cause.2)
@@ -56,7 +61,7 @@ returns-in-Err-Many-clause-reply g c =
 
 pub returns-then-line-gt-LONGEST_LINE-clause-reply : goal.returns-then-line-gt-LONGEST_LINE-clause-reply
 returns-then-line-gt-LONGEST_LINE-clause-reply g c =
-    refusal_replies (AnswersWordLine c.args.line.now) (MayWantForWord c.args.line.now) Long (g.O.Sink.written c.args.out.now)
+    refusal_replies (AnswersWordLine c.args.line.now) (MayWant (Memory Solve) c.args.line.now) Long (g.O.Sink.written c.args.out.now)
     (g.O.Sink.written c.refuse.new.out) c.refuse.result (word_too_long c.if-line-gt-LONGEST_LINE.true) c.refuse.ensures.outcome c.refuse.ensures.failed
 
 pub returns-then-line-gt-LONGEST_LINE-clause-cause : goal.returns-then-line-gt-LONGEST_LINE-clause-cause

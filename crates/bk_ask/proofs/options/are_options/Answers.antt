@@ -1,6 +1,6 @@
 use Rattle.std.proofs.lemmas.Grind.{common_steps}
 use Rattle.std.proofs.Common.{arith, map, string_bytes}
-use Rattle.bk_ask.proofs.KnownNames.{told}
+use Rattle.bk_ask.proofs.KnownNames.{test_decides_known}
 use Rattle.bk_ask.proofs.OptionSteps.{stand_end}
 use Rattle.bk_ask.proofs.options.are_options.Goals as goal
 
@@ -11,10 +11,10 @@ returns c =
 
 pub options-preserved : goal.options-preserved
 options-preserved c =
-    let known = told c.args.names.now c.as_str.result.now c.contains.result c.contains.ensures.value in
+    let known = test_decides_known c.args.names.now c.as_str.result.now c.contains.result c.contains.ensures.value in
     grind (arith, common_steps)
 
 pub returns-then-not-contains : goal.returns-then-not-contains
 returns-then-not-contains c =
-    let known = told c.args.names.now c.as_str.result.now c.contains.result c.contains.ensures.value in
+    let known = test_decides_known c.args.names.now c.as_str.result.now c.contains.result c.contains.ensures.value in
     grind (arith, common_steps)

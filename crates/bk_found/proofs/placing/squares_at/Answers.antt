@@ -5,7 +5,7 @@ use Rattle.std.proofs.lemmas.Int.{to_z-of_z}
 use Rattle.bk_tiling.specs.declared.Square.{Square}
 use Rattle.bk_found.specs.Candidate.{placed_square}
 use Rattle.bk_found.specs.Placing.{IsPlacedAt}
-use Rattle.bk_found.proofs.LevelSteps.{ArePlaced, fits_small, placed_more}
+use Rattle.bk_found.proofs.LevelSteps.{ArePlaced, fits_small, placed_more, told_lines}
 use Rattle.bk_found.proofs.placing.squares_at.Goals as goal
 
 pub line_place-left-requires : goal.line_place-left-requires
@@ -122,8 +122,8 @@ loop-k-smaller c = omega (arith, c.loop-k-test.true)
 
 pub returns-clause-each : goal.returns-clause-each
 returns-clause-each c = λ k h.
-    subst (λ (t : ℤ). IsPlacedAt c.args.candidate.now.lefts.now c.args.candidate.now.wires.now c.args.candidate.now.currents.now c.args.candidate.now.levels.now
-    c.args.candidate.now.rights.now t k
+    subst (λ (t : ℤ). IsPlacedAt (told_lines c.args.candidate.now.lefts.now c.args.candidate.now.wires.now c.args.candidate.now.currents.now
+    c.args.candidate.now.rights.now t) c.args.candidate.now.levels.now k
     (slice_index_or c.loop-k.squares.items k (record { x = 0; y = 0; s = 0 })))
     (to_z-of_z w64 c.args.candidate.now.total (fits_small (2 ^ 34) c.args.candidate.now.total c.args.candidate.now.known.small_total (omega arith)))
     (c.loop-k.invariant.each k (omega (arith, h, c.loop-k.auto.k-end, c.loop-k-test.false)))

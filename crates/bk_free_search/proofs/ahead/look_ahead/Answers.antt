@@ -12,10 +12,10 @@ at_most_one : (b : Bool) → cond {A = ℕ} b 1 0 ≤ 1
 at_most_one true = omega arith
 at_most_one false = omega arith
 
-moves_are : (c : goal.After-saturating_sub-3) → c.counts-counts.result.moves ≡ length c.args.board.now
+moves_are : (c : goal.After-saturating_sub-2) → c.counts-counts.result.moves ≡ length c.args.board.now
 moves_are c = ap (λ (k : Counts). k.moves) c.counts-counts.ensures
 
-left_are : (c : goal.After-saturating_sub-3) → c.from.result + c.one_if.result ≡ left_squares_then c.args.board.now
+left_are : (c : goal.After-saturating_sub-2) → c.from.result + c.one_if.result ≡ left_squares_then c.args.board.now
 left_are c = omega (
   arith,
   c.from.ensures,
@@ -24,7 +24,7 @@ left_are c = omega (
   ap (λ b. cond {A = ℕ} b 1 0) c.requires.left,
 )
 
-right_are : (c : goal.After-saturating_sub-3) → c.from-2.result + c.one_if-2.result ≡ right_squares_then c.args.board.now
+right_are : (c : goal.After-saturating_sub-2) → c.from-2.result + c.one_if-2.result ≡ right_squares_then c.args.board.now
 right_are c = omega (
   arith,
   c.from-2.ensures,
@@ -33,7 +33,7 @@ right_are c = omega (
   ap (λ b. cond {A = ℕ} b 1 0) c.requires.right,
 )
 
-most_is : (c : goal.After-saturating_sub-3) → AreMostMovesThen c.args.order c.args.board.now c.most_then-most.result
+most_is : (c : goal.After-saturating_sub-2) → AreMostMovesThen c.args.order c.args.board.now c.most_then-most.result
 most_is c = most_then_is c.args.order c.args.board.now c.counts-counts.result.moves c.counts-counts.result.top c.max.result c.most_then-most.result
     (moves_are c) (ap (λ (k : Counts). k.top) c.counts-counts.ensures) (c.max.ensures ∙ (λ i. max (left_are c i) (right_are c i)))
     c.most_then-most.ensures.none c.most_then-most.ensures.some
@@ -42,15 +42,15 @@ pub returns-clause-moves : goal.returns-clause-moves
 returns-clause-moves c = record {
   most = c.most_then-most.result;
   most_is = most_is c;
-  left_is = omega (arith, c.saturating_sub.ensures, c.from-moves.ensures, moves_are c);
+  left_is = omega (arith, c.saturating_sub-moves_left.ensures, c.from-moves.ensures, moves_are c);
 }
 
 pub returns-clause-evens : goal.returns-clause-evens
 returns-clause-evens c m few = too_few_evens_is_normal_barren c.args.order c.most_then-most.result c.args.board.now m (most_is c) (omega (
   arith,
   few,
-  c.saturating_sub-3.ensures,
   c.saturating_sub-2.ensures,
+  c.saturating_sub.ensures,
   c.from-moves.ensures,
   c.from-3.ensures,
   c.from-4.ensures,
@@ -76,17 +76,8 @@ overflow_add-right c = omega (arith, c.one_if-2.ensures, at_most_one c.args.righ
 pub overflow_add-segments : goal.overflow_add-segments
 overflow_add-segments c = omega arith
 
-pub overflow_mul-moves : goal.overflow_mul-moves
-overflow_mul-moves c = omega (arith, c.from-moves.ensures)
-
 pub overflow_add-from : goal.overflow_add-from
 overflow_add-from c = omega (arith, c.from-moves.ensures)
 
 pub overflow_mul-most : goal.overflow_mul-most
 overflow_mul-most c = omega (arith, c.most_then-most.ensures.few)
-
-pub overflow_add-from-4 : goal.overflow_add-from-4
-overflow_add-from-4 c = omega (arith, c.most_then-most.ensures.few)
-
-pub overflow_add-from-5 : goal.overflow_add-from-5
-overflow_add-from-5 c = omega (arith, c.most_then-most.ensures.few)

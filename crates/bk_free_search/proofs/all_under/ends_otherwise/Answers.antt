@@ -39,26 +39,6 @@ overflow_add-moves-3 c = omega (
   c.look_after-after.ensures.few.2,
 )
 
-pub overflow_add-moves-4 : goal.overflow_add-moves-4
-overflow_add-moves-4 c = omega (
-  arith,
-  c.moves.ensures.value,
-  moves_few c.skel.result.now c.args.board.now c.skel.ensures.legal c.skel.ensures.value,
-  c.requires.few,
-  c.requires.most,
-  c.look_after-after.ensures.few.2,
-)
-
-pub overflow_mul-moves : goal.overflow_mul-moves
-overflow_mul-moves c = omega (
-  arith,
-  c.moves.ensures.value,
-  moves_few c.skel.result.now c.args.board.now c.skel.ensures.legal c.skel.ensures.value,
-  c.requires.few,
-  c.requires.most,
-  c.look_after-after.ensures.few.2,
-)
-
 pub overflow_add-order-2 : goal.overflow_add-order-2
 overflow_add-order-2 c = omega (
   arith,
@@ -114,8 +94,8 @@ returns-then-after c _ = all_under_at_left_is_normal_barren c.args.order c.most_
       c.look_after-after.ensures.stands.signs_are,
     ))
 
-pub returns-then-moves-from : goal.returns-then-moves-from
-returns-then-moves-from c told = all_under_at_right_is_normal_barren c.args.order c.most_moves.result (c.args.board.now ++ c.args.m.now ∷ [])
+pub returns-then-are_most_moves : goal.returns-then-are_most_moves
+returns-then-are_most_moves c told = all_under_at_right_is_normal_barren c.args.order c.most_moves.result (c.args.board.now ++ c.args.m.now ∷ [])
     (all_under c.args.order c.args.board.now c.args.m.now c.look_after-after.result c.most_moves.result
     c.requires.least c.requires.few c.look_after-after.ensures.stands
     (then_legal c.args.board.now c.args.m.now (subst IsLegal c.skel.ensures.value c.skel.ensures.legal) c.requires.legal)
@@ -124,8 +104,7 @@ returns-then-moves-from c told = all_under_at_right_is_normal_barren c.args.orde
     (omega (arith, c.if-moves-most_moves.false, c.moves.ensures.value, ap (λ (w : Word). length w) c.skel.ensures.value)))
     (omega (
       arith,
-      c.if-moves-from.true,
-      c.from-3.ensures,
+      c.are_most_moves.ensures c.if-are_most_moves.true,
       c.moves.ensures.value,
       ap (λ (w : Word). length w) c.skel.ensures.value,
       c.look_after-after.ensures.stands.signs_are,
@@ -133,8 +112,8 @@ returns-then-moves-from c told = all_under_at_right_is_normal_barren c.args.orde
     ))
     (omega (
       arith,
-      lt-from_nat_lt c.from-then-moves-from.result (c.look_after-after.result.right + c.look_after-after.result.signs) told,
-      c.from-then-moves-from.ensures,
+      lt-from_nat_lt c.from-then-are_most_moves.result (c.look_after-after.result.right + c.look_after-after.result.signs) told,
+      c.from-then-are_most_moves.ensures,
       c.look_after-after.ensures.stands.top_is,
       c.look_after-after.ensures.stands.right_is,
       c.look_after-after.ensures.stands.signs_are,
@@ -167,17 +146,21 @@ from-requires c = tt
 pub from-requires-2 : goal.from-requires-2
 from-requires-2 c = tt
 
-pub from-requires-3 : goal.from-requires-3
-from-requires-3 c = tt
-
-pub from-requires-then-moves-from : goal.from-requires-then-moves-from
-from-requires-then-moves-from c = tt
-
 pub returns-then-not-are_under_then : goal.returns-then-not-are_under_then
 returns-then-not-are_under_then c none = let e : false ≡ true = none in cc
 
 pub returns-then-moves-most_moves : goal.returns-then-moves-most_moves
 returns-then-moves-most_moves c none = let e : false ≡ true = none in cc
+
+pub are_most_moves-requires : goal.are_most_moves-requires
+are_most_moves-requires c = omega (
+  arith,
+  c.moves.ensures.value,
+  moves_few c.skel.result.now c.args.board.now c.skel.ensures.legal c.skel.ensures.value,
+  c.requires.few,
+  c.requires.most,
+  c.look_after-after.ensures.few.2,
+)
 
 pub look_after-after-requires-clause-few : goal.look_after-after-requires-clause-few
 look_after-after-requires-clause-few c = omega (arith, c.requires.few, c.requires.most)
@@ -195,6 +178,3 @@ overflow_add-order c = omega (
   c.from.ensures,
   ap (λ (m : Move). m.count) c.m.view_is,
 )
-
-pub overflow_add-from : goal.overflow_add-from
-overflow_add-from c = omega (arith, c.from-3.ensures, c.requires.most)

@@ -1,7 +1,8 @@
-use Rattle.std.proofs.Common.{ap, arith, subst, sym, ◌-◌}
+use Rattle.std.proofs.Common.{ap, arith, subst, sym, ◌+◌, ◌-◌}
 use Rattle.bk_free_search.proofs.Asks.AskedNext.{asked_none, few_up, left_apart}
 use Rattle.bk_free_search.proofs.Asks.CountedSigns.{counted_none}
 use Rattle.bk_free_search.specs.Apart.{IsCountedTo}
+use Rattle.bk_free_search.specs.declared.counts.TheConstants.{FEW}
 use Rattle.bk_free_search.proofs.asking.before_valley.Goals as goal
 
 pub returns-then-place-eq0-clause-asked : goal.returns-then-place-eq0-clause-asked
@@ -31,14 +32,14 @@ returns-clause-asked c = record {
 
 pub returns-then-place-eq0-clause-few : goal.returns-then-place-eq0-clause-few
 returns-then-place-eq0-clause-few c =
-    let few = few_up c.none_passed.result 0 500 (omega arith) c.none_passed.ensures.few in record { none = few; even = few; under = few }
+    let few = few_up c.none_passed.result 0 (FEW + 1) (omega arith) c.none_passed.ensures.few in record { none = few; even = few; under = few }
 
 pub returns-clause-few : goal.returns-clause-few
 returns-clause-few c = record {
-  none = few_up c.pass_before-passed.result (c.args.valley.now.place - 1) 500 (omega (arith, c.pass_before-passed.ensures.small))
+  none = few_up c.pass_before-passed.result (c.args.valley.now.place - 1) (FEW + 1) (omega (arith, c.pass_before-passed.ensures.small))
       c.pass_before-passed.ensures.few;
-  even = few_up c.left_even.result.passed 451 500 (omega arith) c.left_even.ensures.few;
-  under = few_up c.left_under.result.passed 451 500 (omega arith) c.left_under.ensures.few;
+  even = few_up c.left_even.result.passed (FEW + 1) (FEW + 1) (omega arith) c.left_even.ensures.few;
+  under = few_up c.left_under.result.passed (FEW + 1) (FEW + 1) (omega arith) c.left_under.ensures.few;
 }
 
 pub overflow_sub-place : goal.overflow_sub-place

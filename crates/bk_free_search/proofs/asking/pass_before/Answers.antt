@@ -9,6 +9,7 @@ use Rattle.bk_free_search.proofs.NextWords.Cutting.{few_signs_open}
 use Rattle.bk_free_search.proofs.Asks.CountedSigns.{counted_none}
 use Rattle.bk_free_search.specs.Apart.{IsCountedTo}
 use Rattle.bk_free_search.specs.Strong.{seen_passed}
+use Rattle.bk_free_search.specs.declared.counts.TheConstants.{FEW}
 use Rattle.bk_free_search.proofs.asking.pass_before.Goals as goal
 
 pub segments-init : goal.segments-init
@@ -29,7 +30,7 @@ bounds-signs-i c = omega (
 
 pub past_one-passed-requires : goal.past_one-passed-requires
 past_one-passed-requires c = let f = c.segments.invariant.few in let small = few_signs_open c.skel.result.now c.skel.ensures.legal in
-    let many : c.segments.i ≤ 2000 = omega (
+    let many : c.segments.i ≤ FEW = omega (
       arith,
       c.segments-test.true,
       c.requires.many,

@@ -8,7 +8,7 @@ use Rattle.bk_free_search.proofs.behind.asks_from.Goals as goal
 pub loop-i-init : goal.loop-i-init
 loop-i-init c = record {
   asks = λ all many each. last_asks (is_under (slice_index_or c.args.signs.now (length c.args.signs.now - 1) Above)) c.args.signs.now c.args.sizes.now all
-      c.requires.long many c.at_end-asks.result.add c.at_end-asks.result.most c.at_end-asks.result.more
+      c.requires.long many c.at_end-asks.result
       (c.at_end-asks.ensures.asks (is_under (slice_index_or c.args.signs.now (length c.args.signs.now - 1) Above))
       (slice_index_or c.args.sizes.now (length c.args.signs.now) 0) (slice_index_or all (length c.args.signs.now) false)
       (ap (λ (b : Bool). cond b 1 0) c.is_single.ensures) (λ e. each (length c.args.signs.now) (c.has_mark.ensures e)));
@@ -23,14 +23,14 @@ loop-i-init c = record {
 pub loop-i-preserved : goal.loop-i-preserved
 loop-i-preserved c = record {
   asks = λ all many each. next_asks (is_under (slice_index_or c.args.signs.now (c.loop-i.i - 1 - 1) Above)) c.args.signs.now c.args.sizes.now all
-      c.requires.long many c.in_front-asks.result.add c.in_front-asks.result.most c.in_front-asks.result.more (c.loop-i.i - 1)
+      c.requires.long many c.in_front-asks.result (c.loop-i.i - 1)
       (omega (arith, c.loop-i-test.true, c.loop-i.auto.i))
       (c.in_front-asks.ensures.asks (is_under (slice_index_or c.args.signs.now (c.loop-i.i - 1 - 1) Above)) (drop (c.loop-i.i - 1 + 1) c.args.signs.now)
       (slice_index_or c.args.sizes.now (c.loop-i.i - 1) 0) (drop (c.loop-i.i - 1 + 1) c.args.sizes.now) (slice_index_or all (c.loop-i.i - 1) false)
       (drop (c.loop-i.i - 1 + 1) all)
       (let back : c.loop-i.i ≡ c.loop-i.i - 1 + 1 = omega (arith, c.loop-i-test.true, c.loop-i.auto.i) in
       subst (λ k. AreAsks (is_under (slice_index_or c.args.signs.now (c.loop-i.i - 1) Above)) (drop k c.args.signs.now) (drop k c.args.sizes.now) (drop k all)
-      c.loop-i.asks.add c.loop-i.asks.most c.loop-i.asks.more) back (c.loop-i.invariant.asks all many each))
+      c.loop-i.asks) back (c.loop-i.invariant.asks all many each))
       (ap (λ (b : Bool). cond b 1 0) c.is_single-in-loop-i.ensures) (λ e. each (c.loop-i.i - 1) (c.has_mark-in-loop-i.ensures e)));
   low = omega (arith, c.loop-i-test.true);
   few = let f = c.in_front-asks.ensures.few (length c.args.signs.now + 1 - c.loop-i.i) c.loop-i.invariant.few in record {
@@ -43,7 +43,7 @@ loop-i-preserved c = record {
 pub returns-clause-asks : goal.returns-clause-asks
 returns-clause-asks c all many each = let at : c.loop-i.i ≡ c.args.from = omega (arith, c.loop-i-test.false, c.loop-i.invariant.low) in
     subst (λ k. AreAsks (is_under (slice_index_or c.args.signs.now (k - 1) Above)) (drop k c.args.signs.now) (drop k c.args.sizes.now) (drop k all)
-    c.loop-i.asks.add c.loop-i.asks.most c.loop-i.asks.more) at (c.loop-i.invariant.asks all many each)
+    c.loop-i.asks) at (c.loop-i.invariant.asks all many each)
 
 pub is_single-requires-clause-some : goal.is_single-requires-clause-some
 is_single-requires-clause-some c = omega (arith, c.requires.some, c.requires.within)

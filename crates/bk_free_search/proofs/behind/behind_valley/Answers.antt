@@ -11,6 +11,8 @@ use Rattle.bk_word.proofs.PlayLists.{place_within}
 use Rattle.bk_catalogue.proofs.HangingBounds.BoundsOfWords.{sizes_long}
 use Rattle.bk_free_search.proofs.Asks.BehindLists.{asks_at_wall, marks_many, told_apart, told_apart_last, told_joined, told_joined_last, wide_mark}
 use Rattle.bk_free_search.proofs.NextWords.Cutting.{few_signs_open}
+use Rattle.bk_free_search.proofs.Asks.AskedNext.{few_behind}
+use Rattle.bk_free_search.specs.declared.counts.TheConstants.{FEW}
 use Rattle.bk_free_search.proofs.behind.behind_valley.Goals as goal
 
 pub returns-then-place-signs : goal.returns-then-place-signs
@@ -22,23 +24,14 @@ returns-then-place-signs c =
       ap length c.signs-signs.ensures,
       ap (λ (w : Word). length (outline_of w).signs) c.skel.ensures.value,
     ) in record {
-      above = (asks_at_wall false c.args.board.now c.at_end.result.add c.at_end.result.most c.at_end.result.more at
+      above = (asks_at_wall false c.args.board.now c.at_end.result at
           (c.at_end.ensures.asks false 1 false refl (λ e. e))).0;
-      even = (asks_at_wall false c.args.board.now c.at_end-then-place-signs.result.add c.at_end-then-place-signs.result.most
-          c.at_end-then-place-signs.result.more at (c.at_end-then-place-signs.ensures.asks false 1 false refl (λ e. e))).1;
-      under = (asks_at_wall true c.args.board.now c.at_end-then-place-signs-2.result.add c.at_end-then-place-signs-2.result.most
-          c.at_end-then-place-signs-2.result.more at (c.at_end-then-place-signs-2.ensures.asks true 1 false refl (λ e. e))).0;
-      few_above = let f = c.at_end.ensures.few in record { add = omega (arith, f.add); most = omega (arith, f.most); more = omega (arith, f.more) };
-      few_even = let f = c.at_end-then-place-signs.ensures.few in record {
-        add = omega (arith, f.add);
-        most = omega (arith, f.most);
-        more = omega (arith, f.more);
-      };
-      few_under = let f = c.at_end-then-place-signs-2.ensures.few in record {
-        add = omega (arith, f.add);
-        most = omega (arith, f.most);
-        more = omega (arith, f.more);
-      };
+      even = (asks_at_wall false c.args.board.now c.at_end-then-place-signs.result at (c.at_end-then-place-signs.ensures.asks false 1 false refl (λ e. e))).1;
+      under = (asks_at_wall true c.args.board.now c.at_end-then-place-signs-2.result at (c.at_end-then-place-signs-2.ensures.asks true 1 false refl
+          (λ e. e))).0;
+      few_above = few_behind c.at_end.result 1 (FEW + 1) (omega arith) c.at_end.ensures.few;
+      few_even = few_behind c.at_end-then-place-signs.result 1 (FEW + 1) (omega arith) c.at_end-then-place-signs.ensures.few;
+      few_under = few_behind c.at_end-then-place-signs-2.result 1 (FEW + 1) (omega arith) c.at_end-then-place-signs-2.ensures.few;
     }
 
 pub overflow_add-first : goal.overflow_add-first
@@ -82,37 +75,25 @@ returns-then-first-signs c =
     let sizes = (c.sizes-sizes.ensures ∙ ap (λ (v : Word). sizes_of (outline_of v)) c.skel-2.ensures.value) in
     let legal = (subst (λ (v : Word). IsLegal v) c.skel.ensures.value c.skel.ensures.legal) in record {
       above = told_apart_last false c.args.board.now c.signs-signs.result.now c.sizes-sizes.result.now c.args.place
-          c.at_end-then-first-signs.result.add c.at_end-then-first-signs.result.most c.at_end-then-first-signs.result.more
+          c.at_end-then-first-signs.result
           signs sizes c.requires.place c.if-first-signs.true legal (c.at_end-then-first-signs.ensures.asks false
           (slice_index_or c.sizes-sizes.result.now (c.args.place + 1) 0) (slice_index_or (marks_of_word c.args.board.now) (c.args.place + 1) false) refl
           (λ e. c.requires.marks (c.args.place + 1) (c.has_mark-mark.ensures e)));
       even = told_joined_last false c.args.board.now c.signs-signs.result.now c.sizes-sizes.result.now c.args.place
-          c.at_end-then-first-signs-2.result.add c.at_end-then-first-signs-2.result.most c.at_end-then-first-signs-2.result.more
+          c.at_end-then-first-signs-2.result
           signs sizes c.requires.place c.if-first-signs.true legal (c.at_end-then-first-signs-2.ensures.asks false
           (slice_index_or c.sizes-sizes.result.now (c.args.place + 1) 0) (slice_index_or (marks_of_word c.args.board.now)
           (c.args.place + 1) false || nat_le (first_count c.args.board.now) (slice_index_or (sizes_of (outline_of c.args.board.now))
           (c.args.place + 1) 0 + 1)) refl
           (λ e. wide_mark c.args.board.now (c.args.place + 1) (c.is_wide_then-wide.ensures e)));
       under = told_apart_last true c.args.board.now c.signs-signs.result.now c.sizes-sizes.result.now c.args.place
-          c.at_end-then-first-signs-3.result.add c.at_end-then-first-signs-3.result.most c.at_end-then-first-signs-3.result.more
+          c.at_end-then-first-signs-3.result
           signs sizes c.requires.place c.if-first-signs.true legal (c.at_end-then-first-signs-3.ensures.asks true
           (slice_index_or c.sizes-sizes.result.now (c.args.place + 1) 0) (slice_index_or (marks_of_word c.args.board.now) (c.args.place + 1) false) refl
           (λ e. c.requires.marks (c.args.place + 1) (c.has_mark-mark.ensures e)));
-      few_above = let f = c.at_end-then-first-signs.ensures.few in record {
-        add = omega (arith, f.add);
-        most = omega (arith, f.most);
-        more = omega (arith, f.more);
-      };
-      few_even = let f = c.at_end-then-first-signs-2.ensures.few in record {
-        add = omega (arith, f.add);
-        most = omega (arith, f.most);
-        more = omega (arith, f.more);
-      };
-      few_under = let f = c.at_end-then-first-signs-3.ensures.few in record {
-        add = omega (arith, f.add);
-        most = omega (arith, f.most);
-        more = omega (arith, f.more);
-      };
+      few_above = few_behind c.at_end-then-first-signs.result 1 (FEW + 1) (omega arith) c.at_end-then-first-signs.ensures.few;
+      few_even = few_behind c.at_end-then-first-signs-2.result 1 (FEW + 1) (omega arith) c.at_end-then-first-signs-2.ensures.few;
+      few_under = few_behind c.at_end-then-first-signs-3.result 1 (FEW + 1) (omega arith) c.at_end-then-first-signs-3.ensures.few;
     }
 
 pub overflow_add-first-2 : goal.overflow_add-first-2
@@ -184,47 +165,28 @@ returns c =
     let index : c.args.place + 1 + 1 - 1 ≡ c.args.place + 1 = omega arith in
     let rest = subst (λ k. AreAsks (is_under (slice_index_or c.signs-signs.result.now k Above)) (drop (c.args.place + 1 + 1) c.signs-signs.result.now)
     (drop (c.args.place + 1 + 1) c.sizes-sizes.result.now) (drop (c.args.place + 1 + 1)
-    (marks_of_word c.args.board.now)) c.asks_from-rest.result.add c.asks_from-rest.result.most
-    c.asks_from-rest.result.more) index (c.asks_from-rest.ensures.asks (marks_of_word c.args.board.now)
+    (marks_of_word c.args.board.now)) c.asks_from-rest.result) index (c.asks_from-rest.ensures.asks (marks_of_word c.args.board.now)
     (marks_many c.args.board.now c.sizes-sizes.result.now sizes) c.requires.marks) in record {
-      above = told_apart false c.args.board.now c.signs-signs.result.now c.sizes-sizes.result.now c.args.place c.in_front.result.add
-          c.in_front.result.most c.in_front.result.more
+      above = told_apart false c.args.board.now c.signs-signs.result.now c.sizes-sizes.result.now c.args.place c.in_front.result
           signs sizes c.requires.place less legal (c.in_front.ensures.asks false (drop (c.args.place + 1 + 1) c.signs-signs.result.now)
           (slice_index_or c.sizes-sizes.result.now (c.args.place + 1) 0)
           (drop (c.args.place + 1 + 1) c.sizes-sizes.result.now) (slice_index_or (marks_of_word c.args.board.now) (c.args.place + 1) false) (drop
           (c.args.place + 1 + 1) (marks_of_word c.args.board.now)) rest refl
           (λ e. c.requires.marks (c.args.place + 1) (c.has_mark-mark.ensures e)));
-      even = told_joined false c.args.board.now c.signs-signs.result.now c.sizes-sizes.result.now c.args.place c.in_front-2.result.add
-          c.in_front-2.result.most c.in_front-2.result.more
+      even = told_joined false c.args.board.now c.signs-signs.result.now c.sizes-sizes.result.now c.args.place c.in_front-2.result
           signs sizes c.requires.place less legal (c.in_front-2.ensures.asks false (drop (c.args.place + 1 + 1) c.signs-signs.result.now)
           (slice_index_or c.sizes-sizes.result.now (c.args.place + 1) 0)
           (drop (c.args.place + 1 + 1) c.sizes-sizes.result.now) (slice_index_or (marks_of_word c.args.board.now) (c.args.place + 1) false || nat_le
           (first_count c.args.board.now) (slice_index_or (sizes_of (outline_of c.args.board.now)) (c.args.place + 1) 0 + 1)) (drop
           (c.args.place + 1 + 1) (marks_of_word c.args.board.now)) rest refl
           (λ e. wide_mark c.args.board.now (c.args.place + 1) (c.is_wide_then-wide.ensures e)));
-      under = told_apart true c.args.board.now c.signs-signs.result.now c.sizes-sizes.result.now c.args.place c.in_front-3.result.add
-          c.in_front-3.result.most c.in_front-3.result.more
+      under = told_apart true c.args.board.now c.signs-signs.result.now c.sizes-sizes.result.now c.args.place c.in_front-3.result
           signs sizes c.requires.place less legal (c.in_front-3.ensures.asks true (drop (c.args.place + 1 + 1) c.signs-signs.result.now)
           (slice_index_or c.sizes-sizes.result.now (c.args.place + 1) 0)
           (drop (c.args.place + 1 + 1) c.sizes-sizes.result.now) (slice_index_or (marks_of_word c.args.board.now) (c.args.place + 1) false) (drop
           (c.args.place + 1 + 1) (marks_of_word c.args.board.now)) rest refl
           (λ e. c.requires.marks (c.args.place + 1) (c.has_mark-mark.ensures e)));
-      few_above = let f = c.in_front.ensures.few 401 c.asks_from-rest.ensures.few in record {
-        add = omega (arith, f.add);
-        most = omega
-            (arith, f.most);
-        more = omega (arith, f.more);
-      };
-      few_even = let f = c.in_front-2.ensures.few 401 c.asks_from-rest.ensures.few in record {
-        add = omega (arith, f.add);
-        most = omega
-            (arith, f.most);
-        more = omega (arith, f.more);
-      };
-      few_under = let f = c.in_front-3.ensures.few 401 c.asks_from-rest.ensures.few in record {
-        add = omega (arith, f.add);
-        most = omega
-            (arith, f.most);
-        more = omega (arith, f.more);
-      };
+      few_above = c.in_front.ensures.few FEW c.asks_from-rest.ensures.few;
+      few_even = c.in_front-2.ensures.few FEW c.asks_from-rest.ensures.few;
+      few_under = c.in_front-3.ensures.few FEW c.asks_from-rest.ensures.few;
     }

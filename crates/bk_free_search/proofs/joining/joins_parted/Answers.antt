@@ -4,6 +4,7 @@ use Rattle.bk_word.specs.Play.{IsLegal, outline_of}
 use Rattle.bk_word.specs.Word.{Word}
 use Rattle.bk_layout.specs.LineNumbers.{left_end, right_end, square_lines}
 use Rattle.bk_free_search.proofs.Asks.SharedAfter.{parted_before, parted_behind}
+use Rattle.bk_free_search.proofs.Boards.OpenSquares.{joined_left-are_squares, joined_right-are_squares, valley_read-are_squares}
 use Rattle.bk_free_search.proofs.Boards.ValleyPlaces.{ends_within, valley_read}
 use Rattle.bk_free_search.specs.Joining.{JoinsLeft, JoinsRight}
 use Rattle.bk_free_search.specs.NodeLines.{Has}
@@ -17,6 +18,22 @@ slice_bounds-squares-end c = omega (
       c.ends-ends.result.now refl c.ends-ends.ensures c.args.valley.now
       (subst (λ (w : Word). IsValleyPlace w c.args.valley.now) (sym c.skel-skel.ensures.value) c.requires.valley),
 )
+
+pub lines_left_of-lefts-requires : goal.lines_left_of-lefts-requires
+lines_left_of-lefts-requires c = joined_left-are_squares c.args.board.now c.args.m.now c.joined_left-earlier.result.now
+    (subst (λ (w : Word). JoinsLeft (outline_of w) c.args.m.now c.joined_left-earlier.result.now) c.skel-skel.ensures.value c.joined_left-earlier.ensures)
+
+pub lines_right_of-rights-requires : goal.lines_right_of-rights-requires
+lines_right_of-rights-requires c = joined_right-are_squares c.args.board.now c.args.m.now c.joined_right-later.result.now
+    (subst (λ (w : Word). JoinsRight (outline_of w) c.args.m.now c.joined_right-later.result.now) c.skel-skel.ensures.value c.joined_right-later.ensures)
+
+pub right_end-requires : goal.right_end-requires
+right_end-requires c = valley_read-are_squares c.skel-skel.result.now c.args.board.now c.skel-skel.ensures.value c.skel-skel.ensures.legal
+    c.ends-ends.result.now c.ends-ends.ensures c.args.valley.now c.requires.valley
+
+pub left_end-requires : goal.left_end-requires
+left_end-requires c = valley_read-are_squares c.skel-skel.result.now c.args.board.now c.skel-skel.ensures.value c.skel-skel.ensures.legal
+    c.ends-ends.result.now c.ends-ends.ensures c.args.valley.now c.requires.valley
 
 pub with_line-requires : goal.with_line-requires
 with_line-requires c = c.right_end.ensures.low

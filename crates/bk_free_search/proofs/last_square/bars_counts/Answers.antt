@@ -37,13 +37,13 @@ returns-then-right-left c _ = left_is_barred c.args.order c.args.board.now c.req
       ap (λ (w : Word). cond {A = ℕ} (has_right_wall (outline_of w)) 1 0) c.skel-skel.ensures.value,
     ))
 
-pub returns-then-from : goal.returns-then-from
-returns-then-from c told = right_is_barred c.args.order c.args.board.now c.requires.least c.requires.one
-    (omega (arith, c.if-from.true, c.from-4.ensures, c.from-5.ensures, ap (λ (k : Counts). k.moves) c.counts-counts.ensures))
+pub returns-then-are_most_moves : goal.returns-then-are_most_moves
+returns-then-are_most_moves c told = right_is_barred c.args.order c.args.board.now c.requires.least c.requires.one
+    (omega (arith, c.are_most_moves.ensures c.if-are_most_moves.true, c.from-4.ensures, ap (λ (k : Counts). k.moves) c.counts-counts.ensures))
     (omega (
       arith,
-      lt-from_nat_lt c.from-then-from.result (c.from-2.result + c.one_if-2.result) told,
-      c.from-then-from.ensures,
+      lt-from_nat_lt c.from-then-are_most_moves.result (c.from-2.result + c.one_if-2.result) told,
+      c.from-then-are_most_moves.ensures,
       ap (λ (k : Counts). k.top) c.counts-counts.ensures,
       c.from-2.ensures,
       c.one_if-2.ensures,

@@ -2,6 +2,7 @@ use Rattle.std.proofs.Common.{ap, arith, drop, refl, subst, sym, take, ◌-◌, 
 use Rattle.bk_word.specs.Word.{Word}
 use Rattle.bk_word.specs.Outline.{sizes_of, valley_of}
 use Rattle.bk_word.specs.Play.{outline_of}
+use Rattle.bk_free_search.proofs.Boards.OpenSquares.{valley_read-are_squares}
 use Rattle.bk_free_search.proofs.Boards.TopLineMarks.{left_on_line}
 use Rattle.bk_free_search.proofs.Boards.ValleyPlaces.{ends_within, valley_read}
 use Rattle.bk_play.specs.SmallSkeleton.{IsValleyPlace}
@@ -13,6 +14,10 @@ slice_bounds-left_end-end c = omega (
   ends_within c.skel.result.now c.skel.ensures.legal (sizes_of (outline_of c.skel.result.now)) c.ends.result.now
       refl c.ends.ensures c.args.valley.now (subst (λ (w : Word). IsValleyPlace w c.args.valley.now) (sym c.skel.ensures.value) c.requires),
 )
+
+pub left_end-line-requires : goal.left_end-line-requires
+left_end-line-requires c = valley_read-are_squares c.skel.result.now c.args.board.now c.skel.ensures.value c.skel.ensures.legal c.ends.result.now
+    c.ends.ensures c.args.valley.now c.requires
 
 pub returns-then-line-ge2 : goal.returns-then-line-ge2
 returns-then-line-ge2 c told = left_on_line c.args.board.now (take (c.args.valley.now.end - c.args.valley.now.start)

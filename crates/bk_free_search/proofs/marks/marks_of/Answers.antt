@@ -9,9 +9,11 @@ use Rattle.bk_catalogue.proofs.HangingBounds.BoundsOfWords.{shape_of_word}
 use Rattle.bk_catalogue.specs.VerticalCut.{edges_on_lines}
 use Rattle.bk_layout.specs.WordNumbers.{first_count}
 use Rattle.bk_free_search.proofs.Asks.OpenMarks.{filled_sizes, marks_again}
+use Rattle.bk_layout.proofs.FreeCuts.CutByNodes.{as_many_lefts}
+use Rattle.bk_free_search.proofs.Boards.OpenSquares.{open_squares-are_squares}
 use Rattle.bk_free_search.proofs.Boards.TopLineMarks.{marks_of_lefts}
 use Rattle.bk_free_search.specs.Strong.{AreFilled, marks_by_lists}
-use Rattle.bk_free_search.specs.TopLines.{on_top_lines}
+use Rattle.bk_free_search.specs.TopLines.{AreSquares, on_top_lines}
 use Rattle.bk_free_search.proofs.marks.marks_of.Goals as goal
 
 pub marks_in-requires-clause-whole : goal.marks_in-requires-clause-whole
@@ -31,6 +33,13 @@ marks_in-requires-clause-many c = omega (
 pub marks_in-requires-clause-filled : goal.marks_in-requires-clause-filled
 marks_in-requires-clause-filled c = subst (λ (sizes : List ℕ). AreFilled sizes) (sym c.sizes.ensures)
     (filled_sizes (outline_of c.skel-skel.result.now).segments (shape_of_word c.skel-skel.result.now c.skel-skel.ensures.legal).filled)
+
+pub marks_in-requires-clause-squares : goal.marks_in-requires-clause-squares
+marks_in-requires-clause-squares c =
+    let w = c.args.board.now in
+    subst (λ (ends : List ℕ). AreSquares ends (length c.lefts.result.now))
+    (sym (c.ends.ensures ∙ ap (λ (v : Word). concat (outline_of v).segments) c.skel-skel.ensures.value))
+    (subst (λ k. AreSquares (concat (outline_of w).segments) k) (sym (ap length c.lefts.ensures ∙ as_many_lefts w)) (open_squares-are_squares w))
 
 pub returns : goal.returns
 returns c i has =

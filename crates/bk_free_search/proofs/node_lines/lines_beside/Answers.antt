@@ -5,6 +5,15 @@ use Rattle.bk_free_search.proofs.node_lines.lines_beside.Goals as goal
 pub squares-init : goal.squares-init
 squares-init c = record { only = λ line has. absurd (c.no_line-lines.ensures line has); all = λ line b low under. absurd (omega (arith, under)) }
 
+pub with_sides-lines-requires-clause-least : goal.with_sides-lines-requires-clause-least
+with_sides-lines-requires-clause-least c = (c.requires.at_left c.squares.square-index c.squares-test.true).0
+
+pub with_sides-lines-requires-clause-at_left : goal.with_sides-lines-requires-clause-at_left
+with_sides-lines-requires-clause-at_left c = (c.requires.at_left c.squares.square-index c.squares-test.true).1
+
+pub with_sides-lines-requires-clause-at_right : goal.with_sides-lines-requires-clause-at_right
+with_sides-lines-requires-clause-at_right c = (c.requires.at_right c.squares.square-index c.squares-test.true).1
+
 pub squares-preserved : goal.squares-preserved
 squares-preserved c = gathered_more c.args.lefts.now c.args.rights.now c.args.squares.now c.squares.square-index _ c.squares.lines
     c.with_sides-lines.result c.squares.invariant c.squares-test.true

@@ -3,5 +3,5 @@ use Rattle.bk_free_search.proofs.NextWords.SignPhases.{none_is_barred}
 use Rattle.bk_free_search.proofs.questions.bars_none.Goals as goal
 
 pub returns : goal.returns
-returns c told n front begun none wall = none_is_barred n front c.args.begun.now.m c.args.begun.now.next c.args.around.now begun none wall
+returns c told s begun none wall = none_is_barred begun none wall
     (lt-from_nat_lt c.args.begun.now.next.left c.args.around.now.needs.none told)

@@ -3,5 +3,5 @@ use Rattle.bk_free_search.proofs.NextWords.SignPhases.{right_lacks_even}
 use Rattle.bk_free_search.proofs.questions.lacks_even.Goals as goal
 
 pub returns : goal.returns
-returns c told n front m next begun asked last sign not = right_lacks_even n front m next c.args.around.now c.args.asked.now begun asked
+returns c told s b begun asked last sign not = right_lacks_even c.args.asked.now begun asked
     (lt-from_nat_lt c.args.asked.now.evens c.args.around.now.ahead.evens told) last sign not

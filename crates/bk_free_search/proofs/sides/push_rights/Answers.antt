@@ -1,37 +1,20 @@
-use Rattle.std.proofs.Common.{List, [], ap, arith, length, length-append, lit<, ℕ, ◌++◌, ◌+◌, ◌-◌, ◌∙◌, ◌∷◌, ◌≡◌}
+use Rattle.std.proofs.Common.{List, [], ap, arith, length, length-append, lit<, ℕ, ◌++◌, ◌+◌, ◌-◌, ◌∙◌, ◌∷◌}
+use Rattle.bk_word.proofs.PlayLists.{numbers-length}
 use Rattle.bk_word.specs.Play.{numbers_from}
-use Rattle.bk_free_search.proofs.Boards.LeftLines.{last_left, next_left}
 use Rattle.bk_free_search.proofs.sides.push_rights.Goals as goal
 
-pub others-init : goal.others-init
-others-init c = record {
-  items = let two : c.args.hung + 1 + 1 ≡ c.args.hung + 2 = omega arith in ap (λ k. c.args.rights.now.items ++ numbers_from k (c.args.count - 1)) two;
-  long = omega arith;
-  few = omega (arith, c.requires.some);
-}
-
 pub push-requires : goal.push-requires
-push-requires c = (lit< tt, omega (arith, c.others.invariant.long, c.requires.fits, c.others-test.true))
-
-pub push-requires-2 : goal.push-requires-2
-push-requires-2 c = (lit< tt, omega (arith, c.others.invariant.long, c.requires.fits, c.others.invariant.few))
-
-pub others-preserved : goal.others-preserved
-others-preserved c = record {
-  items = ap (λ l. l ++ numbers_from (c.args.hung + (c.others.k + 1) + 1) (c.args.count - (c.others.k + 1))) c.push.ensures
-      ∙ next_left c.others.rights.items c.args.hung c.others.k c.args.count
-      (c.args.rights.now.items ++ numbers_from (c.args.hung + 2) (c.args.count - 1)) c.others-test.true c.others.invariant.items;
-  long = omega (
+push-requires c = (
+  lit< tt,
+  omega (
     arith,
-    c.others.invariant.long,
-    ap (λ (l : List ℕ). length l) c.push.ensures,
-    length-append c.others.rights.items ((c.args.hung + c.others.k + 1) ∷ []),
-  );
-  few = omega (arith, c.others-test.true);
-}
+    c.requires.some,
+    c.requires.fits,
+    ap (λ (l : List ℕ). length l) c.push_between.ensures,
+    length-append c.args.rights.now.items (numbers_from (c.args.hung + 2) (c.args.count - 1)),
+    numbers-length (c.args.hung + 2) (c.args.count - 1),
+  ),
+)
 
 pub returns : goal.returns
-returns c =
-    c.push-2.ensures
-    ∙ ap (λ l. l ++ c.args.last ∷ []) (last_left c.others.rights.items c.args.hung c.others.k c.args.count
-    (c.args.rights.now.items ++ numbers_from (c.args.hung + 2) (c.args.count - 1)) (omega (arith, c.others-test.false)) c.others.invariant.items)
+returns c = c.push.ensures ∙ ap (λ l. l ++ c.args.last ∷ []) c.push_between.ensures

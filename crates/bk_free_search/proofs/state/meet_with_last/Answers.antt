@@ -5,7 +5,7 @@ use Rattle.bk_word.proofs.StoredBytes.{order_one}
 use Rattle.bk_word.specs.Play.{IsComplete, outline_of}
 use Rattle.bk_word.specs.Word.{Move, Word, order_of}
 use Rattle.bk_free_search.proofs.NextWords.LastSquare.{last_is_whole, last_legal}
-use Rattle.bk_free_search.proofs.NextWords.TurnsTaken.{without_last}
+use Rattle.bk_free_search.proofs.NextWords.TurnsTaken.{none_met, without_last}
 use Rattle.bk_free_search.specs.BoardOutlines.{IsBoardOutline}
 use Rattle.bk_free_search.specs.LastSquare.{neighbours}
 use Rattle.bk_free_search.proofs.state.meet_with_last.Goals as goal
@@ -26,19 +26,13 @@ pub last_move-requires-clause-one : goal.last_move-requires-clause-one
 last_move-requires-clause-one g c = c.requires.one
 
 pub returns-in-None-clause-kept : goal.returns-in-None-clause-kept
-returns-in-None-clause-kept g c = λ w met. met
-
-pub returns-in-None-clause-fixed : goal.returns-in-None-clause-fixed
-returns-in-None-clause-fixed g c = refl
+returns-in-None-clause-kept g c = none_met c.args.leaves.now
 
 pub returns-in-None-clause-board : goal.returns-in-None-clause-board
 returns-in-None-clause-board g c = refl
 
 pub returns-clause-kept : goal.returns-clause-kept
 returns-clause-kept g c = c.meet_closed.ensures.kept
-
-pub returns-clause-fixed : goal.returns-clause-fixed
-returns-clause-fixed g c = c.meet_closed.ensures.fixed
 
 pub push-requires-clause-legal : goal.push-requires-clause-legal
 push-requires-clause-legal g c = last_legal (outline_of c.args.board.now) c.in-Some.last (neighbours (outline_of c.args.board.now))

@@ -2,4 +2,4 @@ use Rattle.bk_gen.specs.TrialLine.{IsTally}
 use Rattle.bk_gen.proofs.tally.tally_of.Given as goal
 
 abbrev pub invariant-loop-k : goal.invariant-loop-k
-invariant-loop-k l = IsTally l.seed l.k l.tally.accepted l.tally.perfect l.tally.simple l.tally.squares
+invariant-loop-k l = IsTally l.seed l.k l.counts

@@ -26,7 +26,7 @@ returns-in_err-write_next-clause-begun g c =
     on_err-intro c.from_residual.result
     (listed_begun (listing_of first c.args.limit) here.cursor c.entries.listed (g.O.Sink.written c.args.out.now) (g.O.Sink.written c.entries.out)
     c.entries.invariant.listed (c.is_reached.ensures.no c.if-is_reached.false) then.cursor (g.O.Sink.written c.write_next.new.out)
-    (begun_of_same (catalogue_of here) (catalogue_of first) here.cursor then.cursor (g.O.Sink.written c.entries.out)
+    (begun_of_same here then (catalogue_of first) (g.O.Sink.written c.entries.out)
     (g.O.Sink.written c.write_next.new.out) c.entries.invariant.catalogue c.in_err-write_next.ensures.begun))
 
 pub entries-preserved : goal.entries-preserved
@@ -37,13 +37,13 @@ entries-preserved g c =
     record {
       listed = listed_more (listing_of first c.args.limit) here.cursor c.entries.listed (g.O.Sink.written c.args.out.now) (g.O.Sink.written c.entries.out)
           c.entries.invariant.listed (c.is_reached.ensures.no c.if-is_reached.false) then.cursor (g.O.Sink.written c.write_next.new.out) c.requires
-          (next_of_same (catalogue_of here) (catalogue_of first) here.cursor then.cursor (g.O.Sink.written c.entries.out)
+          (next_of_same here then (catalogue_of first) (g.O.Sink.written c.entries.out)
           (g.O.Sink.written c.write_next.new.out) c.in_ok-write_next.field-0 Member c.entries.invariant.catalogue c.in-Member.is
           c.in_ok-write_next.ensures.next);
       steps = steps_more (listing_of first c.args.limit) here.cursor c.entries.listed (g.O.Sink.written c.args.out.now) (g.O.Sink.written c.entries.out)
           c.entries.invariant.listed c.args.steps.now c.entries.steps c.write_next.new.steps c.entries.invariant.steps then.cursor
           (g.O.Sink.written c.write_next.new.out)
-          (next_of_same (catalogue_of here) (catalogue_of first) here.cursor then.cursor (g.O.Sink.written c.entries.out)
+          (next_of_same here then (catalogue_of first) (g.O.Sink.written c.entries.out)
           (g.O.Sink.written c.write_next.new.out) c.in_ok-write_next.field-0 Member c.entries.invariant.catalogue c.in-Member.is
           c.in_ok-write_next.ensures.next)
           (next_steps_as here.order first.order c.in_ok-write_next.field-0 Member here.cursor then.cursor (c.write_next.new.steps - c.entries.steps)
@@ -60,7 +60,7 @@ returns-in-Nothing-clause-ended g c =
     steps_all (listing_of first c.args.limit) here.cursor c.entries.listed (g.O.Sink.written c.args.out.now) (g.O.Sink.written c.entries.out)
     c.entries.invariant.listed c.args.steps.now c.entries.steps c.write_next.new.steps c.entries.invariant.steps
     (c.is_reached.ensures.no c.if-is_reached.false) then.cursor (g.O.Sink.written c.write_next.new.out)
-    (next_of_same (catalogue_of here) (catalogue_of first) here.cursor then.cursor (g.O.Sink.written c.entries.out)
+    (next_of_same here then (catalogue_of first) (g.O.Sink.written c.entries.out)
     (g.O.Sink.written c.write_next.new.out) c.in_ok-write_next.field-0 Nothing c.entries.invariant.catalogue c.in-Nothing.is
     c.in_ok-write_next.ensures.next)
     (next_steps_as here.order first.order c.in_ok-write_next.field-0 Nothing here.cursor then.cursor (c.write_next.new.steps - c.entries.steps)
@@ -75,7 +75,7 @@ returns-in_err-write_next-clause-stopped g c =
     (steps_begun (listing_of first c.args.limit) here.cursor c.entries.listed (g.O.Sink.written c.args.out.now) (g.O.Sink.written c.entries.out)
     c.entries.invariant.listed c.args.steps.now c.entries.steps c.write_next.new.steps c.entries.invariant.steps
     (c.is_reached.ensures.no c.if-is_reached.false) then.cursor (g.O.Sink.written c.write_next.new.out)
-    (begun_of_same (catalogue_of here) (catalogue_of first) here.cursor then.cursor (g.O.Sink.written c.entries.out)
+    (begun_of_same here then (catalogue_of first) (g.O.Sink.written c.entries.out)
     (g.O.Sink.written c.write_next.new.out) c.entries.invariant.catalogue c.in_err-write_next.ensures.begun)
     (tree_as here.order first.order here.cursor then.cursor (c.write_next.new.steps - c.entries.steps)
     (ap (λ (k : Catalogue). k.order) c.entries.invariant.catalogue) c.in_err-write_next.ensures.stopped))

@@ -10,7 +10,8 @@ use Rattle.bk_list.proofs.entries.write_next.Goals as goal
 pub write_entry-requires-clause-some : goal.write_entry-requires-clause-some
 write_entry-requires-clause-some g c =
     let first = g.M.Members.at c.args.members.now in
-    word_has_a_move first.order first.class first.cursor c.advance_in.new.entry.tiling c.advance_in.new.entry.word
+    word_has_a_move first.order first.class first.cursor
+    (record { tiling = c.advance_in.new.entry.tiling; word = c.advance_in.new.entry.word })
     (c.advance_in.ensures.entry c.if-not-advance_in.false)
 
 pub write_entry-requires-clause-code : goal.write_entry-requires-clause-code

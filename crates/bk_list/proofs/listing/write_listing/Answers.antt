@@ -36,7 +36,7 @@ returns-in_err-write_all-clause-begun g c =
     let then = g.M.Members.at c.write_entries.new.members in
     on_err-intro c.from_residual-in_err-write_all.result
     (begun_whole (listing_of first c.args.limit) c.in_ok-last.last c.in_ok-last.listed then.cursor (g.O.Sink.written c.args.out.now)
-    (g.O.Sink.written c.write_entries.new.out) (g.O.Sink.written c.write_all.new.self) (c.in_ok-last.ensures.ended).lines c.as_slice.result.now
+    (g.O.Sink.written c.write_entries.new.out) (g.O.Sink.written c.write_all.new.self) c.in_ok-last.ensures.ended.0 c.as_slice.result.now
     (c.as_slice.ensures.value ∙ c.write_last.ensures
     ∙ line_of_same c.in_ok-last.last c.order.result first.order c.class.result first.class c.in_ok-last.listed c.cursor.result.now then.cursor
     (c.order.ensures ∙ ap (λ (k : Catalogue). k.order) c.in_ok-last.ensures.catalogue)
@@ -49,7 +49,8 @@ returns-in_err-write_all-clause-stopped g c =
     let then = g.M.Members.at c.write_entries.new.members in
     on_err-intro c.from_residual-in_err-write_all.result
     (inr (took_all (listing_of first c.args.limit) c.in_ok-last.last c.in_ok-last.listed (g.O.Sink.written c.args.out.now)
-    (g.O.Sink.written c.write_entries.new.out) then.cursor (c.write_entries.new.steps - c.args.steps.now) c.in_ok-last.ensures.ended then.cursor
+    (g.O.Sink.written c.write_entries.new.out) then.cursor (c.write_entries.new.steps - c.args.steps.now)
+    c.in_ok-last.ensures.ended.0 c.in_ok-last.ensures.ended.1 then.cursor
     (g.O.Sink.written c.write_all.new.self) c.as_slice.result.now
     (c.as_slice.ensures.value ∙ c.write_last.ensures
     ∙ line_of_same c.in_ok-last.last c.order.result first.order c.class.result first.class c.in_ok-last.listed c.cursor.result.now then.cursor
@@ -80,7 +81,7 @@ returns-clause-listed g c =
     let first = g.M.Members.at c.args.members.now in
     let then = g.M.Members.at c.write_entries.new.members in
     written_whole (listing_of first c.args.limit) c.in_ok-last.last c.in_ok-last.listed then.cursor (g.O.Sink.written c.args.out.now)
-    (g.O.Sink.written c.write_entries.new.out) (g.O.Sink.written c.write_all.new.self) (c.in_ok-last.ensures.ended).lines c.as_slice.result.now
+    (g.O.Sink.written c.write_entries.new.out) (g.O.Sink.written c.write_all.new.self) c.in_ok-last.ensures.ended.0 c.as_slice.result.now
     (c.as_slice.ensures.value ∙ c.write_last.ensures
     ∙ line_of_same c.in_ok-last.last c.order.result first.order c.class.result first.class c.in_ok-last.listed c.cursor.result.now then.cursor
     (c.order.ensures ∙ ap (λ (k : Catalogue). k.order) c.in_ok-last.ensures.catalogue)
@@ -100,14 +101,16 @@ returns-clause-stands g c =
     let first = g.M.Members.at c.args.members.now in
     let then = g.M.Members.at c.write_entries.new.members in
     stands_behind (listing_of first c.args.limit) c.in_ok-last.last c.in_ok-last.listed (g.O.Sink.written c.args.out.now)
-    (g.O.Sink.written c.write_entries.new.out) then.cursor (c.write_entries.new.steps - c.args.steps.now) c.in_ok-last.ensures.ended
+    (g.O.Sink.written c.write_entries.new.out) then.cursor (c.write_entries.new.steps - c.args.steps.now)
+    c.in_ok-last.ensures.ended.0 c.in_ok-last.ensures.ended.1
 
 pub returns-clause-steps : goal.returns-clause-steps
 returns-clause-steps g c =
     let first = g.M.Members.at c.args.members.now in
     let then = g.M.Members.at c.write_entries.new.members in
     takes_all (listing_of first c.args.limit) c.in_ok-last.last c.in_ok-last.listed (g.O.Sink.written c.args.out.now)
-    (g.O.Sink.written c.write_entries.new.out) then.cursor (c.write_entries.new.steps - c.args.steps.now) c.in_ok-last.ensures.ended
+    (g.O.Sink.written c.write_entries.new.out) then.cursor (c.write_entries.new.steps - c.args.steps.now)
+    c.in_ok-last.ensures.ended.0 c.in_ok-last.ensures.ended.1
 
 pub returns-clause-stopped : goal.returns-clause-stopped
 returns-clause-stopped g c = tt
@@ -119,7 +122,7 @@ pub write_last-requires : goal.write_last-requires
 write_last-requires g c e =
     let first = g.M.Members.at c.args.members.now in
     absurd (ended_narrow (listing_of first c.args.limit) c.in_ok-last.last c.in_ok-last.listed (g.O.Sink.written c.args.out.now)
-    (g.O.Sink.written c.write_entries.new.out) (c.in_ok-last.ensures.ended).lines e)
+    (g.O.Sink.written c.write_entries.new.out) c.in_ok-last.ensures.ended.0 e)
 
 pub as_slice-requires : goal.as_slice-requires
 as_slice-requires g c = lit< tt

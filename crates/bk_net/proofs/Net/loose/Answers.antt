@@ -2,7 +2,7 @@ use Rattle.std.proofs.Common.{List, ap, arith, inl, inr, length, subst, sym, ℕ
 use Rattle.std.proofs.lemmas.Bool.{cases_lt}
 use Rattle.std.specs.Prelude.{slice_index}
 use Rattle.bk_net.specs.Labels.{EndsBelow}
-use Rattle.bk_net.proofs.Joining.{labels_of_net, least, none_loose}
+use Rattle.bk_net.proofs.Joining.{labels_of_net, least_loose_by_label, none_loose}
 use Rattle.bk_net.proofs.Net.loose.Goals as goal
 
 -- the label of the last node, as the code reads it
@@ -21,7 +21,7 @@ returns-then-deref-from-clause-some c =
     c.from.ensures c.nodes-nodes.ensures.value in
     let here = here_is c.labels_of-labels.result.items c.deref-in-loop-v.result.now c.loop-v.v c.from-in-loop-v.result c.deref-in-loop-v.ensures.0
     c.from-in-loop-v.ensures in
-    least c.args.self.now c.labels_of-labels.result.items
+    least_loose_by_label c.args.self.now c.labels_of-labels.result.items
     (labels_of_net c.args.self.now c.nodes-nodes.result c.wires.result.now c.labels_of-labels.result.items c.nodes-nodes.ensures.value
     c.wires.ensures.value c.labels_of-labels.ensures)
     c.loop-v.v (omega (arith, c.nodes-nodes.ensures.value)) (omega arith)

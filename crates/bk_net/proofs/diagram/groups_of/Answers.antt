@@ -1,9 +1,9 @@
-use Rattle.std.proofs.Common.{Bool, List, [], ap, arith, false, get_or, length, map, refl, subst, sym, true, ℕ, ◌++◌, ◌+◌, ◌-◌, ◌<◌, ◌∙◌, ◌∷◌, ◌≡◌}
+use Rattle.std.proofs.Common.{Bool, List, [], ap, arith, cond, false, get_or, length, map, refl, subst, sym, true, ℕ, ◌++◌, ◌+◌, ◌-◌, ◌<◌, ◌∙◌, ◌∷◌, ◌≡◌}
 use Rattle.std.proofs.lemmas.List.{take_all}
 use Rattle.bk_tiling.specs.CodeOrder.{begins_group}
 use Rattle.bk_tiling.specs.SquareGroups.{square_groups}
 use Rattle.bk_tiling.specs.declared.Square.{Square}
-use Rattle.bk_net.proofs.Hanging.{AreKnown, groups_before, known_more, more_groups, more_levels}
+use Rattle.bk_net.proofs.Hanging.{AreKnown, groups_before, known_more, more_levels}
 use Rattle.bk_net.specs.Diagram.{group_level}
 use Rattle.bk_net.specs.GroupNumbers.{group_numbers}
 use Rattle.bk_net.proofs.diagram.groups_of.Goals.{else-begins_group, then-begins_group}
@@ -15,13 +15,13 @@ nowhere = record { x = 0; y = 0; s = 0 }
 -- what the code holds after a further square
 step : (squares all : List Square) (i : ℕ) (levels nodes more : List ℕ) (groups count : ℕ) (after : List ℕ) (b : Bool) → squares ≡ all
     → i < length squares → b ≡ begins_group all i → AreKnown squares i levels nodes groups
-    → more ≡ more_levels b levels (get_or squares i nowhere).y → count ≡ more_groups b groups → after ≡ nodes ++ (count - 1) ∷ []
+    → more ≡ more_levels b levels (get_or squares i nowhere).y → count ≡ cond {A = ℕ} b (groups + 1) groups → after ≡ nodes ++ (count - 1) ∷ []
     → AreKnown squares (i + 1) more after count
 step squares all i levels nodes more groups count after b same within begins known m c a =
     subst (λ (l : List ℕ). AreKnown squares (i + 1) l after count) (sym m)
     (subst (λ (l : List ℕ). AreKnown squares (i + 1) (more_levels b levels (get_or squares i nowhere).y) l count)
     (sym (a ∙ ap (λ (k : ℕ). nodes ++ (k - 1) ∷ []) c))
-    (subst (λ (k : ℕ). AreKnown squares (i + 1) (more_levels b levels (get_or squares i nowhere).y) (nodes ++ (more_groups b groups - 1) ∷ []) k) (sym c)
+    (subst (λ (k : ℕ). AreKnown squares (i + 1) (more_levels b levels (get_or squares i nowhere).y) (nodes ++ (cond b (groups + 1) groups - 1) ∷ []) k) (sym c)
     (known_more squares i nowhere levels nodes groups b within (begins ∙ ap (λ (l : List Square). begins_group l i) (sym same)) known)))
 
 pub loop-i-preserved : goal.loop-i-preserved

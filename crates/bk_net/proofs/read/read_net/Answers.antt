@@ -3,7 +3,7 @@ use Rattle.std.proofs.Common.{ap, arith, subst, sym, ◌∙◌}
 use Rattle.bk_net.specs.GatheredWires.{KeepsWires, and_wire}
 use Rattle.bk_net.specs.NetReading.{ended_wire, next_net_place}
 use Rattle.bk_net.specs.declared.reader.Ending.{Ending}
-use Rattle.bk_net.proofs.NetProgress.{HasWires, at_first, fault_is, further, item_is, no_ending, no_next, skip_found, whole, wires_found}
+use Rattle.bk_net.proofs.NetProgress.{HasWires, at_first, fault_is, progress_more, item_is, no_ending, no_next, skip_found, progress_all, wires_found}
 use Rattle.bk_net.proofs.read.read_net.Goals as goal
 
 pub new-wires-requires : goal.new-wires-requires
@@ -18,7 +18,7 @@ bounds-line-at c = c.loop-at-test.true
 pub loop-at-preserved : goal.loop-at-preserved
 loop-at-preserved c =
     let kind = c.kind_of-kind.ensures in
-    further c.args.line.now c.loop-at.at c.loop-at.place c.in-Some.next c.loop-at.wires.items c.with_wire-many.new.wires.items c.loop-at.many
+    progress_more c.args.line.now c.loop-at.at c.loop-at.place c.in-Some.next c.loop-at.wires.items c.with_wire-many.new.wires.items c.loop-at.many
     c.with_wire-many.result c.loop-at-test.true c.loop-at.invariant
     (ap (next_net_place c.loop-at.place) (sym kind) ∙ sym c.next.ensures ∙ c.in-Some.is)
     (λ all keeps. subst (λ (o : Option (ℕ × ℕ)). KeepsWires (and_wire o all) c.with_wire-many.new.wires.items c.with_wire-many.result)
@@ -41,13 +41,13 @@ returns-in_default-clause-fault c =
 pub returns-in_default-ending-clause-fault : goal.returns-in_default-ending-clause-fault
 returns-in_default-ending-clause-fault c =
     no_ending c.args.line.now c.loop-at.place c.loop-at.wires.items c.loop-at.many
-    (whole c.args.line.now c.loop-at.at c.loop-at.place c.loop-at.wires.items c.loop-at.many (omega arith) c.loop-at.invariant) (sym c.ending.ensures
+    (progress_all c.args.line.now c.loop-at.at c.loop-at.place c.loop-at.wires.items c.loop-at.many (omega arith) c.loop-at.invariant) (sym c.ending.ensures
     ∙ c.in_default-ending.is)
 
 pub returns-in-Empty-clause-read : goal.returns-in-Empty-clause-read
 returns-in-Empty-clause-read c =
     skip_found c.args.line.now c.loop-at.place c.loop-at.wires.items c.loop-at.many
-    (whole c.args.line.now c.loop-at.at c.loop-at.place c.loop-at.wires.items c.loop-at.many (omega arith) c.loop-at.invariant)
+    (progress_all c.args.line.now c.loop-at.at c.loop-at.place c.loop-at.wires.items c.loop-at.many (omega arith) c.loop-at.invariant)
     (sym c.ending.ensures ∙ c.in-Some-ending.is ∙ ap (λ (e : Ending). Some e) c.in-Empty.is)
 
 -- all wires, and what is kept of them
@@ -56,7 +56,7 @@ wires c =
     subst (λ (kept : List (ℕ × ℕ)). HasWires c.args.line.now c.in-Nodes.nodes kept c.with_wire-many-2.result) (sym c.deref.ensures.0)
     (wires_found c.args.line.now c.loop-at.place c.loop-at.wires.items c.with_wire-many-2.new.wires.items c.loop-at.many c.with_wire-many-2.result
     c.in-Nodes.nodes
-    (whole c.args.line.now c.loop-at.at c.loop-at.place c.loop-at.wires.items c.loop-at.many (omega arith) c.loop-at.invariant)
+    (progress_all c.args.line.now c.loop-at.at c.loop-at.place c.loop-at.wires.items c.loop-at.many (omega arith) c.loop-at.invariant)
     (sym c.ending.ensures ∙ c.in-Some-ending.is ∙ ap (λ (e : Ending). Some e) c.in-Nodes.is)
     (λ all keeps. subst (λ (o : Option (ℕ × ℕ)). KeepsWires (and_wire o all) c.with_wire-many-2.new.wires.items c.with_wire-many-2.result)
     c.last_wire.ensures (c.with_wire-many-2.ensures all keeps)))

@@ -1,4 +1,4 @@
-use Rattle.std.proofs.Common.{ap, arith, length, lit<, max, ℕ, ◌+◌, ◌-◌, ◌<◌, ◌∙◌, ◌≡◌, ◌≤◌}
+use Rattle.std.proofs.Common.{ap, arith, length, lit<, max, min, ℕ, ◌+◌, ◌-◌, ◌<◌, ◌∙◌, ◌≡◌, ◌≤◌}
 use Rattle.std.specs.List.{splice}
 use Rattle.bk_laws.proofs.Rooms.{room-filled, room-long}
 use Rattle.bk_play.specs.Skeleton.{first_touched, joined_sizes, open_sides_of_record}
@@ -20,6 +20,11 @@ sizes_end start sides p q r n new e f within long = omega arith
 
 signs_end : (start sides p q r n new : ℕ) → p ≡ start → q ≡ sides → start + sides ≤ n → new ≡ n - (p + q - p) + r → p + r ≤ new
 signs_end start sides p q r n new e f within long = omega arith
+
+-- a start, the open sides and the parted signs are few together
+all_few : (start left right parted p q r n : ℕ) → p ≡ start → q ≡ min left 1 + min right 1 → r ≡ parted → start + (min left 1 + min right 1 + 1) ≤ n
+    → n - (min left 1 + min right 1 + 1) + (parted + 1) ≤ 200 → p + q + r + 1 ≤ 400
+all_few start left right parted p q r n e f g within fits = omega arith
 
 one_more : (p r m : ℕ) → r ≡ m → p + r + 1 ≡ p + (m + 1)
 one_more p r m e = omega arith
@@ -78,61 +83,43 @@ put_signs-requires c = room-long _ _ _ _ _ c.deref_mut-2.ensures.value
 pub overflow_add-start : goal.overflow_add-start
 overflow_add-start c = omega (
   arith,
-  c.first_touched-start.ensures,
-  c.open_sides-open.ensures,
-  c.from-parted.ensures,
-  c.requires.sizes_within,
-  c.requires.sizes_fit,
+  all_few _ _ _ _ _ _ _ _ c.first_touched-start.ensures c.open_sides-open.ensures c.from-parted.ensures
+      c.requires.sizes_within c.requires.sizes_fit,
 )
 
 pub overflow_add-start-2 : goal.overflow_add-start-2
 overflow_add-start-2 c = omega (
   arith,
-  c.first_touched-start.ensures,
-  c.open_sides-open.ensures,
-  c.from-parted.ensures,
-  c.requires.sizes_within,
-  c.requires.sizes_fit,
+  all_few _ _ _ _ _ _ _ _ c.first_touched-start.ensures c.open_sides-open.ensures c.from-parted.ensures
+      c.requires.sizes_within c.requires.sizes_fit,
 )
 
 pub overflow_add-start-3 : goal.overflow_add-start-3
 overflow_add-start-3 c = omega (
   arith,
-  c.first_touched-start.ensures,
-  c.open_sides-open.ensures,
-  c.from-parted.ensures,
-  c.requires.sizes_within,
-  c.requires.sizes_fit,
+  all_few _ _ _ _ _ _ _ _ c.first_touched-start.ensures c.open_sides-open.ensures c.from-parted.ensures
+      c.requires.sizes_within c.requires.sizes_fit,
 )
 
 pub overflow_add-start-4 : goal.overflow_add-start-4
 overflow_add-start-4 c = omega (
   arith,
-  c.first_touched-start.ensures,
-  c.open_sides-open.ensures,
-  c.from-parted.ensures,
-  c.requires.sizes_within,
-  c.requires.sizes_fit,
+  all_few _ _ _ _ _ _ _ _ c.first_touched-start.ensures c.open_sides-open.ensures c.from-parted.ensures
+      c.requires.sizes_within c.requires.sizes_fit,
 )
 
 pub overflow_add-start-5 : goal.overflow_add-start-5
 overflow_add-start-5 c = omega (
   arith,
-  c.first_touched-start.ensures,
-  c.open_sides-open.ensures,
-  c.from-parted.ensures,
-  c.requires.sizes_within,
-  c.requires.sizes_fit,
+  all_few _ _ _ _ _ _ _ _ c.first_touched-start.ensures c.open_sides-open.ensures c.from-parted.ensures
+      c.requires.sizes_within c.requires.sizes_fit,
 )
 
 pub overflow_add-start-6 : goal.overflow_add-start-6
 overflow_add-start-6 c = omega (
   arith,
-  c.first_touched-start.ensures,
-  c.open_sides-open.ensures,
-  c.from-parted.ensures,
-  c.requires.sizes_within,
-  c.requires.sizes_fit,
+  all_few _ _ _ _ _ _ _ _ c.first_touched-start.ensures c.open_sides-open.ensures c.from-parted.ensures
+      c.requires.sizes_within c.requires.sizes_fit,
 )
 
 pub overflow_add-parted : goal.overflow_add-parted

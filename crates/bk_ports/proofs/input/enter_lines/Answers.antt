@@ -6,6 +6,7 @@ use Rattle.bk_laws.proofs.Bytes.{appends-nothing, consumes-nothing}
 use Rattle.bk_ports.specs.Causes.{Rose}
 use Rattle.bk_ports.specs.Answered.{CountFits}
 use Rattle.bk_ports.specs.Ending.{ended_of, verdict_of}
+use Rattle.bk_ports.specs.Entering.{entering_from, entries_of}
 use Rattle.bk_ports.specs.Faults.{CountsTell, Faults}
 use Rattle.bk_ports.specs.declared.Ended.{Ended}
 use Rattle.bk_ports.specs.declared.Ended.TheVariants.{TooMany}
@@ -131,7 +132,15 @@ returns-in-Err-clause-faults g c =
 
 pub returns-in-Err-clause-complete : goal.returns-in-Err-clause-complete
 returns-in-Err-clause-complete g c =
-    calm_is_done _ _ _ c.ended.result (returns-in-Err-clause-ending g c) (returns-in-Err-clause-faults g c)
+    calm_is_done
+    (entries_of (entering_from (record { enters = g.R.Register.enters; may_want = g.R.Register.may_want }) c.args.register.now 1) c.enter_last.new.register)
+    (record {
+      left = g.S.Source.left c.args.source.now;
+      left_after = g.S.Source.left c.read_block.new.source;
+      written = g.O.Sink.written c.args.out.now;
+      written_after = g.O.Sink.written c.enter_last.new.out;
+    })
+    _ c.ended.result (returns-in-Err-clause-ending g c) (returns-in-Err-clause-faults g c)
 
 pub returns-then-taken-eq-MOST_BYTES-clause-faults : goal.returns-then-taken-eq-MOST_BYTES-clause-faults
 returns-then-taken-eq-MOST_BYTES-clause-faults g c = (c.in-Ok.ensures.cause.ok ∙ c.reads.invariant.same_source, c.reads.invariant.same_out)
@@ -145,7 +154,15 @@ returns-in-Err-enter_block-clause-faults g c =
 
 pub returns-in-Err-enter_block-clause-complete : goal.returns-in-Err-enter_block-clause-complete
 returns-in-Err-enter_block-clause-complete g c =
-    calm_is_done _ _ _ c.ended-in-Err-enter_block.result (returns-in-Err-enter_block-clause-ending g c) (returns-in-Err-enter_block-clause-faults g c)
+    calm_is_done
+    (entries_of (entering_from (record { enters = g.R.Register.enters; may_want = g.R.Register.may_want }) c.args.register.now 1) c.enter_block.new.register)
+    (record {
+      left = g.S.Source.left c.args.source.now;
+      left_after = g.S.Source.left c.read_block.new.source;
+      written = g.O.Sink.written c.args.out.now;
+      written_after = g.O.Sink.written c.enter_block.new.out;
+    })
+    _ c.ended-in-Err-enter_block.result (returns-in-Err-enter_block-clause-ending g c) (returns-in-Err-enter_block-clause-faults g c)
 
 pub enter_last-requires-clause-ready : goal.enter_last-requires-clause-ready
 enter_last-requires-clause-ready g c = c.reads.invariant.is_ready
@@ -167,7 +184,15 @@ enter_last-requires-clause-early g c = omega (arith, c.reads.invariant.early, c.
 
 pub returns-then-taken-eq-MOST_BYTES-clause-complete : goal.returns-then-taken-eq-MOST_BYTES-clause-complete
 returns-then-taken-eq-MOST_BYTES-clause-complete g c =
-    calm_is_done _ _ _ TooMany (returns-then-taken-eq-MOST_BYTES-clause-ending g c) (returns-then-taken-eq-MOST_BYTES-clause-faults g c)
+    calm_is_done
+    (entries_of (entering_from (record { enters = g.R.Register.enters; may_want = g.R.Register.may_want }) c.args.register.now 1) c.reads.register)
+    (record {
+      left = g.S.Source.left c.args.source.now;
+      left_after = g.S.Source.left c.read_block.new.source;
+      written = g.O.Sink.written c.args.out.now;
+      written_after = g.O.Sink.written c.reads.out;
+    })
+    _ TooMany (returns-then-taken-eq-MOST_BYTES-clause-ending g c) (returns-then-taken-eq-MOST_BYTES-clause-faults g c)
 
 pub slice_bounds-block-end : goal.slice_bounds-block-end
 slice_bounds-block-end g c = omega (arith, c.read_block.array_long, c.in-Ok.ensures.count)

@@ -1,25 +1,18 @@
-use Rattle.std.proofs.Common.{Err, List, Ok, [], arith, length, refl, subst, sym, ℕ, ◌+◌, ◌<◌, ◌≡◌}
+use Rattle.std.proofs.Common.{Err, List, Ok, [], arith, get_or, length, refl, subst, sym, ℕ, ◌+◌, ◌<◌, ◌≡◌}
 use Rattle.std.proofs.lemmas.List.Elements.{All-from_recursion}
 use Rattle.std.specs.List.{AllByRecursion}
-use Rattle.bk_code.specs.KeptCode.{IsSideGroup}
+use Rattle.bk_code.specs.Code.{Code}
+use Rattle.bk_code.specs.KeptCode.{IsKeptCode, IsSideGroup}
 use Rattle.bk_tiling.specs.KeptTiling.{IsSide}
-use Rattle.bk_profile.proofs.CodeLaid.{width_bounds}
-use Rattle.bk_profile.proofs.Turns.{Turn, ends_ok, ends_only, first_read, last_turn, misfit_turn, next_turn, open_refused, read_room, refused_has_none}
+use Rattle.bk_profile.proofs.FirstGroup.{first_turn}
+use Rattle.bk_profile.proofs.Turns.{ends_ok, ends_only, last_turn, misfit_turn, next_turn, open_refused, read_room, refused_has_none}
 use Rattle.bk_profile.specs.Refused.{Misfits, first_sum}
 use Rattle.bk_profile.specs.declared.laying.Refusal.TheVariants.{Gap}
 use Rattle.bk_profile.proofs.laying.lay_code_in.Goals as goal
 
-pub restart-requires-clause-some : goal.restart-requires-clause-some
-restart-requires-clause-some c =
-    let width : c.sum_of.result ≡ first_sum c.args.code.now =
-    first_read c.args.code.now c.group.result.now c.sum_of.result c.requires c.group.ensures c.sum_of.ensures.sum in
-    omega (arith, (width_bounds c.args.code.now c.groups-count.ensures.kept c.requires).0)
-
-pub restart-requires-clause-narrow : goal.restart-requires-clause-narrow
-restart-requires-clause-narrow c =
-    let width : c.sum_of.result ≡ first_sum c.args.code.now =
-    first_read c.args.code.now c.group.result.now c.sum_of.result c.requires c.group.ensures c.sum_of.ensures.sum in
-    omega (arith, (width_bounds c.args.code.now c.groups-count.ensures.kept c.requires).1)
+-- the first group of a kept code has sides that squares may have
+first_good : (code : Code) {group : List ℕ} → IsKeptCode code → 0 < length code → group ≡ get_or code 0 [] → IsSideGroup group
+first_good code kept some is = subst IsSideGroup (sym is) (All-from_recursion IsSideGroup code kept.groups 0 [] some)
 
 pub lay-requires-clause-room : goal.lay-requires-clause-room
 lay-requires-clause-room c = read_room c.args.code.now c.loop-g.g c.group-in-loop-g.result.now _ c.groups-count.ensures.kept
@@ -60,24 +53,6 @@ returns-in-Err-even_height-clause-only c t has =
 pub group-requires : goal.group-requires
 group-requires c = c.requires
 
-pub sum_of-requires-clause-few : goal.sum_of-requires-clause-few
-sum_of-requires-clause-few c =
-    omega (arith, read_room c.args.code.now 0 c.group.result.now 0 c.groups-count.ensures.kept c.requires c.group.ensures refl)
-
-pub sum_of-requires-clause-sides : goal.sum_of-requires-clause-sides
-sum_of-requires-clause-sides c =
-    subst (AllByRecursion IsSide) (sym c.group.ensures)
-    (All-from_recursion IsSideGroup c.args.code.now c.groups-count.ensures.kept.groups 0 [] c.requires).1
-
-pub loop-g-init : goal.loop-g-init
-loop-g-init c =
-    subst (Turn c.args.code.now 0) (sym c.restart.ensures)
-    (record {
-      width = first_read c.args.code.now c.group.result.now c.sum_of.result c.requires c.group.ensures c.sum_of.ensures.sum;
-      lays = refl;
-      count = refl;
-    })
-
 pub group-requires-in-loop-g : goal.group-requires-in-loop-g
 group-requires-in-loop-g c = omega (arith, c.loop-g-test.true, c.groups-count.ensures.value)
 
@@ -114,3 +89,18 @@ returns-in-Err-clause-same c = refl
 
 pub returns-in-Err-even_height-clause-same : goal.returns-in-Err-even_height-clause-same
 returns-in-Err-even_height-clause-same c = refl
+
+pub restart_with-requires-clause-some : goal.restart_with-requires-clause-some
+restart_with-requires-clause-some c = (first_good c.args.code.now c.groups-count.ensures.kept c.requires c.group.ensures).0
+
+pub restart_with-requires-clause-few : goal.restart_with-requires-clause-few
+restart_with-requires-clause-few c =
+    omega (arith, read_room c.args.code.now 0 c.group.result.now 0 c.groups-count.ensures.kept c.requires c.group.ensures refl)
+
+pub restart_with-requires-clause-sides : goal.restart_with-requires-clause-sides
+restart_with-requires-clause-sides c = (first_good c.args.code.now c.groups-count.ensures.kept c.requires c.group.ensures).1
+
+pub loop-g-init : goal.loop-g-init
+loop-g-init c =
+    let good : IsSideGroup c.group.result.now = first_good c.args.code.now c.groups-count.ensures.kept c.requires c.group.ensures in
+    first_turn c.args.code.now c.group.result.now c.restart_with.new.self c.requires good.0 good.1 c.group.ensures c.restart_with.ensures

@@ -96,7 +96,8 @@ pub put_in-requires-clause-place : goal.put_in-requires-clause-place
 put_in-requires-clause-place c =
     omega (
       arith,
-      left_over c.args.outline.now.items c.set_run.new.outline.items c.take_out.new.outline.items (run_under_side c.args.level (slice_index_or c.args.sides.now 0 0))
+      left_over c.args.outline.now.items c.set_run.new.outline.items c.take_out.new.outline.items
+          (run_under_side c.args.level (slice_index_or c.args.sides.now 0 0))
           c.args.first c.args.end c.requires.order c.requires.within c.set_run.ensures c.take_out.ensures,
       c.requires.within,
     )
@@ -105,7 +106,8 @@ pub put_in-requires-clause-room : goal.put_in-requires-clause-room
 put_in-requires-clause-room c =
     omega (
       arith,
-      left_over c.args.outline.now.items c.set_run.new.outline.items c.take_out.new.outline.items (run_under_side c.args.level (slice_index_or c.args.sides.now 0 0))
+      left_over c.args.outline.now.items c.set_run.new.outline.items c.take_out.new.outline.items
+          (run_under_side c.args.level (slice_index_or c.args.sides.now 0 0))
           c.args.first c.args.end c.requires.order c.requires.within c.set_run.ensures c.take_out.ensures,
       others_length c.args.sides.now,
       c.requires.some,

@@ -26,7 +26,8 @@ put_in_more old now new sides first i level place more is inserted =
     ) in
     let left : take (first + i) now ≡ before = ap (take (first + i)) is ∙ take_at before (drop first old) (first + i) size in
     let right : drop (first + i) now ≡ drop first old = ap (drop (first + i)) is ∙ drop_at before (drop first old) (first + i) size in
-    let under : runs_under_group level (take (i + 1) sides) ≡ runs_under_group level (take i sides) ++ r ∷ [] = ap (λ l. runs_under_group level l) (take_more sides i 0 more)
+    let under : runs_under_group level (take (i + 1) sides) ≡ runs_under_group level (take i sides) ++ r ∷ [] =
+    ap (λ l. runs_under_group level l) (take_more sides i 0 more)
     ∙ map-append (run_under_side level) (take i sides) (get_or sides i 0 ∷ []) in
     inserted ∙ (λ k. left k ++ r ∷ right k) ∙ sym (append_assoc before (r ∷ []) (drop first old))
     ∙ ap (λ l. l ++ drop first old) (append_assoc (take first old) (runs_under_group level (take i sides)) (r ∷ []) ∙ ap (λ l. take first old ++ l) (sym under))

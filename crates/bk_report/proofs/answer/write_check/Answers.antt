@@ -29,9 +29,7 @@ returns c =
     record {
       repeated = c.repeated.result;
       part = part;
-      verdicts = record {
-        perfect = side_verdict c.args.tiling.now c.repeated.result c.repeated.ensures.perfect c.repeated.ensures.least;
-        simple = part_verdict c.args.tiling.now c.part.result c.part.ensures.simple c.part.ensures.first;
-      };
+      perfect = side_verdict c.args.tiling.now c.repeated.result c.repeated.ensures.perfect c.repeated.ensures.least;
+      simple = part_verdict c.args.tiling.now c.part.result c.part.ensures.simple c.part.ensures.first;
       text = c.push_verdicts.ensures ∙ ap (λ (l : List ℕ). l ++ verdict_line c.args.tiling.now c.repeated.result part) c.clear.ensures;
     }

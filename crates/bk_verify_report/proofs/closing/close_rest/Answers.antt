@@ -1,7 +1,9 @@
-use Rattle.std.proofs.Common.{le_of_eq, subst, sym, ℕ, ◌∙◌, ◌≤◌}
+use Rattle.std.proofs.Common.{[], ap, le_of_eq, subst, sym, ℕ, ◌∙◌, ◌≤◌}
 use Rattle.std.proofs.lemmas.Result.{err_from_is_err_and}
 use Rattle.bk_laws.proofs.Outcomes.{on_err-intro}
 use Rattle.bk_ports.specs.Causes.{HasCause}
+use Rattle.bk_report.specs.ListLines.{verified_line}
+use Rattle.bk_report.specs.declared.listing.Last.TheVariants.{End}
 use Rattle.bk_verify_report.proofs.LeftBehind.{closes_report, closing_begun, closing_broken, end_limit, end_wide, lacking}
 use Rattle.bk_verify_report.specs.ReportEnd.{kept_of_rest}
 use Rattle.bk_verify_report.proofs.closing.close_rest.Goals as goal
@@ -20,7 +22,7 @@ returns-in_err-write_all-clause-begun g c =
     (lacking c.args.rest.now c.write_missing_members.new.rest _ c.members.result (g.O.Sink.written c.args.out.now)
     (g.O.Sink.written c.write_missing_members.new.out) c.in_ok-missing.ensures.listed c.in_ok-missing.ensures.all c.in_ok-missing.ensures.ended
     c.write_missing_members.ensures.order c.members.ensures.reached)
-    c.as_slice.result.now (c.as_slice.ensures.value ∙ c.write_verified.ensures)
+    c.as_slice.result.now (c.as_slice.ensures.value ∙ c.write_verified.ensures ∙ ap (λ k. verified_line End c.args.order k []) c.in_order.ensures)
     (g.O.Sink.written c.write_all.new.self) c.in_err-write_all.ensures.err)
 
 pub returns-clause-closed : goal.returns-clause-closed
@@ -30,9 +32,9 @@ returns-clause-closed g c =
     (lacking c.args.rest.now c.write_missing_members.new.rest _ c.members.result (g.O.Sink.written c.args.out.now)
     (g.O.Sink.written c.write_missing_members.new.out) c.in_ok-missing.ensures.listed c.in_ok-missing.ensures.all c.in_ok-missing.ensures.ended
     c.write_missing_members.ensures.order c.members.ensures.reached)
-    c.as_slice.result.now (c.as_slice.ensures.value ∙ c.write_verified.ensures)
+    c.as_slice.result.now (c.as_slice.ensures.value ∙ c.write_verified.ensures ∙ ap (λ k. verified_line End c.args.order k []) c.in_order.ensures)
     (g.O.Sink.written c.write_all.new.self) c.in_ok-write_all.ensures.ok
-    c.has_fault-differs.result c.has_fault-differs.ensures
+    c.has_fault.result c.has_fault.ensures
 
 pub returns-in_err-missing-clause-closed : goal.returns-in_err-missing-clause-closed
 returns-in_err-missing-clause-closed g c =

@@ -1,9 +1,9 @@
-use Rattle.std.proofs.Common.{arith, false, le_of_eq, refl, subst, sym, true, ℕ, ◌∙◌}
+use Rattle.std.proofs.Common.{arith, le_of_eq, subst, sym, ℕ, ◌∙◌}
 use Rattle.std.proofs.lemmas.Result.{err_from_is_err_and}
 use Rattle.bk_laws.proofs.Outcomes.{on_err-intro}
 use Rattle.bk_ports.specs.Causes.{HasCause}
 use Rattle.bk_verify_report.proofs.MissingListed.{word_some}
-use Rattle.bk_verify_report.proofs.Listing.{kept_behind, listing_broken, listing_end, listing_more, listing_none, next_written, none_behind}
+use Rattle.bk_verify_report.proofs.Listing.{kept_behind, listing_broken, listing_end, listing_more, listing_none, none_behind}
 use Rattle.bk_verify_report.proofs.closing.write_missing_members.Goals as goal
 
 pub members-init : goal.members-init
@@ -35,33 +35,29 @@ overflow_add-missing g c = let few = c.members.invariant.listed.few in omega (ar
 pub members-preserved : goal.members-preserved
 members-preserved g c =
     listing_more c.args.rest.now c.members.rest c.members.missing (g.O.Sink.written c.args.out.now) (g.O.Sink.written c.members.out)
-    (g.O.Sink.faults c.args.out.now) (g.O.Sink.faults c.members.out) c.members.invariant true refl
-    c.advance_in.new.self (g.O.Sink.written c.write_missing_entry.new.out) (g.O.Sink.faults c.write_missing_entry.new.out) c.requires.most
-    (next_written c.members.rest.walk.order c.members.rest.pairs c.members.rest.walk.cursor c.advance_in.new.self.walk.cursor
-    c.advance_in.new.entry.tiling c.advance_in.new.entry.word (g.O.Sink.written c.members.out) (g.O.Sink.written c.write_missing_entry.new.out)
+    (g.O.Sink.faults c.args.out.now) (g.O.Sink.faults c.members.out) c.members.invariant
+    c.advance_in.new.entry.tiling c.advance_in.new.entry.word c.advance_in.new.self (g.O.Sink.written c.write_missing_entry.new.out)
+    (g.O.Sink.faults c.write_missing_entry.new.out) c.requires.most
     (c.advance_in.ensures.entry c.members-test.true) (c.advance_in.ensures.cursor c.members-test.true)
-    c.in_ok-write_missing_entry.ensures.written) c.advance_in.ensures.order c.advance_in.ensures.pairs (c.in_ok-write_missing_entry.ensures.cause).ok
+    c.in_ok-write_missing_entry.ensures.written c.advance_in.ensures.order c.advance_in.ensures.pairs (c.in_ok-write_missing_entry.ensures.cause).ok
 
 pub returns-clause-listed : goal.returns-clause-listed
 returns-clause-listed g c =
     listing_end c.args.rest.now c.members.rest c.members.missing (g.O.Sink.written c.args.out.now) (g.O.Sink.written c.members.out)
-    (g.O.Sink.faults c.args.out.now) (g.O.Sink.faults c.members.out) c.members.invariant false refl
-    c.advance_in.new.self.walk.cursor (g.O.Sink.written c.members.out)
-    (c.advance_in.ensures.none c.members-test.false, c.advance_in.ensures.end c.members-test.false, refl)
+    (g.O.Sink.faults c.args.out.now) (g.O.Sink.faults c.members.out) c.members.invariant
+    (c.advance_in.ensures.none c.members-test.false) c.advance_in.new.self.walk.cursor (c.advance_in.ensures.end c.members-test.false)
 
 pub returns-clause-all : goal.returns-clause-all
 returns-clause-all g c =
     kept_behind c.args.rest.now c.members.rest c.members.missing (g.O.Sink.written c.args.out.now) (g.O.Sink.written c.members.out)
-    (g.O.Sink.faults c.args.out.now) (g.O.Sink.faults c.members.out) c.members.invariant false refl
-    c.advance_in.new.self.walk.cursor (g.O.Sink.written c.members.out)
-    (c.advance_in.ensures.none c.members-test.false, c.advance_in.ensures.end c.members-test.false, refl)
+    (g.O.Sink.faults c.args.out.now) (g.O.Sink.faults c.members.out) c.members.invariant
+    (c.advance_in.ensures.none c.members-test.false) c.advance_in.new.self.walk.cursor (c.advance_in.ensures.end c.members-test.false)
 
 pub returns-clause-ended : goal.returns-clause-ended
 returns-clause-ended g c =
     none_behind c.args.rest.now c.members.rest c.members.missing (g.O.Sink.written c.args.out.now) (g.O.Sink.written c.members.out)
-    (g.O.Sink.faults c.args.out.now) (g.O.Sink.faults c.members.out) c.members.invariant false refl
-    c.advance_in.new.self.walk.cursor (g.O.Sink.written c.members.out)
-    (c.advance_in.ensures.none c.members-test.false, c.advance_in.ensures.end c.members-test.false, refl)
+    (g.O.Sink.faults c.args.out.now) (g.O.Sink.faults c.members.out) c.members.invariant
+    (c.advance_in.ensures.none c.members-test.false) c.advance_in.new.self.walk.cursor (c.advance_in.ensures.end c.members-test.false)
 
 pub returns-clause-order : goal.returns-clause-order
 returns-clause-order g c = c.advance_in.ensures.order ∙ c.members.invariant.order

@@ -1,5 +1,5 @@
 use Rattle.std.proofs.Common.{subst, sym}
-use Rattle.bk_ports.specs.Entering.{entries_of}
+use Rattle.bk_ports.specs.Entering.{entering_from, entries_of}
 use Rattle.bk_verify_report.proofs.Ending.{calm_at, stop_told, whole_at}
 use Rattle.bk_verify_report.proofs.EndingAtLines.{from_start, stops_at_lines}
 use Rattle.bk_verify_report.specs.ListLine.{none_entered}
@@ -9,7 +9,7 @@ use Rattle.bk_verify_report.proofs.reading.read_list.Goals as goal
 
 pub returns-in-NoneRefused-clause-read : goal.returns-in-NoneRefused-clause-read
 returns-in-NoneRefused-clause-read g c =
-    let all = whole_at (entries_of rules (none_entered c.args.order) c.enter_lines-ended.new.register)
+    let all = whole_at (entries_of (entering_from rules (none_entered c.args.order) 1) c.enter_lines-ended.new.register)
     (record {
       left = g.S.Source.left c.args.source.now;
       left_after = g.S.Source.left c.enter_lines-ended.new.source;

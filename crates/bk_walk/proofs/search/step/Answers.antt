@@ -2,7 +2,6 @@ use Rattle.std.proofs.Common.{refl, tests}
 use Rattle.bk_tree_walk.proofs.MemberEntries.{same_entry}
 use Rattle.bk_tree_walk.proofs.PlaceLaws.{settled_leads, settled_unmet}
 use Rattle.bk_tree_walk.proofs.SearchTurns.{stays_then}
-use Rattle.bk_walk.proofs.PlaceLaws.{goes_on}
 use Rattle.bk_walk.proofs.search.step.Goals as goal
 
 pub go_on-requires : goal.go_on-requires
@@ -18,8 +17,7 @@ pub returns-in-Some-clause-stays : goal.returns-in-Some-clause-stays
 returns-in-Some-clause-stays g c = c.in-Some.ensures.stays c.args.steps.now
 
 pub returns-in-None-clause-leads : goal.returns-in-None-clause-leads
-returns-in-None-clause-leads g c = goes_on c.args.tree.now c.settle.new.self c.args.steps.now (c.in-None.ensures.stays c.args.steps.now)
-    c.in-None.ensures.settles.1 c.go_on.new.tree.front c.go_on.new.tree.next _ c.go_on.result c.go_on.ensures.leads
+returns-in-None-clause-leads g c = c.in-None.ensures.settles.1 c.go_on.new.tree _ c.go_on.result c.go_on.ensures.leads
 
 pub returns-in-None-clause-member : goal.returns-in-None-clause-member
 returns-in-None-clause-member g c = λ met.

@@ -2,14 +2,14 @@
 use Rattle.std.proofs.Common.{IsTrue, arith, leb, refl, subst, sym, true, ◌≡◌, ◌↔◌}
 use Rattle.std.proofs.lemmas.Bool.{le-leb, leb-true}
 use Rattle.bk_tiling.specs.Tiling.{Tiling}
-use Rattle.bk_answer.specs.CodeCommand.{by_plain}
+use Rattle.bk_answer.specs.declared.command.Command.TheVariants.{Plain}
 use Rattle.bk_answer.specs.Telling.{Allows}
 use Rattle.bk_answer.specs.declared.plain.PlainCommand.{PlainCommand}
 use Rattle.bk_answer.specs.declared.plain.PlainCommand.TheVariants.{Canon, Check, Draw, Dual, Images, Net}
 use Rattle.bk_answer.proofs.plain.PlainCommand.allows.Goals as goal
 
 -- every command but `draw` allows all
-all_allowed : (p : PlainCommand) (t : Tiling) → (p ≡ Draw → ⊥) → IsTrue true ↔ Allows (by_plain p) t
+all_allowed : (p : PlainCommand) (t : Tiling) → (p ≡ Draw → ⊥) → IsTrue true ↔ Allows (Plain p) t
 all_allowed Check t not = (λ _. tt, λ _. refl)
 all_allowed Canon t not = (λ _. tt, λ _. refl)
 all_allowed Images t not = (λ _. tt, λ _. refl)
@@ -19,7 +19,7 @@ all_allowed Draw t not = absurd (not refl)
 
 pub returns-then-width-le-LARGEST_DRAWN : goal.returns-then-width-le-LARGEST_DRAWN
 returns-then-width-le-LARGEST_DRAWN c =
-    subst (λ (p : PlainCommand). IsTrue (leb c.height.result 400) ↔ Allows (by_plain p) c.args.tiling.now) (sym c.in-Draw.is) (
+    subst (λ (p : PlainCommand). IsTrue (leb c.height.result 400) ↔ Allows (Plain p) c.args.tiling.now) (sym c.in-Draw.is) (
       λ low. (
         omega (arith, c.if-width-le-LARGEST_DRAWN.true, c.width.ensures.value),
         omega (arith, leb-true c.height.result 400 low, c.height.ensures.value),
@@ -29,7 +29,7 @@ returns-then-width-le-LARGEST_DRAWN c =
 
 pub returns-else-width-le-LARGEST_DRAWN : goal.returns-else-width-le-LARGEST_DRAWN
 returns-else-width-le-LARGEST_DRAWN c =
-    subst (λ (p : PlainCommand). IsTrue (leb c.width.result 400) ↔ Allows (by_plain p) c.args.tiling.now) (sym c.in-Draw.is) (
+    subst (λ (p : PlainCommand). IsTrue (leb c.width.result 400) ↔ Allows (Plain p) c.args.tiling.now) (sym c.in-Draw.is) (
       λ low. absurd (omega (arith, leb-true c.width.result 400 low, c.if-width-le-LARGEST_DRAWN.false)),
       λ allowed. le-leb c.width.result 400 (omega (arith, allowed.0, c.width.ensures.value)),
     )

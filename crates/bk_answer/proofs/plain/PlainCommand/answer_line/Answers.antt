@@ -1,10 +1,9 @@
 use Rattle.std.proofs.Common.{Bor, Option, false, subst}
 use Rattle.std.specs.Option.{option_copied}
 use Rattle.bk_tiling.specs.Tiling.{Tiling}
-use Rattle.bk_answer.specs.CodeAnswer.{AnswersCodeLine, AnswersTiling, MayWantForCode, any_command, no_item, refuses}
+use Rattle.bk_answer.specs.CodeAnswer.{AnswersCodeLine, AnswersTiling, any_command, no_item, refuses}
 use Rattle.bk_answer.specs.Item.{HasTiling, IsLaidLine}
-use Rattle.bk_answer.specs.CodeCommand.{by_plain}
-use Rattle.bk_answer.specs.Telling.{WantsMemory}
+use Rattle.bk_answer.specs.declared.command.Command.TheVariants.{Plain}
 use Rattle.bk_answer.proofs.ItemSteps.{is_tiling}
 use Rattle.bk_answer.proofs.ReplySteps.{line_answer, refusal_replies, replies_more}
 use Rattle.bk_answer.proofs.plain.PlainCommand.answer_line.Goals as goal
@@ -18,22 +17,21 @@ answer_tiling-requires g c =
 
 pub returns-in-Ok-Some-clause-reply : goal.returns-in-Ok-Some-clause-reply
 returns-in-Ok-Some-clause-reply g c =
-    let command = by_plain c.args.self in
+    let command = Plain c.args.self in
     let has : HasTiling c.args.line.now c.in-Ok-Some.tiling.now =
     subst (λ (o : Option (Bor Tiling)). IsLaidLine c.args.line.now (option_copied o)) c.in-Ok-Some.field-0-is c.in-Ok-Some.ensures.laid in
-    replies_more (AnswersTiling command c.in-Ok-Some.tiling.now) (AnswersCodeLine command c.args.line.now)
-    (WantsMemory command c.in-Ok-Some.tiling.now) (MayWantForCode command c.args.line.now)
-    (λ pieces refused. line_answer command c.args.line.now c.in-Ok-Some.tiling.now pieces refused has) (λ w. (c.in-Ok-Some.tiling.now, has, w))
+    replies_more (AnswersTiling command c.in-Ok-Some.tiling.now) (AnswersCodeLine command c.args.line.now) ⊥ ⊥
+    (λ pieces refused. line_answer command c.args.line.now c.in-Ok-Some.tiling.now pieces refused has) (λ none. none)
     (g.O.Sink.written c.args.out.now) (g.O.Sink.written c.answer_tiling.new.out) c.answer_tiling.result c.answer_tiling.ensures.reply
 
 pub returns-in-Ok-None-clause-reply : goal.returns-in-Ok-None-clause-reply
 returns-in-Ok-None-clause-reply g c =
-    writes_none (AnswersCodeLine (by_plain c.args.self) c.args.line.now) false (g.O.Sink.written c.args.out.now)
+    writes_none (AnswersCodeLine (Plain c.args.self) c.args.line.now) false (g.O.Sink.written c.args.out.now)
     (no_item (subst (λ (o : Option (Bor Tiling)). IsLaidLine c.args.line.now (option_copied o)) c.in-Ok-None.field-0-is c.in-Ok-None.ensures.laid))
 
 pub returns-in-Err-clause-reply : goal.returns-in-Err-clause-reply
 returns-in-Err-clause-reply g c =
-    refusal_replies (AnswersCodeLine (by_plain c.args.self) c.args.line.now) (MayWantForCode (by_plain c.args.self) c.args.line.now) c.in-Err.refused
+    refusal_replies (AnswersCodeLine (Plain c.args.self) c.args.line.now) ⊥ c.in-Err.refused
     (g.O.Sink.written c.args.out.now) (g.O.Sink.written c.refuse.new.out) c.refuse.result
     (refuses c.in-Err.refused (any_command c.in-Err.refused c.in-Err.ensures.refused))
     c.refuse.ensures.outcome c.refuse.ensures.failed

@@ -1,15 +1,15 @@
 use Rattle.std.proofs.Common.{refl}
 use Rattle.std.proofs.lemmas.Bool.{both_ways}
 use Rattle.bk_answer.specs.CodeAnswer.{AnswersTiling}
-use Rattle.bk_answer.specs.CodeCommand.{by_plain}
-use Rattle.bk_answer.specs.Telling.{TellsPieces, WantsMemory}
+use Rattle.bk_answer.specs.declared.command.Command.TheVariants.{Plain}
+use Rattle.bk_answer.specs.Telling.{TellsPieces}
 use Rattle.bk_answer.proofs.ReplySteps.{refusal_replies, replies_more, tells_tiling}
 use Rattle.bk_answer.proofs.plain.PlainCommand.answer_tiling.Goals as goal
 use Rattle.bk_report.specs.declared.refusal.Refused.TheVariants.{Large}
 
 pub returns-then-not-allows-clause-reply : goal.returns-then-not-allows-clause-reply
 returns-then-not-allows-clause-reply g c =
-    refusal_replies (AnswersTiling (by_plain c.args.self) c.args.tiling.now) (WantsMemory (by_plain c.args.self) c.args.tiling.now) Large
+    refusal_replies (AnswersTiling (Plain c.args.self) c.args.tiling.now) ⊥ Large
     (g.O.Sink.written c.args.out.now)
     (g.O.Sink.written c.refuse.new.out) c.refuse.result
     ((λ h. both_ways c.allows.result c.if-not-allows.true (c.allows.ensures.1 h)), refl)
@@ -17,10 +17,10 @@ returns-then-not-allows-clause-reply g c =
 
 pub returns-clause-reply : goal.returns-clause-reply
 returns-clause-reply g c =
-    replies_more (TellsPieces (by_plain c.args.self) c.args.tiling.now) (AnswersTiling (by_plain c.args.self) c.args.tiling.now)
-    (WantsMemory (by_plain c.args.self) c.args.tiling.now)
-    (WantsMemory (by_plain c.args.self) c.args.tiling.now)
-    (λ pieces refused. tells_tiling (by_plain c.args.self) c.args.tiling.now pieces refused (c.allows.ensures.0 c.if-not-allows.false)) (λ w. w)
+    replies_more (TellsPieces (Plain c.args.self) c.args.tiling.now) (AnswersTiling (Plain c.args.self) c.args.tiling.now)
+    ⊥
+    ⊥
+    (λ pieces refused. tells_tiling (Plain c.args.self) c.args.tiling.now pieces refused (c.allows.ensures.0 c.if-not-allows.false)) (λ w. w)
     (g.O.Sink.written c.args.out.now) (g.O.Sink.written c.tell.new.out) c.tell.result c.tell.ensures.reply
 
 pub returns-then-not-allows-clause-cause : goal.returns-then-not-allows-clause-cause

@@ -1,6 +1,6 @@
-use Rattle.std.proofs.Common.{List, [], ap, arith, length, lit<, refl, subst, sym, ℕ, ◌++◌, ◌∷◌, ◌∙◌}
+use Rattle.std.proofs.Common.{List, [], ap, arith, length, lit<, refl, subst, sym, ℕ, ◌++◌, ◌+◌, ◌-◌, ◌∷◌, ◌∙◌}
 use Rattle.bk_word.specs.Outline.{IsLegalMove, start, valley_of}
-use Rattle.bk_word.specs.Play.{outline_of}
+use Rattle.bk_word.specs.Play.{numbers_from, outline_of}
 use Rattle.bk_word.specs.Word.{Move, Word, order_of}
 use Rattle.bk_word.proofs.PlayLaws.{moves_many}
 use Rattle.bk_free_search.specs.Lefts.{first_left}
@@ -8,6 +8,9 @@ use Rattle.bk_free_search.specs.Rights.{last_right}
 use Rattle.bk_free_search.proofs.Boards.BoardMoves.{beside_same, board_more}
 use Rattle.bk_free_search.proofs.Boards.LeftLines.{left_count}
 use Rattle.bk_free_search.proofs.Boards.LowLines.{low_lefts_then, low_rights_then}
+use Rattle.bk_free_search.proofs.Boards.OpenSquares.{are_squares-more, valley_squares-are_squares}
+use Rattle.bk_free_search.specs.TopLines.{AreSquares}
+use Rattle.std.proofs.lemmas.List.{length-append}
 use Rattle.bk_free_search.proofs.Boards.RightLines.{as_many_rights}
 use Rattle.bk_free_search.proofs.Boards.LinesBeside.{stand_between}
 use Rattle.bk_free_search.proofs.Boards.WordCounts.{few_left, few_right}
@@ -17,8 +20,22 @@ pub invariant_of-self : goal.invariant_of-self
 invariant_of-self c =
     let w = c.self.inside.skel in
     let valley = c.valley_squares-squares.ensures in
-    board_more w c.play.new.self c.args.m.now c.self.inside.lefts.items c.self.inside.rights.items c.self.inside.nodes.items c.self.inside.first
-    c.self.inside.left c.self.inside.right c.self.invariant
+    board_more w c.play.new.self c.args.m.now (record {
+      lefts = c.self.inside.lefts.items;
+      rights = c.self.inside.rights.items;
+      nodes = c.self.inside.nodes.items;
+      first = c.self.inside.first;
+      left = c.self.inside.left;
+      right = c.self.inside.right;
+    })
+    (record {
+      lefts = c.push_lefts.new.lefts.items;
+      rights = c.push_rights.new.rights.items;
+      nodes = c.push.new.self.items;
+      first = c.first_after-self-inside.result;
+      left = c.at_wall_after-self-inside.result;
+      right = c.at_wall_after-self-inside-2.result;
+    }) c.self.invariant
     (subst (λ (v : Word). IsLegalMove (outline_of v) c.args.m.now) (sym c.self.view_is) c.requires.legal) c.play.ensures
     (record {
       hung = c.order-behind.result;
@@ -31,9 +48,7 @@ invariant_of-self c =
       left_is = c.left_of_first-first.ensures ∙ (λ i. first_left (c.as_slice.ensures.items i) (valley i));
       right = c.right_of_last-last.result;
       right_is = c.right_of_last-last.ensures ∙ (λ i. last_right (c.as_slice-2.ensures.items i) (valley i));
-      lefts_then = c.push_lefts.new.lefts.items;
       lefts_are = c.push_lefts.ensures;
-      rights_then = c.push_rights.new.rights.items;
       rights_are = c.push_rights.ensures;
       lines = c.node_lines-lines.result;
       only = λ line has. beside_same c.as_slice-3.result.now c.push_lefts.new.lefts.items c.as_slice-4.result.now c.push_rights.new.rights.items
@@ -44,15 +59,33 @@ invariant_of-self c =
           c.push_rights.new.rights.items c.as_slice-4.result.now (valley_of (outline_of w)) c.valley_squares-squares.result.now
           c.order-behind.result c.order-behind.result c.m.inside.count c.m.inside.count line (sym c.as_slice-3.ensures.items) (sym c.as_slice-4.ensures.items)
           (sym valley) refl refl b);
-      nodes_then = c.push.new.self.items;
       nodes_are = c.push.ensures;
-      first_then = c.first_after-self-inside.result;
       first_is = c.first_after-self-inside.ensures;
-      left_then = c.at_wall_after-self-inside.result;
       left_then_is = c.at_wall_after-self-inside.ensures;
-      right_then = c.at_wall_after-self-inside-2.result;
       right_then_is = c.at_wall_after-self-inside-2.ensures;
     })
+
+pub left_of_first-first-requires : goal.left_of_first-first-requires
+left_of_first-first-requires c =
+    let w = c.self.inside.skel in
+    subst (λ (squares : List ℕ). AreSquares squares (length c.as_slice.result.now)) (sym c.valley_squares-squares.ensures)
+    (are_squares-more (valley_of (outline_of w)) (order_of w) (length c.as_slice.result.now)
+    (omega (
+      arith,
+      ap (λ (l : List ℕ). length l) c.as_slice.ensures.items,
+      left_count w c.self.inside.lefts.items c.self.invariant.left_word,
+    )) (valley_squares-are_squares w))
+
+pub right_of_last-last-requires : goal.right_of_last-last-requires
+right_of_last-last-requires c =
+    let w = c.self.inside.skel in
+    subst (λ (squares : List ℕ). AreSquares squares (length c.as_slice-2.result.now)) (sym c.valley_squares-squares.ensures)
+    (are_squares-more (valley_of (outline_of w)) (order_of w) (length c.as_slice-2.result.now)
+    (omega (
+      arith,
+      ap (λ (l : List ℕ). length l) (c.as_slice-2.ensures.items ∙ c.self.invariant.rights_are),
+      as_many_rights w,
+    )) (valley_squares-are_squares w))
 
 pub push_lefts-requires-clause-fits : goal.push_lefts-requires-clause-fits
 push_lefts-requires-clause-fits c =
@@ -110,6 +143,33 @@ node_lines-lines-requires-clause-rights c = low_rights_then c.self.inside.skel c
     (c.right_of_last-last.ensures ∙ (λ i. last_right (c.as_slice-2.ensures.items i) (c.valley_squares-squares.ensures i)))
     (ap (λ (m : Move). m.count) c.m.view_is) c.order-behind.ensures.value (c.as_slice-4.ensures.items ∙ c.push_rights.ensures)
 
+pub node_lines-lines-requires-clause-at_left : goal.node_lines-lines-requires-clause-at_left
+node_lines-lines-requires-clause-at_left c =
+    let w = c.self.inside.skel in
+    subst (λ (squares : List ℕ). AreSquares squares (length c.as_slice-3.result.now)) (sym c.valley_squares-squares.ensures)
+    (are_squares-more (valley_of (outline_of w)) (order_of w) (length c.as_slice-3.result.now)
+    (omega (
+      arith,
+      ap (λ (l : List ℕ). length l) (c.as_slice-3.ensures.items ∙ c.push_lefts.ensures),
+      length-append c.self.inside.lefts.items (c.left_of_first-first.result ∷ numbers_from (c.order-behind.result + 2) (c.m.inside.count - 1)),
+      left_count w c.self.inside.lefts.items c.self.invariant.left_word,
+    )) (valley_squares-are_squares w))
+
+pub node_lines-lines-requires-clause-at_right : goal.node_lines-lines-requires-clause-at_right
+node_lines-lines-requires-clause-at_right c =
+    let w = c.self.inside.skel in
+    let own = numbers_from (c.order-behind.result + 2) (c.m.inside.count - 1) in
+    subst (λ (squares : List ℕ). AreSquares squares (length c.as_slice-4.result.now)) (sym c.valley_squares-squares.ensures)
+    (are_squares-more (valley_of (outline_of w)) (order_of w) (length c.as_slice-4.result.now)
+    (omega (
+      arith,
+      ap (λ (l : List ℕ). length l) (c.as_slice-4.ensures.items ∙ c.push_rights.ensures),
+      length-append (c.self.inside.rights.items ++ own) (c.right_of_last-last.result ∷ []),
+      length-append c.self.inside.rights.items own,
+      ap (λ (l : List ℕ). length l) c.self.invariant.rights_are,
+      as_many_rights w,
+    )) (valley_squares-are_squares w))
+
 pub node_lines-lines-requires-clause-between : goal.node_lines-lines-requires-clause-between
 node_lines-lines-requires-clause-between c = stand_between c.self.inside.lefts.items c.self.inside.rights.items c.as_slice-3.result.now
     c.as_slice-4.result.now c.order-behind.result c.m.inside.count c.left_of_first-first.result c.right_of_last-last.result
@@ -124,14 +184,8 @@ valley_squares-squares-requires c = tt
 pub as_slice-requires : goal.as_slice-requires
 as_slice-requires c = lit< tt
 
-pub left_of_first-first-requires : goal.left_of_first-first-requires
-left_of_first-first-requires c = tt
-
 pub as_slice-requires-2 : goal.as_slice-requires-2
 as_slice-requires-2 c = lit< tt
-
-pub right_of_last-last-requires : goal.right_of_last-last-requires
-right_of_last-last-requires c = tt
 
 pub order-behind-requires : goal.order-behind-requires
 order-behind-requires c = tt

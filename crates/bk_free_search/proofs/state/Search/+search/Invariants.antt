@@ -2,10 +2,11 @@ use Rattle.std.proofs.Common.{[], length, ◌*◌, ◌+◌, ◌-◌, ◌<◌, �
 use Rattle.bk_word.specs.Word.{Word, order_of}
 use Rattle.bk_layout.specs.NormalImage.{IsNormalSought}
 use Rattle.bk_free_search.proofs.NextWords.NextMoves.{HasNextMove}
+use Rattle.bk_free_search.specs.Unchanged.{KeepsMet}
 use Rattle.bk_free_search.proofs.state.Search.+search.Given as goal
 
-abbrev pub decreases-go_on : goal.decreases-go_on
-decreases-go_on g l = 1000 * (l.self.now.order - order_of l.self.now.board) + 950
+abbrev pub decreases-meet_all : goal.decreases-meet_all
+decreases-meet_all g l = 1000 * (l.self.now.order - order_of l.self.now.board) + 950
 
 abbrev pub decreases-with_counts : goal.decreases-with_counts
 decreases-with_counts g l = 1000 * (l.self.now.order - order_of l.self.now.board) + 900
@@ -15,6 +16,9 @@ decreases-with_left g l = 1000 * (l.self.now.order - order_of l.self.now.board) 
 
 abbrev pub decreases-with_own : goal.decreases-with_own
 decreases-with_own g l = 1000 * (l.self.now.order - order_of l.self.now.board) + 4 * (l.begun.now.m.count + 2 - length l.begun.now.m.signs) + 3
+
+abbrev pub decreases-with_above : goal.decreases-with_above
+decreases-with_above g l = 1000 * (l.self.now.order - order_of l.self.now.board) + 4 * (l.begun.now.m.count + 2 - length l.begun.now.m.signs) + 1
 
 abbrev pub decreases-with_sign : goal.decreases-with_sign
 decreases-with_sign g l = 1000 * (l.self.now.order - order_of l.self.now.board) + 4 * (l.begun.now.m.count + 2 - length l.begun.now.m.signs)
@@ -34,6 +38,5 @@ invariant-with_counts-counts g l = record {
   signs : l.begun.m.signs ≡ [];
   all : (w : Word) → IsNormalSought l.initial.self.order w → (h : HasNextMove l.initial.self.board w) → h.move.count < l.count
       → g.S.Leaves.has_met l.leaves w;
-  kept : (w : Word) → g.S.Leaves.has_met l.initial.leaves w → g.S.Leaves.has_met l.leaves w;
-  fixed : g.S.Leaves.fixed l.leaves ≡ g.S.Leaves.fixed l.initial.leaves;
+  kept : KeepsMet g.S.Leaves.has_met g.S.Leaves.fixed l.initial.leaves l.leaves;
 }

@@ -1,12 +1,12 @@
 -- Of the four ways to attach a square, the number and the turn choose the one that is taken.
 use Rattle.std.specs.Prelude.{Bool, cond, false, true}
-use Rattle.std.proofs.Common.{arith, subst, sym, ℕ, ◌%◌, ◌∙◌, ◌≡◌, ◌≤◌}
+use Rattle.std.proofs.Common.{arith, subst, sym, ℕ, ◌%◌, ◌/◌, ◌^◌, ◌∙◌, ◌≡◌, ◌≤◌}
 use Rattle.bk_tiling.specs.Tiling.{Tiling}
-use Rattle.bk_gen.specs.Attaching.{goes_up_or_down, is_set, next_side, with_above, with_below, with_left, with_next, with_right}
+use Rattle.bk_gen.specs.Attaching.{goes_up_or_down, is_odd, next_side, with_above, with_below, with_left, with_next, with_right}
 use Rattle.bk_gen.proofs.growing.Growing.attach.Goals as goal
 
 -- what the two bits choose
-chosen : (v turn : ℕ) (t : Tiling) (up set : Bool) → up ≡ goes_up_or_down v turn → set ≡ is_set v (turn % 64)
+chosen : (v turn : ℕ) (t : Tiling) (up set : Bool) → up ≡ goes_up_or_down v turn → set ≡ is_odd (v / 2 ^ (turn % 64))
     → cond up (cond set (with_above t) (with_below t)) (cond set (with_left t) (with_right t)) ≡ with_next v turn t
 chosen v turn t up set e f = λ i. cond (e i) (cond (f i) (with_above t) (with_below t)) (cond (f i) (with_left t) (with_right t))
 

@@ -3,7 +3,7 @@ use Rattle.std.proofs.Common.{List, ap, inl, inr, subst, sym, ◌∙◌, ◌≡�
 use Rattle.bk_tiling.specs.declared.Square.{Square}
 use Rattle.bk_pair.specs.SquaresBySide.{AreSidesAscending}
 use Rattle.bk_pair.specs.OwnSides.{HaveCommonSide, stands_apart}
-use Rattle.bk_pair.proofs.KeptPairs.{common_refused, join_decided, not_joined, stored}
+use Rattle.bk_pair.proofs.KeptPairs.{common_refused, join_decided, not_joined, stored_of_tiling}
 use Rattle.bk_pair.proofs.SmallSides.{bits_common}
 use Rattle.bk_pair.proofs.kept.KeptTiling.joins.Goals as goal
 use Rattle.bk_pair.proofs.kept.KeptTiling.joins.Goals.{then-not-self-via-else-not-self+else-not-other+then-not-can_be_laid}
@@ -22,8 +22,8 @@ pub returns-then-self-other-ne0 : goal.returns-then-self-other-ne0
 returns-then-self-other-ne0 c =
     common_refused c.args.self.now c.args.other.now c.self.inside.width c.self.inside.height c.self.inside.squares.items
     c.other.inside.width c.other.inside.height c.other.inside.squares.items
-    (stored c.args.self.now c.self.inside.width c.self.inside.height c.self.inside.squares.items c.self.view_is)
-    (stored c.args.other.now c.other.inside.width c.other.inside.height c.other.inside.squares.items c.other.view_is)
+    (stored_of_tiling c.args.self.now c.self.inside.width c.self.inside.height c.self.inside.squares.items c.self.view_is)
+    (stored_of_tiling c.args.other.now c.other.inside.width c.other.inside.height c.other.inside.squares.items c.other.view_is)
     (bits_common c.self.inside.small c.other.inside.small c.self.inside.squares.items c.other.inside.squares.items c.self.invariant.small_fits
     c.self.invariant.small_sides c.other.invariant.small_sides c.if-self-other-ne0.true)
 
@@ -31,8 +31,8 @@ pub returns : goal.returns
 returns c =
     join_decided c.args.self.now c.args.other.now c.self.inside.width c.self.inside.height c.self.inside.squares.items
     c.other.inside.width c.other.inside.height c.other.inside.squares.items
-    (stored c.args.self.now c.self.inside.width c.self.inside.height c.self.inside.squares.items c.self.view_is)
-    (stored c.args.other.now c.other.inside.width c.other.inside.height c.other.inside.squares.items c.other.view_is)
+    (stored_of_tiling c.args.self.now c.self.inside.width c.self.inside.height c.self.inside.squares.items c.self.view_is)
+    (stored_of_tiling c.args.other.now c.other.inside.width c.other.inside.height c.other.inside.squares.items c.other.view_is)
     (ap stands_apart (sym c.self.view_is) ∙ sym c.self.invariant.apart_is ∙ c.if-not-self.false)
     (ap stands_apart (sym c.other.view_is) ∙ sym c.other.invariant.apart_is ∙ c.if-not-other.false)
     (sym c.can_be_laid.ensures ∙ c.if-not-can_be_laid.false)

@@ -28,8 +28,14 @@ close_and_hang-requires-clause-few c =
     omega (arith, p.numbers, ap (λ (t : MoveRecord). t.count) p.turn_is)
 
 known : (c : goal.After-deref-4) → Playing 200 (moves_stored c.self.inside.turns.items c.self.inside.played.items)
-    (record { count = c.m.inside.count; signs = c.m.inside.signs.items }) c.self.inside.ends.items c.self.inside.sizes.items
-    c.self.inside.signs.items c.self.inside.closed.items c.self.inside.turns.items c.self.inside.played.items c.turn_for-turn.result
+    (record { count = c.m.inside.count; signs = c.m.inside.signs.items }) (record {
+      ends = c.self.inside.ends.items;
+      sizes = c.self.inside.sizes.items;
+      signs = c.self.inside.signs.items;
+      closed = c.self.inside.closed.items;
+      turns = c.self.inside.turns.items;
+      played = c.self.inside.played.items;
+    }) c.turn_for-turn.result
 known c = playing c.self.invariant c.self.view_is c.m.view_is c.requires.legal c.requires.few c.turn_for-turn.ensures
     c.deref.ensures.0 c.deref-2.ensures.0 c.deref-3.ensures.0 c.len.ensures.value
 
@@ -68,7 +74,7 @@ invariant_of-self c =
     let n = played_lists p c.deref-4.ensures.0 c.close_and_hang.ensures.ends c.apply_signs.ensures.sizes c.apply_signs.ensures.signs
     c.close_and_hang.ensures.closed c.push.ensures.items (c.append.ensures
     ∙ ap (λ (l : List Sign). c.self.inside.played.items ++ l) c.deref-5.ensures.0) in
-    stored_shown _ _ _ _ _ _ _ (stored_played c.self.invariant p n)
+    stored_shown (stored_played c.self.invariant p n)
 
 pub returns : goal.returns
 returns c =

@@ -3,9 +3,9 @@ use Rattle.std.proofs.Common.{ap, arith, drop, length, lit<, take, ◌+◌, ◌-
 use Rattle.std.proofs.lemmas.List.{length-drop, length-map}
 use Rattle.bk_laws.proofs.ListParts.{drop-as_read}
 use Rattle.bk_play.proofs.Playing.{moves_shown, stored_shown}
-use Rattle.bk_play.proofs.TakenBack.{Back, TakesBack, front_left, stored_back, taken_back}
+use Rattle.bk_play.proofs.TakenBack.{TakesBack, front_left, lists_before, stored_back, taken_back}
 use Rattle.bk_play.proofs.SkelReads.{counted_in}
-use Rattle.bk_play.specs.Skeleton.{move_of, moves_stored}
+use Rattle.bk_play.specs.Skeleton.{IsStoredSkeleton, move_of, moves_stored}
 use Rattle.bk_play.proofs.skeleton.Skel.pop.Goals as goal
 
 pub overflow_sub-kept : goal.overflow_sub-kept
@@ -14,8 +14,14 @@ overflow_sub-kept c =
     omega (arith, b.closed_within, c.len.ensures.value, c.from.ensures)
 
 known : (c : goal.After-turn-1) → TakesBack (moves_stored c.self.inside.turns.items c.self.inside.played.items)
-    c.self.inside.ends.items c.self.inside.sizes.items c.self.inside.signs.items c.self.inside.closed.items
-    c.take_last-turn.new.turns.items c.take_last-turn.result c.self.inside.played.items
+    (record {
+      ends = c.self.inside.ends.items;
+      sizes = c.self.inside.sizes.items;
+      signs = c.self.inside.signs.items;
+      closed = c.self.inside.closed.items;
+      turns = c.self.inside.turns.items;
+      played = c.self.inside.played.items;
+    }) c.take_last-turn.new.turns.items c.take_last-turn.result
 known c = taken_back c.self.invariant c.take_last-turn.ensures c.requires c.self.view_is
 
 pub undo_signs-requires-clause-sizes_within : goal.undo_signs-requires-clause-sizes_within
@@ -47,41 +53,58 @@ splice-requires c =
     (drop (c.len.result - c.from.result) c.deref.result.now)) ≤ 200 = omega (arith, few, b.ends_fit, c.from-2.ensures) in
     (omega arith, (omega arith, (within, fits)))
 
-pub invariant_of-self : goal.invariant_of-self
-invariant_of-self c =
+-- the move is taken back from the lists
+left : (c : goal.After-truncate-2) → (b : TakesBack (moves_stored c.self.inside.turns.items c.self.inside.played.items)
+    (record {
+      ends = c.self.inside.ends.items;
+      sizes = c.self.inside.sizes.items;
+      signs = c.self.inside.signs.items;
+      closed = c.self.inside.closed.items;
+      turns = c.self.inside.turns.items;
+      played = c.self.inside.played.items;
+    }) c.take_last-turn.new.turns.items c.take_last-turn.result) × IsStoredSkeleton b.front (record {
+      ends = c.splice.new.list.items;
+      sizes = c.undo_signs.new.sizes.items;
+      signs = c.undo_signs.new.signs.items;
+      closed = c.truncate.new.self.items;
+      turns = c.take_last-turn.new.turns.items;
+      played = c.truncate-2.new.self.items;
+    })
+left c =
     let b = taken_back c.self.invariant c.take_last-turn.ensures c.requires c.self.view_is in
     let kept : c.len.result - c.from.result ≡ length c.self.inside.closed.items - c.take_last-turn.result.closed =
     (λ i. c.len.ensures.value i - c.from.ensures i) in
-    let n : Back c.self.inside.ends.items c.self.inside.sizes.items c.self.inside.signs.items c.self.inside.closed.items
-    c.self.inside.played.items c.take_last-turn.result c.splice.new.list.items c.undo_signs.new.sizes.items c.undo_signs.new.signs.items
-    c.truncate.new.self.items c.truncate-2.new.self.items = record {
-      ends_new = c.splice.ensures ∙ (λ i. splice c.self.inside.ends.items (c.from-first.ensures i) (c.from-first.ensures i + c.from-2.ensures i)
+    let n : record {
+      ends = c.splice.new.list.items;
+      sizes = c.undo_signs.new.sizes.items;
+      signs = c.undo_signs.new.signs.items;
+      closed = c.truncate.new.self.items;
+      turns = c.take_last-turn.new.turns.items;
+      played = c.truncate-2.new.self.items;
+    } ≡ lists_before (record {
+      ends = c.self.inside.ends.items;
+      sizes = c.self.inside.sizes.items;
+      signs = c.self.inside.signs.items;
+      closed = c.self.inside.closed.items;
+      turns = c.self.inside.turns.items;
+      played = c.self.inside.played.items;
+    }) c.take_last-turn.new.turns.items c.take_last-turn.result = λ i. record {
+      ends = (c.splice.ensures ∙ (λ i. splice c.self.inside.ends.items (c.from-first.ensures i) (c.from-first.ensures i + c.from-2.ensures i)
           (drop-as_read c.self.inside.closed.items c.deref.result.now (c.len.result - c.from.result)
-          (length c.self.inside.closed.items - c.take_last-turn.result.closed) c.deref.ensures.0 kept i));
-      sizes_new = c.undo_signs.ensures.sizes;
-      signs_new = c.undo_signs.ensures.signs;
-      closed_new = c.truncate.ensures.items ∙ ap (λ n. take n c.self.inside.closed.items) kept;
-      played_new = c.truncate-2.ensures.items ∙ ap (λ n. take n c.self.inside.played.items) c.from-3.ensures;
+          (length c.self.inside.closed.items - c.take_last-turn.result.closed) c.deref.ensures.0 kept i))) i;
+      sizes = c.undo_signs.ensures.sizes i;
+      signs = c.undo_signs.ensures.signs i;
+      closed = (c.truncate.ensures.items ∙ ap (λ n. take n c.self.inside.closed.items) kept) i;
+      turns = c.take_last-turn.new.turns.items;
+      played = (c.truncate-2.ensures.items ∙ ap (λ n. take n c.self.inside.played.items) c.from-3.ensures) i;
     } in
-    stored_shown _ _ _ _ _ _ _ (stored_back b n)
+    (b, stored_back b n)
+
+pub invariant_of-self : goal.invariant_of-self
+invariant_of-self c = stored_shown (left c).1
 
 pub returns : goal.returns
-returns c =
-    let b = taken_back c.self.invariant c.take_last-turn.ensures c.requires c.self.view_is in
-    let kept : c.len.result - c.from.result ≡ length c.self.inside.closed.items - c.take_last-turn.result.closed =
-    (λ i. c.len.ensures.value i - c.from.ensures i) in
-    let n : Back c.self.inside.ends.items c.self.inside.sizes.items c.self.inside.signs.items c.self.inside.closed.items
-    c.self.inside.played.items c.take_last-turn.result c.splice.new.list.items c.undo_signs.new.sizes.items c.undo_signs.new.signs.items
-    c.truncate.new.self.items c.truncate-2.new.self.items = record {
-      ends_new = c.splice.ensures ∙ (λ i. splice c.self.inside.ends.items (c.from-first.ensures i) (c.from-first.ensures i + c.from-2.ensures i)
-          (drop-as_read c.self.inside.closed.items c.deref.result.now (c.len.result - c.from.result)
-          (length c.self.inside.closed.items - c.take_last-turn.result.closed) c.deref.ensures.0 kept i));
-      sizes_new = c.undo_signs.ensures.sizes;
-      signs_new = c.undo_signs.ensures.signs;
-      closed_new = c.truncate.ensures.items ∙ ap (λ n. take n c.self.inside.closed.items) kept;
-      played_new = c.truncate-2.ensures.items ∙ ap (λ n. take n c.self.inside.played.items) c.from-3.ensures;
-    } in
-    moves_shown (stored_back b n) ∙ front_left b c.args.self.now c.self.view_is
+returns c = moves_shown (left c).1 ∙ front_left (left c).0 c.args.self.now c.self.view_is
 
 pub take_last-turn-requires : goal.take_last-turn-requires
 take_last-turn-requires c = omega (arith, c.requires, ap length c.self.view_is, length-map c.self.inside.turns.items (move_of c.self.inside.played.items))

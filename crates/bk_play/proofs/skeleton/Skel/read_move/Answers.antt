@@ -2,6 +2,7 @@ use Rattle.std.proofs.Common.{List, Some, ap, arith, drop, get_or, length, lit<,
 use Rattle.std.proofs.lemmas.List.{length-drop, length-map, length-take-le}
 use Rattle.bk_word.specs.declared.Sign.{Sign}
 use Rattle.bk_play.proofs.SkelReads.{Spans, move_read, span_in}
+use Rattle.bk_play.proofs.TurnRecords.{place_there}
 use Rattle.bk_play.proofs.Wirings.{no_turn}
 use Rattle.bk_play.specs.Skeleton.{move_of}
 use Rattle.bk_play.specs.declared.turns.MoveRecord.{MoveRecord}
@@ -73,20 +74,13 @@ pub deref-requires-2 : goal.deref-requires-2
 deref-requires-2 c = lit< tt
 
 pub bounds-deref-i : goal.bounds-deref-i
-bounds-deref-i c = omega (
-  arith,
-  c.requires,
-  ap length c.self.view_is,
-  length-map c.self.inside.turns.items (move_of c.self.inside.played.items),
-  ap length c.deref.ensures.0,
-)
+bounds-deref-i c =
+    place_there c.self.inside.turns.items c.deref.result.now c.self.inside.played.items c.args.self.now c.args.i c.self.view_is c.deref.ensures.0 c.requires
 
 pub offset_bounds-deref-i : goal.offset_bounds-deref-i
 offset_bounds-deref-i c = omega (
   arith,
-  c.requires,
-  ap length c.self.view_is,
-  length-map c.self.inside.turns.items (move_of c.self.inside.played.items),
-  ap length c.deref.ensures.0,
   c.deref.type_inv.1,
+  place_there c.self.inside.turns.items c.deref.result.now c.self.inside.played.items
+      c.args.self.now c.args.i c.self.view_is c.deref.ensures.0 c.requires,
 )

@@ -5,8 +5,9 @@ use Rattle.bk_play.proofs.Playing.{Playing, moves_shown, stored_played}
 use Rattle.bk_play.proofs.SmallPlaying.{played_lists, small_played, small_playing}
 use Rattle.bk_play.proofs.ValleyKept.{kept_looked}
 use Rattle.bk_play.proofs.ValleyReads.{valley_sizes}
-use Rattle.bk_play.specs.Skeleton.{moves_stored, with_parted}
+use Rattle.bk_play.specs.Skeleton.{IsStoredSkeleton, moves_stored, with_parted}
 use Rattle.bk_play.specs.declared.turns.MoveRecord.{MoveRecord}
+use Rattle.bk_play.specs.SmallSkeleton.{IsStoredSmall}
 use Rattle.bk_play.proofs.small.SmallSkel.play.Goals as goal
 
 pub len-requires : goal.len-requires
@@ -26,8 +27,14 @@ pub turn_in-turn-requires-clause-from : goal.turn_in-turn-requires-clause-from
 turn_in-turn-requires-clause-from c = omega (arith, c.len.ensures.few)
 
 at_hang : (c : goal.After-turn-1) → Playing 16 (moves_stored c.self.inside.turns.items c.self.inside.played.items) c.args.m.now
-    c.self.inside.open.ends.items c.self.inside.open.sizes.items c.self.inside.open.signs.items c.self.inside.closed.items
-    c.self.inside.turns.items c.self.inside.played.items (with_parted c.turn_in-turn.result (count_by parts c.args.m.now.signs))
+    (record {
+      ends = c.self.inside.open.ends.items;
+      sizes = c.self.inside.open.sizes.items;
+      signs = c.self.inside.open.signs.items;
+      closed = c.self.inside.closed.items;
+      turns = c.self.inside.turns.items;
+      played = c.self.inside.played.items;
+    }) (with_parted c.turn_in-turn.result (count_by parts c.args.m.now.signs))
 at_hang c = small_playing c.turn_in-turn.result c.self.invariant c.self.view_is refl c.requires.legal c.requires.few c.turn_in-turn.ensures c.len.ensures.value
 
 pub close_and_hang-requires-clause-within : goal.close_and_hang-requires-clause-within
@@ -37,8 +44,14 @@ pub close_and_hang-requires-clause-few : goal.close_and_hang-requires-clause-few
 close_and_hang-requires-clause-few c = omega (arith, (at_hang c).numbers, ap (λ (t : MoveRecord). t.count) (at_hang c).turn_is)
 
 at_join : (c : goal.After-as_slice) → Playing 16 (moves_stored c.self.inside.turns.items c.self.inside.played.items)
-    (record { count = c.m.inside.count; signs = c.m.inside.signs.items }) c.self.inside.open.ends.items c.self.inside.open.sizes.items
-    c.self.inside.open.signs.items c.self.inside.closed.items c.self.inside.turns.items c.self.inside.played.items
+    (record { count = c.m.inside.count; signs = c.m.inside.signs.items }) (record {
+      ends = c.self.inside.open.ends.items;
+      sizes = c.self.inside.open.sizes.items;
+      signs = c.self.inside.open.signs.items;
+      closed = c.self.inside.closed.items;
+      turns = c.self.inside.turns.items;
+      played = c.self.inside.played.items;
+    })
     (with_parted c.turn_in-turn.result (count_by parts c.m.inside.signs.items))
 at_join c = small_playing c.turn_in-turn.result c.self.invariant c.self.view_is c.m.view_is c.requires.legal c.requires.few
     c.turn_in-turn.ensures c.len.ensures.value
@@ -77,8 +90,17 @@ push-requires c =
     c.turn_in-turn.ensures c.len.ensures.value in
     (omega arith, p.turns_fit)
 
-pub find_valley-place-requires-clause-many : goal.find_valley-place-requires-clause-many
-find_valley-place-requires-clause-many c =
+-- the lists store the word with the move
+stored : (c : goal.After-find_valley-arg-1) → IsStoredSkeleton (moves_stored c.self.inside.turns.items c.self.inside.played.items
+    ++ record { count = c.m.inside.count; signs = c.m.inside.signs.items } ∷ []) (record {
+      ends = c.close_and_hang.new.ends.items;
+      sizes = c.part_and_join.new.sizes.items;
+      signs = c.part_and_join.new.signs.items;
+      closed = c.close_and_hang.new.closed.items;
+      turns = c.push.new.self.items;
+      played = c.append.new.self.items;
+    })
+stored c =
     let p = small_playing c.turn_in-turn.result c.self.invariant c.self.view_is c.m.view_is c.requires.legal c.requires.few
     c.turn_in-turn.ensures c.len.ensures.value in
     let parted : c.part_and_join.result ≡ count_by parts c.m.inside.signs.items = c.part_and_join.ensures.parted
@@ -86,10 +108,27 @@ find_valley-place-requires-clause-many c =
     let n = played_lists p c.as_slice.ensures.items c.close_and_hang.ensures.ends c.part_and_join.ensures.sizes c.part_and_join.ensures.signs
     c.close_and_hang.ensures.closed
     (c.push.ensures ∙ ap (λ k. c.self.inside.turns.items ++ with_parted c.turn_in-turn.result k ∷ []) parted) c.append.ensures in
-    (valley_sizes (stored_played c.self.invariant.stored p n) c.part_and_join.new.sizes.items c.part_and_join.new.signs.items refl refl).0
+    stored_played c.self.invariant.stored p n
+
+pub find_valley-place-requires-clause-many : goal.find_valley-place-requires-clause-many
+find_valley-place-requires-clause-many c = (valley_sizes (stored c) c.part_and_join.new.sizes.items c.part_and_join.new.signs.items refl refl).0
 
 pub find_valley-place-requires-clause-small : goal.find_valley-place-requires-clause-small
-find_valley-place-requires-clause-small c =
+find_valley-place-requires-clause-small c = (valley_sizes (stored c) c.part_and_join.new.sizes.items c.part_and_join.new.signs.items refl refl).1
+
+-- so they do with where the valley stands then
+kept : (c : goal.After-self-2-1) → IsStoredSmall (moves_stored c.push.new.self.items c.append.new.self.items) (record {
+  ends = c.close_and_hang.new.ends.items;
+  sizes = c.part_and_join.new.sizes.items;
+  signs = c.part_and_join.new.signs.items;
+  closed = c.close_and_hang.new.closed.items;
+  turns = c.push.new.self.items;
+  played = c.append.new.self.items;
+})
+    c.find_valley-place.result.0 c.find_valley-place.result.1
+    × (moves_stored c.push.new.self.items c.append.new.self.items ≡ moves_stored c.self.inside.turns.items c.self.inside.played.items
+    ++ record { count = c.m.inside.count; signs = c.m.inside.signs.items } ∷ [])
+kept c =
     let p = small_playing c.turn_in-turn.result c.self.invariant c.self.view_is c.m.view_is c.requires.legal c.requires.few
     c.turn_in-turn.ensures c.len.ensures.value in
     let parted : c.part_and_join.result ≡ count_by parts c.m.inside.signs.items = c.part_and_join.ensures.parted
@@ -97,26 +136,10 @@ find_valley-place-requires-clause-small c =
     let n = played_lists p c.as_slice.ensures.items c.close_and_hang.ensures.ends c.part_and_join.ensures.sizes c.part_and_join.ensures.signs
     c.close_and_hang.ensures.closed
     (c.push.ensures ∙ ap (λ k. c.self.inside.turns.items ++ with_parted c.turn_in-turn.result k ∷ []) parted) c.append.ensures in
-    (valley_sizes (stored_played c.self.invariant.stored p n) c.part_and_join.new.sizes.items c.part_and_join.new.signs.items refl refl).1
+    (small_played c.self.invariant p n c.find_valley-place.ensures, moves_shown (stored_played c.self.invariant.stored p n))
 
 pub invariant_of-self : goal.invariant_of-self
-invariant_of-self c =
-    let p = small_playing c.turn_in-turn.result c.self.invariant c.self.view_is c.m.view_is c.requires.legal c.requires.few
-    c.turn_in-turn.ensures c.len.ensures.value in
-    let parted : c.part_and_join.result ≡ count_by parts c.m.inside.signs.items = c.part_and_join.ensures.parted
-    ∙ ap (count_by parts) c.as_slice.ensures.items in
-    let n = played_lists p c.as_slice.ensures.items c.close_and_hang.ensures.ends c.part_and_join.ensures.sizes c.part_and_join.ensures.signs
-    c.close_and_hang.ensures.closed
-    (c.push.ensures ∙ ap (λ k. c.self.inside.turns.items ++ with_parted c.turn_in-turn.result k ∷ []) parted) c.append.ensures in
-    small_played c.self.invariant p n c.find_valley-place.ensures
+invariant_of-self c = (kept c).0
 
 pub returns : goal.returns
-returns c =
-    let p = small_playing c.turn_in-turn.result c.self.invariant c.self.view_is c.m.view_is c.requires.legal c.requires.few
-    c.turn_in-turn.ensures c.len.ensures.value in
-    let parted : c.part_and_join.result ≡ count_by parts c.m.inside.signs.items = c.part_and_join.ensures.parted
-    ∙ ap (count_by parts) c.as_slice.ensures.items in
-    let n = played_lists p c.as_slice.ensures.items c.close_and_hang.ensures.ends c.part_and_join.ensures.sizes c.part_and_join.ensures.signs
-    c.close_and_hang.ensures.closed
-    (c.push.ensures ∙ ap (λ k. c.self.inside.turns.items ++ with_parted c.turn_in-turn.result k ∷ []) parted) c.append.ensures in
-    moves_shown (stored_played c.self.invariant.stored p n) ∙ (λ i. c.self.view_is i ++ c.m.view_is i ∷ [])
+returns c = (kept c).1 ∙ (λ i. c.self.view_is i ++ c.m.view_is i ∷ [])

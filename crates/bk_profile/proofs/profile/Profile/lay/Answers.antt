@@ -1,115 +1,42 @@
-use Rattle.std.proofs.Common.{List, ap, arith, length, lit<, refl, subst, sym, ◌+◌, ◌<◌, ◌≤◌, ◌∙◌}
+use Rattle.std.proofs.Common.{List, ap, arith, length, refl, subst, sym, ◌+◌, ◌∙◌, ◌≤◌}
 use Rattle.bk_tiling.specs.declared.Square.{Square}
-use Rattle.bk_profile.proofs.Storing.{gap_read, level_small, narrow_runs, reads_from, some_runs, stored_laid}
-use Rattle.bk_profile.proofs.RunStarts.{start_below}
+use Rattle.bk_profile.proofs.Storing.{gap_narrow, gap_read, level_small, stored_laid}
 use Rattle.bk_profile.specs.Gap.{FitsGap}
 use Rattle.bk_profile.specs.Laid.{Laid, LaysGroup, MisfitsGap}
-use Rattle.bk_profile.specs.OutlineRuns.{width_of}
-use Rattle.bk_profile.specs.declared.runs.Run.{Run}
 use Rattle.bk_profile.proofs.profile.Profile.lay.Goals as goal
 
 pub returns-then-sum-gap-clause-err : goal.returns-then-sum-gap-clause-err
 returns-then-sum-gap-clause-err c =
-    subst (λ (p : Laid). MisfitsGap p c.args.sides.now c.segment-gap.result.width c.sum_of-sum.result) c.self.view_is
+    subst (λ (p : Laid). MisfitsGap p c.args.sides.now c.lowest_runs-runs.result.segment.width c.sum_of-sum.result) c.self.view_is
     (record {
-      gap = c.segment-gap.result;
-      is_gap = gap_read _ _ _ _ _ _ c.self.invariant (reads_from c.self.inside.outline.items c.deref.result.now c.deref-2.result.now
-          c.lowest-first.result c.segment-gap.result c.deref.ensures.0 c.deref-2.ensures.0 c.lowest-first.ensures c.segment-gap.ensures.x
-          c.segment-gap.ensures.end c.segment-gap.ensures.level);
+      gap = c.lowest_runs-runs.result.segment;
+      is_gap = gap_read _ _ _ _ c.self.invariant c.deref.ensures.0 c.lowest_runs-runs.ensures;
       width = refl;
       total_is = sym c.sum_of-sum.ensures.sum;
       misfit = λ e. c.if-sum-gap.true (c.sum_of-sum.ensures.sum ∙ e);
     })
 
 pub hang-requires-clause-high : goal.hang-requires-clause-high
-hang-requires-clause-high c =
-    omega (
-      arith,
-      level_small _ _ _ _ _ _ c.self.invariant (reads_from c.self.inside.outline.items c.deref.result.now c.deref-2.result.now
-          c.lowest-first.result c.segment-gap.result c.deref.ensures.0 c.deref-2.ensures.0 c.lowest-first.ensures c.segment-gap.ensures.x
-          c.segment-gap.ensures.end c.segment-gap.ensures.level),
-    )
+hang-requires-clause-high c = omega (arith, level_small _ _ _ _ c.self.invariant c.deref.ensures.0 c.lowest_runs-runs.ensures)
 
 pub invariant_of-self : goal.invariant_of-self
 invariant_of-self c =
-    let fits : FitsGap c.segment-gap.result c.args.sides.now = sym c.sum_of-sum.ensures.sum ∙ c.if-sum-gap.false in
+    let fits : FitsGap c.lowest_runs-runs.result.segment c.args.sides.now = sym c.sum_of-sum.ensures.sum ∙ c.if-sum-gap.false in
     let room : length c.self.inside.laid.items + length c.args.sides.now ≤ 200 =
     omega (arith, c.requires.room, ap (λ (p : Laid). length p.squares) c.self.view_is) in
-    rw (c.push_group.ensures, c.hang.ensures) (stored_laid _ _ _ _ _ _ c.self.invariant
-    (reads_from c.self.inside.outline.items c.deref.result.now c.deref-2.result.now
-    c.lowest-first.result c.segment-gap.result c.deref.ensures.0 c.deref-2.ensures.0 c.lowest-first.ensures c.segment-gap.ensures.x
-    c.segment-gap.ensures.end c.segment-gap.ensures.level)
-    c.args.sides.now fits c.requires.sides c.requires.some room)
+    rw (c.push_group.ensures, c.hang.ensures)
+    (stored_laid _ _ _ _ c.self.invariant c.deref.ensures.0 c.lowest_runs-runs.ensures c.args.sides.now fits c.requires.sides c.requires.some room)
 
 pub returns-clause-ok : goal.returns-clause-ok
 returns-clause-ok c =
     subst (λ (p : Laid). LaysGroup p c.args.sides.now (record { width = c.self.inside.width; squares = c.push_group.new.laid.items })) c.self.view_is
     (record {
-      gap = c.segment-gap.result;
-      is_gap = gap_read _ _ _ _ _ _ c.self.invariant (reads_from c.self.inside.outline.items c.deref.result.now c.deref-2.result.now
-          c.lowest-first.result c.segment-gap.result c.deref.ensures.0 c.deref-2.ensures.0 c.lowest-first.ensures c.segment-gap.ensures.x
-          c.segment-gap.ensures.end c.segment-gap.ensures.level);
+      gap = c.lowest_runs-runs.result.segment;
+      is_gap = gap_read _ _ _ _ c.self.invariant c.deref.ensures.0 c.lowest_runs-runs.ensures;
       fits = sym c.sum_of-sum.ensures.sum ∙ c.if-sum-gap.false;
       laid = ap (λ (l : List Square). record { width = c.self.inside.width; squares = l }) c.push_group.ensures;
     })
 
-pub deref-requires : goal.deref-requires
-deref-requires c = lit< tt
-
-pub lowest-first-requires : goal.lowest-first-requires
-lowest-first-requires c = subst (λ (l : List Run). 0 < length l) (sym c.deref.ensures.0) (some_runs _ _ c.self.invariant)
-
-pub deref-requires-2 : goal.deref-requires-2
-deref-requires-2 c = lit< tt
-
-pub segment-gap-requires-clause-order : goal.segment-gap-requires-clause-order
-segment-gap-requires-clause-order c = c.lowest-first.ensures.some
-
-pub segment-gap-requires-clause-within : goal.segment-gap-requires-clause-within
-segment-gap-requires-clause-within c =
-    subst (λ (l : List Run). c.lowest-first.result.1 ≤ length l) (c.deref.ensures.0 ∙ sym c.deref-2.ensures.0) c.lowest-first.ensures.within
-
-pub segment-gap-requires-clause-narrow : goal.segment-gap-requires-clause-narrow
-segment-gap-requires-clause-narrow c = subst (λ (l : List Run). width_of l < 9223372036854775808) (sym c.deref-2.ensures.0) (narrow_runs _ _ c.self.invariant)
-
-pub sum_of-sum-requires-clause-few : goal.sum_of-sum-requires-clause-few
-sum_of-sum-requires-clause-few c = omega (arith, c.requires.room)
-
-pub sum_of-sum-requires-clause-sides : goal.sum_of-sum-requires-clause-sides
-sum_of-sum-requires-clause-sides c = c.requires.sides
-
-pub same-self : goal.same-self
-same-self c = refl
-
-pub returns-then-sum-gap-clause-same : goal.returns-then-sum-gap-clause-same
-returns-then-sum-gap-clause-same c = refl
-
-pub hang-requires-clause-order : goal.hang-requires-clause-order
-hang-requires-clause-order c = c.lowest-first.ensures.some
-
-pub hang-requires-clause-within : goal.hang-requires-clause-within
-hang-requires-clause-within c = subst (λ (l : List Run). c.lowest-first.result.1 ≤ length l) c.deref.ensures.0 c.lowest-first.ensures.within
-
-pub hang-requires-clause-some : goal.hang-requires-clause-some
-hang-requires-clause-some c = c.requires.some
-
-pub hang-requires-clause-room : goal.hang-requires-clause-room
-hang-requires-clause-room c = omega (arith, c.self.invariant.outline.few, c.requires.room, ap (λ (p : Laid). length p.squares) c.self.view_is)
-
-pub hang-requires-clause-sides : goal.hang-requires-clause-sides
-hang-requires-clause-sides c = c.requires.sides
-
-pub push_group-requires-clause-room : goal.push_group-requires-clause-room
-push_group-requires-clause-room c = omega (arith, c.requires.room, ap (λ (p : Laid). length p.squares) c.self.view_is)
-
 pub push_group-requires-clause-fits : goal.push_group-requires-clause-fits
 push_group-requires-clause-fits c =
-    omega (
-      arith,
-      c.segment-gap.ensures.end,
-      start_below c.deref-2.result.now c.lowest-first.result.1,
-      ap width_of c.deref-2.ensures.0,
-      narrow_runs _ _ c.self.invariant,
-      c.sum_of-sum.ensures.sum,
-      c.if-sum-gap.false,
-    )
+    omega (arith, gap_narrow _ _ _ _ c.self.invariant c.deref.ensures.0 c.lowest_runs-runs.ensures, c.sum_of-sum.ensures.sum, c.if-sum-gap.false)

@@ -1,5 +1,5 @@
-use Rattle.std.proofs.Common.{[], subst, sym, ◌++◌, ◌-◌, ◌∙◌, ◌≡◌, ◌∷◌, ap, arith, length}
-use Rattle.bk_tree_walk.specs.Search.{IsReady, IsSearchState, SearchState, StepLeadsTo, place_of}
+use Rattle.std.proofs.Common.{[], subst, sym, ◌-◌, ◌∙◌, ◌≡◌, ◌∷◌, ap, arith, length}
+use Rattle.bk_tree_walk.specs.Search.{IsReady, IsSearchState, SearchState, StepLeadsTo}
 use Rattle.bk_tree_walk.specs.declared.Went.{Went}
 use Rattle.bk_tree_walk.specs.declared.Went.TheVariants.{Met, On}
 use Rattle.bk_tree_walk.proofs.StateLaws.{count_few, leads_over, signs_few, stand_anew, stays_down, stays_put, walked_back, walked_back_stand, walked_down}
@@ -37,7 +37,7 @@ pub returns-then-skip-clause-stays : goal.returns-then-skip-clause-stays
 returns-then-skip-clause-stays g c = stays_put c.self.invariant c.self.view_is _ _ _
 
 pub returns-then-skip-clause-leads : goal.returns-then-skip-clause-leads
-returns-then-skip-clause-leads g c = subst (λ (s : SearchState). StepLeadsTo s.order s.class (place_of s) c.self.inside.lined c.skip.new.m
+returns-then-skip-clause-leads g c = subst (λ (s : SearchState). StepLeadsTo s (record s { front = c.self.inside.lined; next = c.skip.new.m })
     (c.args.steps.now - c.args.steps.now) On) c.self.view_is
     (leads_over _ c.self.invariant (subst IsReady (sym c.self.view_is) c.requires) c.skip.new.m c.args.steps.now (c.skip.ensures.cut c.if-skip.true)
     c.skip.ensures.near)
@@ -83,22 +83,28 @@ invariant_of-self-then-is_barren g c = record {
 }
 
 pub returns-then-is_barren-clause-leads : goal.returns-then-is_barren-clause-leads
-returns-then-is_barren-clause-leads g c = subst (λ (s : SearchState). StepLeadsTo s.order s.class (place_of s) c.pop.new.self c.next_move.new.m
+returns-then-is_barren-clause-leads g c = subst (λ (s : SearchState). StepLeadsTo s (record s { front = c.pop.new.self; next = c.next_move.new.m })
     (c.go_down.new.steps - c.args.steps.now) On) c.self.view_is
     (walked_back _ _ c.self.invariant (subst IsReady (sym c.self.view_is) c.requires) c.skip.new.m c.args.steps.now c.go_down.new.steps
     (c.self-2.view_is ∙ c.go_down.ensures.state) (c.skip.ensures.kept c.if-skip.false) c.go_down.ensures.step c.pop.new.self c.next_move.new.m c.pop.ensures
     c.next_move.ensures (c.is_barren.ensures c.if-is_barren.true c.self.inside.class))
 
 pub returns-clause-leads : goal.returns-clause-leads
-returns-clause-leads g c = subst (λ (s : SearchState). StepLeadsTo s.order s.class (place_of s) c.self-2.inside.lined c.begin_anew.new.m
-    (c.go_down.new.steps - c.args.steps.now) c.if-is_members.result) c.self.view_is
+returns-clause-leads g c =
+    let was : SearchState = record {
+      order = c.self.inside.order;
+      class = c.self.inside.class;
+      front = c.self.inside.lined;
+      next = c.self.inside.next;
+      pushes = c.self.inside.pushes;
+    } in
+    let then : SearchState = record was { front = c.self-2.inside.lined; next = c.begin_anew.new.m } in
+    subst (λ (s : SearchState). StepLeadsTo s then (c.go_down.new.steps - c.args.steps.now) c.if-is_members.result) c.self.view_is
     (elim c.if-is_members.branch [
-      | then-is_members w ↦ subst (λ (r : Went). StepLeadsTo c.self.inside.order c.self.inside.class (c.self.inside.lined ++ c.self.inside.next ∷ [])
-          c.self-2.inside.lined c.begin_anew.new.m (c.go_down.new.steps - c.args.steps.now) r) (sym w.result-is)
+      | then-is_members w ↦ subst (λ (r : Went). StepLeadsTo was then (c.go_down.new.steps - c.args.steps.now) r) (sym w.result-is)
           (walked_to _ _ c.self.invariant (subst IsReady (sym c.self.view_is) c.requires) c.skip.new.m c.args.steps.now c.go_down.new.steps
           (c.self-2.view_is ∙ c.go_down.ensures.state) (c.skip.ensures.kept c.if-skip.false) c.go_down.ensures.step c.begin_anew.new.m)
-      | else-is_members w ↦ subst (λ (r : Went). StepLeadsTo c.self.inside.order c.self.inside.class (c.self.inside.lined ++ c.self.inside.next ∷ [])
-          c.self-2.inside.lined c.begin_anew.new.m (c.go_down.new.steps - c.args.steps.now) r) (sym w.result-is)
+      | else-is_members w ↦ subst (λ (r : Went). StepLeadsTo was then (c.go_down.new.steps - c.args.steps.now) r) (sym w.result-is)
           (walked_down _ _ c.self.invariant (subst IsReady (sym c.self.view_is) c.requires) c.skip.new.m c.args.steps.now c.go_down.new.steps
           (c.self-2.view_is ∙ c.go_down.ensures.state) (c.skip.ensures.kept c.if-skip.false) c.go_down.ensures.step c.begin_anew.new.m
           c.begin_anew.ensures (c.is_members.ensures.none w.if-is_members.false))

@@ -10,7 +10,7 @@ use Rattle.bk_ports.specs.WrittenAnswer.{HasOutcome, IsAnswerBegun}
 use Rattle.bk_verify_report.proofs.Entered.{begun_one, written_none, written_one}
 use Rattle.bk_verify_report.specs.ListLine.{CountsAreBelow, EntersLine, MayWantAt, no_item, refuses}
 use Rattle.bk_verify_report.specs.declared.entering.Verifying.{Verifying}
-use Rattle.bk_verify_report.specs.Laws.{still_ready}
+use Rattle.bk_verify_report.specs.EmptyLine.{still_ready}
 use Rattle.bk_verify_report.proofs.entering.VerifyRegisterRegister.enter.Goals as goal
 
 pub returns-in-Ok-None-clause-outcome : goal.returns-in-Ok-None-clause-outcome

@@ -20,7 +20,8 @@ new-requires-2 g c = grind (arith, g.ROOM.fits)
 pub invariant_of-result : goal.invariant_of-result
 invariant_of-result g c =
     let same : c.match-from.cursor ≡ start_cursor c.args.from = search rules in
-    subst (λ (s : SearchState). IsKeptWalk s.order s.class c.match-from.cursor s.front false s.pushes) (sym c.new.ensures) (record {
+    subst (λ (s : SearchState). IsKeptWalk
+    (record { order = s.order; class = s.class; cursor = c.match-from.cursor; ended = false; pushes = s.pushes }) s.front) (sym c.new.ensures) (record {
       least = c.requires.least;
       most = c.requires.most;
       few = subst (λ (w : Word). order_of w ≤ 16) (sym same) c.requires.few;

@@ -13,13 +13,13 @@ use Rattle.bk_walk.proofs.walk.TabledWalkMembers.advance_in.Goals as goal
 pub invariant_of-self : goal.invariant_of-self
 invariant_of-self g c =
     let s = c.self.inside.tree in
-    let finds = finds_of s.order c.resume.new.self.order s.class c.resume.new.self.class (place_of c.resume.new.self) c.search.new.tree.front
-    (c.search.new.steps - c.resume.new.steps) c.search.result false c.resume.ensures.stays.order c.resume.ensures.stays.class
+    let finds = finds_of s c.resume.new.self c.search.new.tree (c.search.new.steps - c.resume.new.steps)
+    c.search.result false c.resume.ensures.stays.order c.resume.ensures.stays.class
     c.if-not-search.true c.search.ensures.finds in
-    kept_ended s.order c.search.new.tree.order s.class c.search.new.tree.class c.self.inside.cursor c.search.new.tree.front c.search.new.tree.pushes
+    kept_ended (record { order = s.order; class = s.class; cursor = c.self.inside.cursor; ended = true; pushes = c.search.new.tree.pushes })
+    c.search.new.tree.front c.search.new.tree.order c.search.new.tree.class
     (c.search.ensures.stays.order ∙ c.resume.ensures.stays.order) (c.search.ensures.stays.class ∙ c.resume.ensures.stays.class)
-    (kept_at_end s.order s.class c.self.inside.cursor c.search.new.tree.front c.search.new.tree.pushes c.self.invariant.least c.self.invariant.most
-    c.self.invariant.few finds.1
+    (kept_at_end _ c.search.new.tree.front c.self.invariant.least c.self.invariant.most c.self.invariant.few finds.1
     (none_after s.order s.class c.self.inside.cursor (place_of c.resume.new.self) c.resume.ensures.place c.args.steps.now c.resume.new.steps
     c.search.new.steps c.resume.ensures.few finds.0)
     (counts_known c.resume.new.self.pushes c.search.new.tree.pushes c.resume.new.steps c.search.new.steps c.search.ensures.stays.counts))
@@ -29,17 +29,16 @@ invariant_of-self-2 g c =
     let s = c.self.inside.tree in
     let entry = same_entry s.order c.resume.new.self.order s.class c.resume.new.self.class c.search.new.tree.front c.search.new.tree.front
     c.search.new.tiling c.resume.ensures.stays.order c.resume.ensures.stays.class refl (c.search.ensures.member c.if-not-search.false) in
-    kept_at_word s.order c.search.new.tree.order c.search.new.tree.class c.write_found.new.cursor c.search.new.tree.front c.self.inside.ended
-    c.search.new.tree.pushes c.self.invariant.least c.self.invariant.most (c.search.ensures.stays.order ∙ c.resume.ensures.stays.order)
-    c.write_found.ensures.cursor
+    kept_at_word s.order _ c.search.new.tree.front c.self.invariant.least c.self.invariant.most
+    (c.search.ensures.stays.order ∙ c.resume.ensures.stays.order) c.write_found.ensures.cursor
     (members_order s.order s.class c.search.new.tiling c.search.new.tree.front entry) c.if-self.false
     (counts_known c.resume.new.self.pushes c.search.new.tree.pushes c.resume.new.steps c.search.new.steps c.search.ensures.stays.counts)
 
 pub returns-then-not-search-clause-none : goal.returns-then-not-search-clause-none
 returns-then-not-search-clause-none g c _ =
     let s = c.self.inside.tree in
-    let finds = finds_of s.order c.resume.new.self.order s.class c.resume.new.self.class (place_of c.resume.new.self) c.search.new.tree.front
-    (c.search.new.steps - c.resume.new.steps) c.search.result false c.resume.ensures.stays.order c.resume.ensures.stays.class
+    let finds = finds_of s c.resume.new.self c.search.new.tree (c.search.new.steps - c.resume.new.steps)
+    c.search.result false c.resume.ensures.stays.order c.resume.ensures.stays.class
     c.if-not-search.true c.search.ensures.finds in
     subst (λ (w : WalkState). HasNoneAfter w.order w.class w.cursor) c.self.view_is
     (none_after s.order s.class c.self.inside.cursor (place_of c.resume.new.self) c.resume.ensures.place c.args.steps.now c.resume.new.steps
@@ -48,8 +47,8 @@ returns-then-not-search-clause-none g c _ =
 pub returns-then-not-search-clause-steps_to_end : goal.returns-then-not-search-clause-steps_to_end
 returns-then-not-search-clause-steps_to_end g c _ =
     let s = c.self.inside.tree in
-    let finds = finds_of s.order c.resume.new.self.order s.class c.resume.new.self.class (place_of c.resume.new.self) c.search.new.tree.front
-    (c.search.new.steps - c.resume.new.steps) c.search.result false c.resume.ensures.stays.order c.resume.ensures.stays.class
+    let finds = finds_of s c.resume.new.self c.search.new.tree (c.search.new.steps - c.resume.new.steps)
+    c.search.result false c.resume.ensures.stays.order c.resume.ensures.stays.class
     c.if-not-search.true c.search.ensures.finds in
     subst (λ (w : WalkState). IsAtMostTree w.order w.cursor None (c.search.new.steps - c.args.steps.now)) c.self.view_is
     (steps_to_end s.order s.class c.self.inside.cursor (place_of c.resume.new.self) c.resume.ensures.place c.args.steps.now c.resume.new.steps
@@ -58,14 +57,14 @@ returns-then-not-search-clause-steps_to_end g c _ =
 pub returns-clause-entry : goal.returns-clause-entry
 returns-clause-entry g c _ =
     let s = c.self.inside.tree in
-    let finds = finds_of s.order c.resume.new.self.order s.class c.resume.new.self.class (place_of c.resume.new.self) c.search.new.tree.front
-    (c.search.new.steps - c.resume.new.steps) c.search.result true c.resume.ensures.stays.order c.resume.ensures.stays.class
+    let finds = finds_of s c.resume.new.self c.search.new.tree (c.search.new.steps - c.resume.new.steps)
+    c.search.result true c.resume.ensures.stays.order c.resume.ensures.stays.class
     c.if-not-search.false c.search.ensures.finds in
     let entry = same_entry s.order c.resume.new.self.order s.class c.resume.new.self.class c.search.new.tree.front c.search.new.tree.front
     c.search.new.tiling c.resume.ensures.stays.order c.resume.ensures.stays.class refl (c.search.ensures.member c.if-not-search.false) in
     let found = c.write_found.new.entry in
-    subst (λ (w : WalkState). IsNextMember w.order w.class w.cursor found.tiling found.word) c.self.view_is
-    (subst (λ (t : Tiling). IsNextMember s.order s.class c.self.inside.cursor t found.word) (sym c.write_found.ensures.tiling)
+    subst (λ (w : WalkState). IsNextMember w.order w.class w.cursor (record { tiling = found.tiling; word = found.word })) c.self.view_is
+    (subst (λ (t : Tiling). IsNextMember s.order s.class c.self.inside.cursor (record { tiling = t; word = found.word })) (sym c.write_found.ensures.tiling)
     (next_member s.order s.class c.self.inside.cursor (place_of c.resume.new.self) c.resume.ensures.place c.args.steps.now c.resume.new.steps
     c.search.new.steps c.resume.ensures.few c.search.new.tiling c.search.new.tree.front found.word c.write_found.ensures.word entry finds))
 
@@ -75,8 +74,8 @@ returns-clause-code g c _ = c.write_found.ensures.code ∙ ap code_of (sym c.wri
 pub returns-clause-steps : goal.returns-clause-steps
 returns-clause-steps g c _ =
     let s = c.self.inside.tree in
-    let finds = finds_of s.order c.resume.new.self.order s.class c.resume.new.self.class (place_of c.resume.new.self) c.search.new.tree.front
-    (c.search.new.steps - c.resume.new.steps) c.search.result true c.resume.ensures.stays.order c.resume.ensures.stays.class
+    let finds = finds_of s c.resume.new.self c.search.new.tree (c.search.new.steps - c.resume.new.steps)
+    c.search.result true c.resume.ensures.stays.order c.resume.ensures.stays.class
     c.if-not-search.false c.search.ensures.finds in
     subst (λ (w : WalkState). IsAtMostTree w.order w.cursor (Some c.write_found.new.cursor) (c.search.new.steps - c.args.steps.now)) c.self.view_is
     (steps_to_word s.order s.class c.self.inside.cursor (place_of c.resume.new.self) c.resume.ensures.place c.args.steps.now c.resume.new.steps

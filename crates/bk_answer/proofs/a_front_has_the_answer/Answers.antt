@@ -1,5 +1,0 @@
-use Rattle.bk_answer.proofs.KeptFronts.{front_answer}
-use Rattle.bk_answer.proofs.a_front_has_the_answer.Goals as goal
-
-pub returns : goal.returns
-returns c = front_answer

@@ -1,5 +1,0 @@
-use Rattle.bk_ask.proofs.OneAsk.{one_ask}
-use Rattle.bk_ask.proofs.words_ask_one_thing.Goals as goal
-
-pub returns : goal.returns
-returns c = one_ask

@@ -1,5 +1,0 @@
-use Rattle.bk_catalogue.proofs.HangingBounds.WordBoundLaws.{closings_are_hung as the_law}
-use Rattle.bk_catalogue.proofs.closings_are_hung.Goals as goal
-
-pub returns : goal.returns
-returns c = the_law

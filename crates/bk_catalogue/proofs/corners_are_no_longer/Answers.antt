@@ -1,5 +1,0 @@
-use Rattle.bk_catalogue.proofs.Members.CornerLaws.{corners_are_no_longer as the_law}
-use Rattle.bk_catalogue.proofs.corners_are_no_longer.Goals as goal
-
-pub returns : goal.returns
-returns c = the_law

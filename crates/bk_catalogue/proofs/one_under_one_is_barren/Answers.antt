@@ -1,5 +1,0 @@
-use Rattle.bk_catalogue.proofs.MoveCuts.OneUnderOne.{one_under_one_is_barren as the_law}
-use Rattle.bk_catalogue.proofs.one_under_one_is_barren.Goals as goal
-
-pub returns : goal.returns
-returns c = the_law

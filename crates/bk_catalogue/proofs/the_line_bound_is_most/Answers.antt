@@ -1,5 +1,0 @@
-use Rattle.bk_catalogue.proofs.HangingBounds.LineLaws.{the_line_bound_is_most as the_law}
-use Rattle.bk_catalogue.proofs.the_line_bound_is_most.Goals as goal
-
-pub returns : goal.returns
-returns c = the_law

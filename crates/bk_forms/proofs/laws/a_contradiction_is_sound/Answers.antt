@@ -1,0 +1,5 @@
+use Rattle.bk_forms.proofs.Reducing.{contradiction_is_sound as the_law}
+use Rattle.bk_forms.proofs.laws.a_contradiction_is_sound.Goals as goal
+
+pub returns : goal.returns
+returns c = the_law

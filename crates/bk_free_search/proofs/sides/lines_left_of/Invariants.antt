@@ -1,7 +1,0 @@
-use Rattle.std.proofs.Common.{ℕ}
-use Rattle.bk_free_search.specs.Lefts.{IsLeftOfOne}
-use Rattle.bk_free_search.specs.NodeLines.{Has}
-use Rattle.bk_free_search.proofs.sides.lines_left_of.Given as goal
-
-abbrev pub invariant-squares : goal.invariant-squares
-invariant-squares l = (line : ℕ) → Has l.lines line → IsLeftOfOne l.lefts l.squares line

@@ -1,5 +1,0 @@
-use Rattle.bk_gen.proofs.SampleLaws.{sample_kept}
-use Rattle.bk_gen.proofs.each_sample_has_a_tiling.Goals as goal
-
-pub returns : goal.returns
-returns c = sample_kept

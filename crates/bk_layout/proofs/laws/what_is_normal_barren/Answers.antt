@@ -1,0 +1,52 @@
+use Rattle.bk_layout.proofs.NormalCuts.NormalWords.{a_net_barren_word_is_normal_barren}
+use Rattle.bk_layout.proofs.NormalCuts.MovesLeft.{too_few_moves_is_normal_barren}
+use Rattle.bk_layout.proofs.FreeCuts.SquaresLeft.{too_many_squares_is_normal_barren}
+use Rattle.bk_layout.proofs.NormalCuts.StrongWords.{strong_bound_is_normal_barren, strong_weight_is_normal_barren}
+use Rattle.bk_layout.proofs.NormalCuts.LastMoves.{all_under_at_left_is_normal_barren, all_under_at_right_is_normal_barren}
+use Rattle.bk_layout.proofs.NormalCuts.LastMoves.{all_under_is_normal_barren, one_square_goes_on_even}
+use Rattle.bk_layout.proofs.NormalCuts.LastMoves.{too_many_at_left_is_normal_barren}
+use Rattle.bk_layout.proofs.NormalCuts.LastMoves.{too_many_at_right_is_normal_barren, too_wide_bottom_is_normal_barren}
+use Rattle.bk_layout.proofs.NormalCuts.NextMove.{next_is_last_is_normal_barren, too_few_evens_is_normal_barren}
+use Rattle.bk_layout.proofs.laws.what_is_normal_barren.Goals as goal
+
+pub returns-clause-a_net_barren_word_is_normal_barren : goal.returns-clause-a_net_barren_word_is_normal_barren
+returns-clause-a_net_barren_word_is_normal_barren c = a_net_barren_word_is_normal_barren
+
+pub returns-clause-too_few_moves_is_normal_barren : goal.returns-clause-too_few_moves_is_normal_barren
+returns-clause-too_few_moves_is_normal_barren c = too_few_moves_is_normal_barren
+
+pub returns-clause-too_many_squares_is_normal_barren : goal.returns-clause-too_many_squares_is_normal_barren
+returns-clause-too_many_squares_is_normal_barren c = too_many_squares_is_normal_barren
+
+pub returns-clause-strong_bound_is_normal_barren : goal.returns-clause-strong_bound_is_normal_barren
+returns-clause-strong_bound_is_normal_barren c = strong_bound_is_normal_barren
+
+pub returns-clause-strong_weight_is_normal_barren : goal.returns-clause-strong_weight_is_normal_barren
+returns-clause-strong_weight_is_normal_barren c = strong_weight_is_normal_barren
+
+pub returns-clause-all_under_is_normal_barren : goal.returns-clause-all_under_is_normal_barren
+returns-clause-all_under_is_normal_barren c = all_under_is_normal_barren
+
+pub returns-clause-all_under_at_left_is_normal_barren : goal.returns-clause-all_under_at_left_is_normal_barren
+returns-clause-all_under_at_left_is_normal_barren c = all_under_at_left_is_normal_barren
+
+pub returns-clause-too_wide_bottom_is_normal_barren : goal.returns-clause-too_wide_bottom_is_normal_barren
+returns-clause-too_wide_bottom_is_normal_barren c = too_wide_bottom_is_normal_barren
+
+pub returns-clause-too_many_at_left_is_normal_barren : goal.returns-clause-too_many_at_left_is_normal_barren
+returns-clause-too_many_at_left_is_normal_barren c = too_many_at_left_is_normal_barren
+
+pub returns-clause-one_square_goes_on_even : goal.returns-clause-one_square_goes_on_even
+returns-clause-one_square_goes_on_even c = one_square_goes_on_even
+
+pub returns-clause-all_under_at_right_is_normal_barren : goal.returns-clause-all_under_at_right_is_normal_barren
+returns-clause-all_under_at_right_is_normal_barren c = all_under_at_right_is_normal_barren
+
+pub returns-clause-too_many_at_right_is_normal_barren : goal.returns-clause-too_many_at_right_is_normal_barren
+returns-clause-too_many_at_right_is_normal_barren c = too_many_at_right_is_normal_barren
+
+pub returns-clause-too_few_evens_is_normal_barren : goal.returns-clause-too_few_evens_is_normal_barren
+returns-clause-too_few_evens_is_normal_barren c = too_few_evens_is_normal_barren
+
+pub returns-clause-next_is_last_is_normal_barren : goal.returns-clause-next_is_last_is_normal_barren
+returns-clause-next_is_last_is_normal_barren c = next_is_last_is_normal_barren

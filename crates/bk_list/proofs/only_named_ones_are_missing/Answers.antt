@@ -1,5 +1,0 @@
-use Rattle.bk_list.proofs.Resuming.{only_named_ones_are_missing as the_law}
-use Rattle.bk_list.proofs.only_named_ones_are_missing.Goals as goal
-
-pub returns : goal.returns
-returns c = the_law

@@ -1,0 +1,5 @@
+use Rattle.bk_read_back.proofs.SidesBack.{a_smith_diagram_is_read as the_law}
+use Rattle.bk_read_back.proofs.laws.a_smith_diagram_is_read.Goals as goal
+
+pub returns : goal.returns
+returns c = the_law

@@ -1,5 +1,0 @@
-use Rattle.bk_report.proofs.Verdicts.{one_check_line}
-use Rattle.bk_report.proofs.answer.a_tiling_has_one_check_line.Goals as goal
-
-pub returns : goal.returns
-returns c = one_check_line

@@ -1,0 +1,5 @@
+use Rattle.bk_simple.proofs.OneFirst.{a_first_part_is_one as the_law}
+use Rattle.bk_simple.proofs.laws.a_first_part_is_one.Goals as goal
+
+pub returns : goal.returns
+returns c = the_law

@@ -1,5 +1,0 @@
-use Rattle.bk_sym.proofs.AlikeLaws.{a_canonical_tiling_is_its_own as the_law}
-use Rattle.bk_sym.proofs.a_canonical_tiling_is_its_own.Goals as goal
-
-pub returns : goal.returns
-returns c = the_law

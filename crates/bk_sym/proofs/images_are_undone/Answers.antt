@@ -1,5 +1,0 @@
-use Rattle.bk_sym.proofs.Composing.{images_are_undone as the_law}
-use Rattle.bk_sym.proofs.images_are_undone.Goals as goal
-
-pub returns : goal.returns
-returns c = the_law

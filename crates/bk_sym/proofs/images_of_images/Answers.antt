@@ -1,5 +1,0 @@
-use Rattle.bk_sym.proofs.Composing.{images_of_images as the_law}
-use Rattle.bk_sym.proofs.images_of_images.Goals as goal
-
-pub returns : goal.returns
-returns c = the_law

@@ -1,5 +1,0 @@
-use Rattle.bk_tiling.proofs.OneRefusal.{refused_or_accepted}
-use Rattle.bk_tiling.proofs.a_refused_list_is_not_accepted.Goals as goal
-
-pub returns : goal.returns
-returns c = refused_or_accepted

@@ -1,4 +1,0 @@
-use Rattle.bk_top.proofs.catalogue.list_by.Given as goal
-
-abbrev pub ghosts-list_members : goal.ghosts-list_members
-ghosts-list_members g a = record { name = a.blank.name; parts = a.blank.parts }

@@ -1,5 +1,0 @@
-use Rattle.bk_verify_report.proofs.Firsts.{truths_stay as the_law}
-use Rattle.bk_verify_report.proofs.entries.truths_stay.Goals as goal
-
-pub returns : goal.returns
-returns c = the_law

@@ -1,5 +1,0 @@
-use Rattle.bk_word.proofs.WordPieces.{written_is_text}
-use Rattle.bk_word.proofs.a_written_word_is_read.Goals as goal
-
-pub returns : goal.returns
-returns c = written_is_text
