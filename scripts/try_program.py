@@ -109,25 +109,31 @@ def run_on_line_feeds(program, count):
     return child.returncode, out.decode(), err.decode()
 
 
-def run_within(program, resource_kind, most, *arguments, text=""):
-    """Runs the program with at most so much of a resource, and gives its status and what it wrote."""
-    limit = lambda: resource.setrlimit(resource_kind, (most, most))  # pylint: disable=unnecessary-lambda-assignment
+def run_within(program, *arguments, stack=None, text=""):
+    """Runs the program for a few seconds at most, on a stack of so many bytes if that is said, and gives its status and what it wrote."""
+
+    def limit():
+        resource.setrlimit(resource.RLIMIT_CPU, (FEW_SECONDS, FEW_SECONDS))
+        if stack:
+            resource.setrlimit(resource.RLIMIT_STACK, (stack, stack))
+
     ran = subprocess.run([program, *arguments], input=text, capture_output=True, text=True, preexec_fn=limit, check=False)
     return ran.returncode, ran.stdout, ran.stderr
 
 
 def within_limits(program):
-    """Returns what the greatest catalogue and the comparison with it come to on a small stack or in few seconds, each beside what it must come to."""
-    listing, comparison = ("list", "--order", "16"), ("verify", "--order", "16")
-    ran = subprocess.run([program, *listing], capture_output=True, text=True, check=False)
-    whole = ran.returncode, ran.stdout, ran.stderr
-    codes = "".join(line + "\n" for line in ran.stdout.splitlines() if not line.startswith(";"))
+    """Returns what the greatest catalogue and the comparison with it come to in few seconds, on any stack and on a small one, each beside what it must
+    come to."""
+    whole = run_within(program, "list", "--order", "16")
+    lines = whole[1].splitlines()
+    listed = whole[0], lines[-1] if lines else "", whole[2]
+    codes = "".join(line + "\n" for line in lines if not line.startswith(";"))
     same = (0, "; end order 16 members 9016 missing 0 foreign 0 repeated 0 refused 0\n", "")
-    tried = []
-    for name, kind, most in ("on a small stack", resource.RLIMIT_STACK, SMALL_STACK), ("in few seconds", resource.RLIMIT_CPU, FEW_SECONDS):
-        tried.append((f"list --order 16 {name}", whole, run_within(program, kind, most, *listing)))
-        tried.append((f"verify --order 16 {name}", same, run_within(program, kind, most, *comparison, text=codes)))
-    return tried
+    return [
+        ("list --order 16 in few seconds", (0, "; end order 16 listed 9016", ""), listed),
+        ("list --order 16 on a small stack", whole, run_within(program, "list", "--order", "16", stack=SMALL_STACK)),
+        ("verify --order 16 on a small stack", same, run_within(program, "verify", "--order", "16", stack=SMALL_STACK, text=codes)),
+    ]
 
 
 def short(said):

@@ -37,17 +37,18 @@ has_flipped = record {
 }
 
 -- it is kept by its canonical tiling, and nothing is written yet
-kept_flipped : ListsLine listing_start.state 1 (codes "[1,2][1]") [] false (with_item listing_start.state 1 rectangle_3x2)
+kept_flipped : ListsLine listing_start.state 1 (codes "[1,2][1]") (record { pieces = []; refused = false }) (with_item listing_start.state 1 rectangle_3x2)
 kept_flipped = keeps flipped rectangle_3x2 has_flipped (lit< tt) canonical_flipped
 
 -- a refusal is written at once, and counted
-refused_second : (s : Listed) → ListsLine s 2 (codes "[18,15][7,9]") (codes "line 2 no gap 2 15 16\n" ∷ []) true (with_refused s)
+refused_second : (s : Listed) → ListsLine s 2 (codes "[18,15][7,9]")
+    (record { pieces = codes "line 2 no gap 2 15 16\n" ∷ []; refused = true }) (with_refused s)
 unfolding digits
 refused_second s = refuses (Gap 2 15 16) gap_refused
 
 -- where 16,384 items are kept, no other is
 kept_no_more : (s : Listed) → 16_384 ≤ length s.items
-    → ListsLine s 16_385 (codes "[1,2][1]") (codes "line 16385 no more\n" ∷ []) true (with_refused s)
+    → ListsLine s 16_385 (codes "[1,2][1]") (record { pieces = codes "line 16385 no more\n" ∷ []; refused = true }) (with_refused s)
 unfolding digits
 kept_no_more s full = no_more flipped has_flipped full
 

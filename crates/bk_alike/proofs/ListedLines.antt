@@ -37,25 +37,25 @@ refused_begun answers line a b (Err f) h err = begins_one answers true line a b 
 
 -- a line without an item
 pub skipped_line : (s next : Listed) (number : ℕ) (bytes : List ℕ) (a : Option (List ℕ)) → HasItem bytes Skip → next ≡ s
-    → IsWritten (λ pieces refused. ListsLine s number bytes pieces refused next) a a false
+    → IsWritten (λ pieces refused. ListsLine s number bytes (record { pieces = pieces; refused = refused }) next) a a false
 skipped_line s next number bytes a none is =
-    subst (λ (n : Listed). IsWritten (λ pieces refused. ListsLine s number bytes pieces refused n) a a false) (sym is)
-    (writes_none (λ pieces refused. ListsLine s number bytes pieces refused s) false a (skipped none))
+    subst (λ (n : Listed). IsWritten (λ pieces refused. ListsLine s number bytes (record { pieces = pieces; refused = refused }) n) a a false) (sym is)
+    (writes_none (λ pieces refused. ListsLine s number bytes (record { pieces = pieces; refused = refused }) s) false a (skipped none))
 
 -- the tiling of a line is kept
 pub kept_line : (s next : Listed) (number : ℕ) (bytes : List ℕ) (t c : Tiling) (a : Option (List ℕ)) → HasTiling bytes t
     → length s.items < 16384 → IsCanonicalOf t c → next ≡ with_item s number c
-    → IsWritten (λ pieces refused. ListsLine s number bytes pieces refused next) a a false
+    → IsWritten (λ pieces refused. ListsLine s number bytes (record { pieces = pieces; refused = refused }) next) a a false
 kept_line s next number bytes t c a has few canon is =
-    subst (λ (n : Listed). IsWritten (λ pieces refused. ListsLine s number bytes pieces refused n) a a false) (sym is)
-    (writes_none (λ pieces refused. ListsLine s number bytes pieces refused (with_item s number c)) false a
+    subst (λ (n : Listed). IsWritten (λ pieces refused. ListsLine s number bytes (record { pieces = pieces; refused = refused }) n) a a false) (sym is)
+    (writes_none (λ pieces refused. ListsLine s number bytes (record { pieces = pieces; refused = refused }) (with_item s number c)) false a
     (keeps t c has few canon))
 
 -- or refused, where 16,384 are kept
 pub full_line : (s next : Listed) (number : ℕ) (bytes : List ℕ) (t : Tiling) → HasTiling bytes t → 16384 ≤ length s.items → next ≡ with_refused s
-    → ListsLine s number bytes (refused_line number More ∷ []) true next
+    → ListsLine s number bytes (record { pieces = refused_line number More ∷ []; refused = true }) next
 full_line s next number bytes t has full is =
-    subst (λ (n : Listed). ListsLine s number bytes (refused_line number More ∷ []) true n) (sym is)
+    subst (λ (n : Listed). ListsLine s number bytes (record { pieces = refused_line number More ∷ []; refused = true }) n) (sym is)
     (no_more t has full)
 
 -- where a call that keeps an item doesn't say that 16,384 are kept, fewer are
@@ -81,6 +81,8 @@ wanting_line s number bytes t a has few = record { cause = (t, has, few); kept =
 
 -- a refused line
 pub refused_entry : (s next : Listed) (number : ℕ) (bytes : List ℕ) (refused : Refused) → IsLineRefused bytes refused → next ≡ with_refused s
-    → ListsLine s number bytes (refused_line number refused ∷ []) true next
-refused_entry s next number bytes refused h is = subst (λ (n : Listed). ListsLine s number bytes (refused_line number refused ∷ []) true n) (sym is)
+    → ListsLine s number bytes (record { pieces = refused_line number refused ∷ []; refused = true }) next
+refused_entry s next number bytes refused h is =
+    subst (λ (n : Listed). ListsLine s number bytes (record { pieces = refused_line number refused ∷ []; refused = true }) n)
+    (sym is)
     (refuses refused h)

@@ -39,7 +39,8 @@ module _ (s : Listed) (n : ℕ) where
       (subst (λ (t : Tiling). IsCanonicalOf t d) (line_tiling line b a had has) k)).1
 
   -- any line
-  line_once : (line : List ℕ) (ps qs : List (List ℕ)) (p q : Bool) (l m : Listed) → ListsLine s n line ps p l → ListsLine s n line qs q m
+  line_once : (line : List ℕ) (ps qs : List (List ℕ)) (p q : Bool) (l m : Listed) → ListsLine s n line (record { pieces = ps; refused = p }) l
+      → ListsLine s n line (record { pieces = qs; refused = q }) m
       → IsOneEntry ps qs p q l m
   line_once line ps qs p q l m (skipped a) (skipped b) = (refl, refl, refl)
   line_once line ps qs p q l m (skipped a) (refuses r h) = absurd (skip_not_refused line r a (cause_of line r h))

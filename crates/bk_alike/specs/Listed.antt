@@ -1,7 +1,7 @@
 -- Lines of codes that are listed one after another: the items that are kept, and how many lines are refused.
 -- Example (GroupExamples): of `[1,2][1]` the canonical tiling is kept, `[18,15][7,9]` is refused by `line 2 no gap 2 15
 -- 16`; where 16,384 items are kept, the next one is refused too.
-use Rattle.std.specs.Prelude.{Bool, List, [], false, length, true, ℕ, ◌++◌, ◌+◌, ◌<◌, ◌∷◌, ◌≡◌, ◌≤◌}
+use Rattle.std.specs.Prelude.{List, [], false, length, true, ℕ, ◌++◌, ◌+◌, ◌<◌, ◌∷◌, ◌≡◌, ◌≤◌}
 use Rattle.bk_tiling.specs.Tiling.{Tiling}
 use Rattle.bk_sym.specs.Canonical.{IsCanonicalOf}
 use Rattle.bk_text.specs.CodeLine.{Skip}
@@ -29,18 +29,18 @@ abbrev pub with_refused : Listed → Listed
 with_refused s = record s { refused = s.refused + 1 }
 
 -- how a line is listed
-pub data ListsLine (s : Listed) (number : ℕ) (bytes : List ℕ) : List (List ℕ) → Bool → Listed → Type 0 where
+pub data ListsLine (s : Listed) (number : ℕ) (bytes : List ℕ) : Reply → Listed → Type 0 where
   -- a line without an item is passed over
-  skipped : HasItem bytes Skip → ListsLine s number bytes [] false s
+  skipped : HasItem bytes Skip → ListsLine s number bytes (record { pieces = []; refused = false }) s
   -- a line that `check` refuses is answered by its number and the cause
   refuses : (refused : Refused) → IsLineRefused bytes refused
-      → ListsLine s number bytes (refused_line number refused ∷ []) true (with_refused s)
+      → ListsLine s number bytes (record { pieces = refused_line number refused ∷ []; refused = true }) (with_refused s)
   -- one that it accepts is kept with the canonical tiling, as long as fewer than 16,384 are
   keeps : (t c : Tiling) → HasTiling bytes t → length s.items < MOST_ITEMS → IsCanonicalOf t c
-      → ListsLine s number bytes [] false (with_item s number c)
+      → ListsLine s number bytes (record { pieces = []; refused = false }) (with_item s number c)
   -- and refused where so many are
   no_more : (t : Tiling) → HasTiling bytes t → MOST_ITEMS ≤ length s.items
-      → ListsLine s number bytes (refused_line number More ∷ []) true (with_refused s)
+      → ListsLine s number bytes (record { pieces = refused_line number More ∷ []; refused = true }) (with_refused s)
 
 -- memory may be wanting at an accepted line alone, where fewer than 16,384 items are kept
 abbrev pub MayWantItem : Listed → ℕ → List ℕ → Type 0
@@ -49,7 +49,11 @@ MayWantItem s number bytes = (t : Tiling) × HasTiling bytes t × (length s.item
 -- lines to be listed: how, with no items and no refused lines, and from line 1 on
 abbrev pub listing_start : EnteringFrom Listed
 listing_start = record {
-  rules = record { enters = ListsLine; may_want = MayWantItem };
+  rules = record {
+    enters = λ s number bytes pieces refused next.
+        ListsLine s number bytes (record { pieces = pieces; refused = refused }) next;
+    may_want = MayWantItem;
+  };
   state = record { items = []; refused = 0 };
   number = 1;
 }

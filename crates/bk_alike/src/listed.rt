@@ -88,7 +88,8 @@ impl Register for ItemList {
     ghost use Rattle.bk_alike.specs.Listed.{ListsLine, MayWantItem};
     ghost use Rattle.std.specs.Prelude.{◌<◌};
 
-    ghost enters = { ListsLine };
+    ghost enters = { λ s number bytes pieces refused next.
+        ListsLine s number bytes (record { pieces = pieces; refused = refused }) next };
 
     ghost may_want = { MayWantItem };
 

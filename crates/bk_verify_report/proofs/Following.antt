@@ -20,7 +20,8 @@ use Rattle.bk_verify_report.specs.Verify.{Accepted}
 use Rattle.bk_verify_report.specs.VerifyLaws.{IsTrueOf, KeepsFirsts}
 use Rattle.bk_verify_report.specs.declared.entries.Fed.{Fed}
 use Rattle.bk_verify_report.specs.declared.entries.Fed.TheVariants.{Foreign, New, Repeats}
-use Rattle.bk_verify_report.specs.ListLine.{EntersLine, MayWantAt, after_fed, fed_pieces, feeds, no_item, refuses}
+use Rattle.bk_verify_report.specs.ListReading.{rules}
+use Rattle.bk_verify_report.specs.ListLine.{EntersLine, after_fed, fed_pieces, feeds, no_item, refuses}
 use Rattle.bk_verify_report.specs.Told.{AreEntries, AreTold, IsTold, Told, accepted, foreign, is_foreign, is_line_refused, is_repeat, no_line}
 use Rattle.bk_verify_report.specs.Told.{nothing, passed, refused, repeats, texts_from, told_text}
 use Rattle.bk_verify_report.specs.declared.entering.Verifying.{Verifying}
@@ -197,7 +198,7 @@ fed_text number Foreign = append-nil (told_text number foreign)
 -- one line that is entered, and the lines behind it
 one_line : (n : ℕ) (seen : List Accepted) (number : ℕ) (line : List ℕ) (lines : List (List ℕ)) (s : Verifying) (pieces : List (List ℕ))
     (is_line_refused : Bool) (next : Verifying) (text : List ℕ) (last : Verifying)
-    → IsAfter n seen number s → EntersLine s number (kept_front line) pieces is_line_refused next
+    → IsAfter n seen number s → EntersLine s number (kept_front line) (record { pieces = pieces; refused = is_line_refused }) next
     → ((now : List Accepted) → IsAfter n now (number + 1) next → AreFollowed n now (number + 1) lines next text last)
     → AreFollowed n seen number (line ∷ lines) s (concat pieces ++ text) last
 one_line n seen number line lines s _ _ _ text last after (no_item skip) rest =
@@ -216,7 +217,7 @@ one_line n seen number line lines s _ _ _ text last after (feeds t fed v has is)
 
 -- lines that were entered one after another
 pub followed : (n : ℕ) (seen : List Accepted) (number : ℕ) (lines : List (List ℕ)) (replies : List Reply) (s last : Verifying) → IsAfter n seen number s
-    → AreEntered (entering_from (record { enters = EntersLine; may_want = MayWantAt }) s number) lines replies last
+    → AreEntered (entering_from rules s number) lines replies last
     → AreFollowed n seen number lines s (text_of replies) last
 followed n seen number [] [] s last after e = subst (AreFollowed n seen number [] s []) (sym e) (record {
   entries = [];

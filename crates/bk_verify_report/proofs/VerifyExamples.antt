@@ -9,7 +9,7 @@ use Rattle.bk_tiling.proofs.TilingTest.{pairs_from_test, tiling_from_test}
 use Rattle.bk_simple.proofs.SimpleTest.{simple_from_test}
 use Rattle.bk_sym.proofs.CanonicalLaws.{a_canonical_tiling_is_one}
 use Rattle.bk_sym.specs.Canonical.{IsCanonical, IsCanonicalOf}
-use Rattle.bk_sym.specs.declared.Turn.TheVariants.{FlipX, FlipY, Half, Same, Swap, SwapFlipX, SwapFlipY, SwapHalf}
+use Rattle.bk_sym.specs.declared.Turn.TheVariants.{Same, Swap}
 use Rattle.bk_word.specs.declared.Class.TheVariants.{Perfect}
 use Rattle.bk_catalogue.specs.Catalogue.{IsMember}
 use Rattle.bk_verify_report.specs.KeptEntries.{IsFed, EntriesState}

@@ -3,7 +3,7 @@ use Rattle.std.proofs.Common.{[], arith, false, inl, lit≤, refl, ℕ, ◌+◌}
 use Rattle.bk_verify_report.specs.ListLine.{CountsAreBelow, EntersLine, no_item}
 use Rattle.bk_verify_report.specs.declared.entering.Verifying.{Verifying}
 
-pub empty_line : (s : Verifying) (n : ℕ) → EntersLine s n [] [] false s
+pub empty_line : (s : Verifying) (n : ℕ) → EntersLine s n [] (record { pieces = []; refused = false }) s
 empty_line s n = no_item (record { short = lit≤ tt; meaning = ([], [], refl, tt, inl refl); few = lit≤ tt })
 
 pub still_ready : (s : Verifying) (n : ℕ) → CountsAreBelow s n → CountsAreBelow s (n + 1)

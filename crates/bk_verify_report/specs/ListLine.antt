@@ -1,6 +1,7 @@
 -- How a line of a list is entered: what is written for it, and what is kept of it.
 -- Example (VerifyingExamples): an entry on line 2 whose member was first on line 1 is answered by `line 2 repeats 1`.
-use Rattle.std.specs.Prelude.{Bool, List, [], false, true, ℕ, ◌+◌, ◌<◌, ◌∷◌}
+use Rattle.std.specs.Prelude.{List, [], false, true, ℕ, ◌+◌, ◌<◌, ◌∷◌}
+use Rattle.bk_ports.specs.Reply.{Reply}
 use Rattle.bk_tiling.specs.Tiling.{Tiling}
 use Rattle.bk_text.specs.CodeLine.{Skip}
 use Rattle.bk_report.specs.ListLines.{foreign_line, refused_line, repeats_line}
@@ -29,15 +30,16 @@ after_fed s v (Repeats first) = record s { entries = v; repeated = s.repeated + 
 after_fed s v Foreign = record s { entries = v; foreign = s.foreign + 1 }
 
 -- a line of this number: the pieces that are written, each by one call, whether it is refused, and what is kept then
-pub data EntersLine (s : Verifying) (number : ℕ) (line : List ℕ) : List (List ℕ) → Bool → Verifying → Type 0 where
+pub data EntersLine (s : Verifying) (number : ℕ) (line : List ℕ) : Reply → Verifying → Type 0 where
   -- a line without an item is passed over
-  no_item : HasItem line Skip → EntersLine s number line [] false s
+  no_item : HasItem line Skip → EntersLine s number line (record { pieces = []; refused = false }) s
   -- a line that check refuses is refused
   refuses : (refused : Refused) → IsLineRefused line refused
-      → EntersLine s number line (refused_line number refused ∷ []) true (record s { refused = s.refused + 1 })
+      → EntersLine s number line (record { pieces = refused_line number refused ∷ []; refused = true })
+      (record s { refused = s.refused + 1 })
   -- the tiling of any other line is fed to the entries
   feeds : (t : Tiling) (fed : Fed) (v : EntriesState) → HasTiling line t → IsFed s.entries number t fed v
-      → EntersLine s number line (fed_pieces number fed) false (after_fed s v fed)
+      → EntersLine s number line (record { pieces = fed_pieces number fed; refused = false }) (after_fed s v fed)
 
 -- memory may be wanting at a line whose tiling stands for a member that isn't kept
 pub record MayWantAt (s : Verifying) (number : ℕ) (line : List ℕ) : Type 0 where

@@ -9,7 +9,11 @@ use Rattle.bk_verify_report.specs.declared.entering.Verifying.{Verifying}
 
 -- how lines are entered
 abbrev pub rules : Entering Verifying
-rules = record { enters = EntersLine; may_want = MayWantAt }
+rules = record {
+  enters = λ s number line pieces refused next.
+      EntersLine s number line (record { pieces = pieces; refused = refused }) next;
+  may_want = MayWantAt;
+}
 
 -- all lines were read and entered, from the start on, and this is kept of them
 pub record IsListRead (n : ℕ) (streams : Streams) (last : Verifying) : Type 0 where

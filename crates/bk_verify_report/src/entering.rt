@@ -68,7 +68,8 @@ impl VerifyRegister {
 impl Register for VerifyRegister {
     ghost use Rattle.bk_verify_report.specs.EmptyLine.{empty_line, still_ready};
 
-    ghost enters = { EntersLine };
+    ghost enters = { λ s number line pieces refused next.
+        EntersLine s number line (record { pieces = pieces; refused = refused }) next };
 
     ghost may_want = { MayWantAt };
 
@@ -111,10 +112,11 @@ fn feed<O: Sink>(
     requires ready { CountsAreBelow state.old number }
     requires has { HasTiling line.now tiling.now }
     ensures outcome { IfOk result
-        (λ o. HasOutcome (λ pieces refused. EntersLine state.old number line.now pieces refused state.new)
+        (λ o. HasOutcome (λ pieces refused. EntersLine state.old number line.now
+        (record { pieces = pieces; refused = refused }) state.new)
         (MayWantAt state.old number line.now) (O.written out.old) (O.written out.new) o) }
     ensures failed { OnErr result (IsAnswerBegun (λ pieces refused. (last : Verifying)
-        × EntersLine state.old number line.now pieces refused last)
+        × EntersLine state.old number line.now (record { pieces = pieces; refused = refused }) last)
         (O.written out.old) (O.written out.new)) }
     ensures cause { HasCause (O.faults out.old) (O.faults out.new) result }
     ensures ready { OnOk result (CountsAreBelow state.new (number + 1)) }

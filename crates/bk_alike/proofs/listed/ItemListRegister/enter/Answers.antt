@@ -35,7 +35,8 @@ pub returns-in-Err-Full-clause-outcome : goal.returns-in-Err-Full-clause-outcome
 returns-in-Err-Full-clause-outcome g c =
     let has : HasTiling c.args.line.now c.in-Ok-Some.tiling.now =
     subst (λ (o : Option (Bor Tiling)). IsLaidLine c.args.line.now (option_copied o)) c.in-Ok-Some.field-0-is c.in-Ok-Some.ensures.laid in
-    refused_outcome (λ pieces refused. ListsLine c.args.self.now c.args.number c.args.line.now pieces refused c.refuse.new.self)
+    refused_outcome (λ pieces refused.
+    ListsLine c.args.self.now c.args.number c.args.line.now (record { pieces = pieces; refused = refused }) c.refuse.new.self)
     (MayWantItem c.args.self.now c.args.number c.args.line.now) (refused_line c.args.number More)
     (g.O.Sink.written c.args.out.now) (g.O.Sink.written c.refuse.new.out) c.refuse.result
     (full_line c.args.self.now c.refuse.new.self c.args.number c.args.line.now c.in-Ok-Some.tiling.now has (full g c)
@@ -47,7 +48,7 @@ pub returns-in-Err-Full-clause-failed : goal.returns-in-Err-Full-clause-failed
 returns-in-Err-Full-clause-failed g c =
     let has : HasTiling c.args.line.now c.in-Ok-Some.tiling.now =
     subst (λ (o : Option (Bor Tiling)). IsLaidLine c.args.line.now (option_copied o)) c.in-Ok-Some.field-0-is c.in-Ok-Some.ensures.laid in
-    refused_begun (λ pieces refused. (s : Listed) × ListsLine c.args.self.now c.args.number c.args.line.now pieces refused s)
+    refused_begun (λ pieces refused. (s : Listed) × ListsLine c.args.self.now c.args.number c.args.line.now (record { pieces = pieces; refused = refused }) s)
     (refused_line c.args.number More)
     (g.O.Sink.written c.args.out.now) (g.O.Sink.written c.refuse.new.out) c.refuse.result (
       with_refused c.args.self.now,
@@ -57,7 +58,8 @@ returns-in-Err-Full-clause-failed g c =
 
 pub returns-in-Err-clause-outcome : goal.returns-in-Err-clause-outcome
 returns-in-Err-clause-outcome g c =
-    refused_outcome (λ pieces refused. ListsLine c.args.self.now c.args.number c.args.line.now pieces refused c.refuse-in-Err.new.self)
+    refused_outcome (λ pieces refused.
+    ListsLine c.args.self.now c.args.number c.args.line.now (record { pieces = pieces; refused = refused }) c.refuse-in-Err.new.self)
     (MayWantItem c.args.self.now c.args.number c.args.line.now) (refused_line c.args.number c.in-Err.refused)
     (g.O.Sink.written c.args.out.now) (g.O.Sink.written c.refuse-in-Err.new.out) c.refuse-in-Err.result
     (refused_entry c.args.self.now c.refuse-in-Err.new.self c.args.number c.args.line.now c.in-Err.refused c.in-Err.ensures.refused
@@ -66,7 +68,7 @@ returns-in-Err-clause-outcome g c =
 
 pub returns-in-Err-clause-failed : goal.returns-in-Err-clause-failed
 returns-in-Err-clause-failed g c =
-    refused_begun (λ pieces refused. (s : Listed) × ListsLine c.args.self.now c.args.number c.args.line.now pieces refused s)
+    refused_begun (λ pieces refused. (s : Listed) × ListsLine c.args.self.now c.args.number c.args.line.now (record { pieces = pieces; refused = refused }) s)
     (refused_line c.args.number c.in-Err.refused)
     (g.O.Sink.written c.args.out.now) (g.O.Sink.written c.refuse-in-Err.new.out) c.refuse-in-Err.result (
       with_refused c.args.self.now,

@@ -18,14 +18,16 @@ returns-in-Ok-None-clause-outcome g c =
     let skip = subst (λ (o : Option (Bor Tiling)). IsLaidLine c.args.line.now (option_copied o)) c.in-Ok-None.field-0-is c.in-Ok-None.ensures.laid in
     written_none c.args.self.now c.args.number c.args.line.now false c.self.inside.kept (g.O.Sink.written c.args.out.now)
     (g.O.Sink.written c.args.out.now)
-    (subst (λ (s : Verifying). EntersLine c.args.self.now c.args.number c.args.line.now [] false s) (sym c.self.view_is) (no_item skip)) refl
+    (subst (λ (s : Verifying). EntersLine c.args.self.now c.args.number c.args.line.now (record { pieces = []; refused = false }) s)
+    (sym c.self.view_is) (no_item skip)) refl
 
 pub returns-in_ok-write_all-in-Err-clause-outcome : goal.returns-in_ok-write_all-in-Err-clause-outcome
 returns-in_ok-write_all-in-Err-clause-outcome g c =
     written_one c.args.self.now c.args.number c.args.line.now true (record c.self.inside.kept { refused = c.self.inside.kept.refused + 1 })
     (g.O.Sink.written c.args.out.now) (g.O.Sink.written c.write_all.new.self) (refused_line c.args.number c.in-Err.refused) c.as_slice.result.now
     (c.as_slice.ensures.value ∙ c.write_line_refused.ensures)
-    (subst (λ (s : Verifying). EntersLine c.args.self.now c.args.number c.args.line.now (refused_line c.args.number c.in-Err.refused ∷ []) true
+    (subst (λ (s : Verifying). EntersLine c.args.self.now c.args.number c.args.line.now
+    (record { pieces = refused_line c.args.number c.in-Err.refused ∷ []; refused = true })
     (record s { refused = s.refused + 1 })) (sym c.self.view_is) (refuses c.in-Err.refused c.in-Err.ensures.refused))
     c.in_ok-write_all-in-Err.ensures.ok
 
@@ -58,15 +60,16 @@ returns-in-Ok-None-clause-ready g c =
 
 pub returns-in-Ok-Some-clause-outcome : goal.returns-in-Ok-Some-clause-outcome
 returns-in-Ok-Some-clause-outcome g c =
-    subst (λ (s : Verifying). IfOk c.feed.result (λ o. HasOutcome (λ pieces refused. EntersLine s c.args.number c.args.line.now pieces refused
+    subst (λ (s : Verifying). IfOk c.feed.result (λ o. HasOutcome (λ pieces refused. EntersLine s c.args.number c.args.line.now
+    (record { pieces = pieces; refused = refused })
     c.feed.new.state)
     (MayWantAt s c.args.number c.args.line.now) (g.O.Sink.written c.args.out.now) (g.O.Sink.written c.feed.new.out) o)) c.self.view_is
     c.feed.ensures.outcome
 
 pub returns-in-Ok-Some-clause-failed : goal.returns-in-Ok-Some-clause-failed
 returns-in-Ok-Some-clause-failed g c =
-    subst (λ (s : Verifying). OnErr c.feed.result (IsAnswerBegun (λ pieces refused. (last : Verifying) × EntersLine s c.args.number c.args.line.now pieces
-    refused last)
+    subst (λ (s : Verifying). OnErr c.feed.result (IsAnswerBegun (λ pieces refused. (last : Verifying) × EntersLine s c.args.number c.args.line.now
+    (record { pieces = pieces; refused = refused }) last)
     (g.O.Sink.written c.args.out.now) (g.O.Sink.written c.feed.new.out)))
     c.self.view_is c.feed.ensures.failed
 
