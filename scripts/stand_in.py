@@ -2,6 +2,7 @@
 links is a script that says what it was built from, with its words and its input."""
 import os
 import shutil
+import signal
 import subprocess
 import sys
 from dataclasses import dataclass
@@ -71,6 +72,11 @@ class rtlib:
 """
 
 
+def heed_interrupts():
+    """Lets ^C stop what is started, as at a terminal. What a shell starts in the background, as a gate may be, inherits that it is passed over."""
+    signal.signal(signal.SIGINT, signal.SIG_DFL)
+
+
 class Failed(Exception):
     """A case isn't as it must be."""
 
@@ -138,6 +144,7 @@ class Place:
         """Starts the launcher, as a leader of a group of its own."""
         given = {"PATH": self.path(*path), "TMPDIR": f"{self.room}/scratch", **env}
         how = {"stdin": subprocess.PIPE, "stdout": subprocess.PIPE, "stderr": subprocess.PIPE, "start_new_session": True}
+        how["preexec_fn"] = heed_interrupts
         return subprocess.Popen([*user, call or f"{self.top}/bouwkamp", *words], cwd=at or self.room, env=given, text=True, **how)
 
     def call(self, *words, **how):
