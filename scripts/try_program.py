@@ -3,8 +3,8 @@
 
 Each case gives the program its arguments and an input, and says the status, the text of the standard output and that of standard error. Tried are
 the statuses 0, 1, 2, 3, 4, 7 and 8, an empty argument, arguments that are no text, an input that can't be read, streams that are closed, outputs
-that can't be written, the longest input of empty lines, a small stack, and few seconds: the searches of a listing can't be counted from outside, but
-one for each member would take minutes.
+that can't be written, the longest input of empty lines, a small stack, and few seconds. And it counts, by the time, how many searches for members a
+listing makes.
 Prints a line for each case that differs and then how many were tried. The status is 1 if something differs.
 
     scripts/try_program.py [PROGRAM]
@@ -35,6 +35,8 @@ SMALL_STACK = 320 << 10
 # So many seconds of a processor are more than ten times what the greatest catalogue takes, and less than a tenth of what it would take if each member
 # were searched for anew, or if no table of members were kept.
 FEW_SECONDS = 5
+# The greatest catalogue takes hardly twice as long as one search for all members.
+MOST_SEARCHES = 10
 
 
 @dataclass
@@ -136,8 +138,27 @@ def within_limits(program):
     ]
 
 
+def processor_seconds(program, *arguments):
+    """Runs the program for a few seconds at most, and gives how many seconds of a processor that took."""
+    before = resource.getrusage(resource.RUSAGE_CHILDREN)
+    run_within(program, *arguments)
+    after = resource.getrusage(resource.RUSAGE_CHILDREN)
+    return after.ru_utime - before.ru_utime + after.ru_stime - before.ru_stime
+
+
+def searches(program):
+    """Returns as how many searches the greatest catalogue takes, beside what it may take. Its first entry takes one search for all members; with a
+    search for each member the catalogue would take thousands."""
+    one = min(processor_seconds(program, "list", "--order", "16", "--limit", "1") for _ in range(3))
+    many = processor_seconds(program, "list", "--order", "16") / one
+    few = f"as long as at most {MOST_SEARCHES} searches"
+    return [("the time of list --order 16", few, few if many <= MOST_SEARCHES else f"as long as {many:.0f} searches, or longer")]
+
+
 def short(said):
-    """Returns a status and two texts with no more of a long text than its beginning."""
+    """Returns what was said, or a status and two texts, with no more of a long text than its beginning."""
+    if isinstance(said, str):
+        return said
     return tuple(it if isinstance(it, int) or len(it) <= WIDEST else f"{it[:WIDEST]}.. ({len(it)} bytes)" for it in said)
 
 
@@ -149,6 +170,7 @@ def main():
     tried.append(("as many line feeds as are taken", (0, "", ""), run_on_line_feeds(program, MOST_BYTES)))
     tried.append(("one byte more", (7, "", ""), run_on_line_feeds(program, MOST_BYTES + 1)))
     tried += within_limits(program)
+    tried += searches(program)
     different = [(name, wanted, found) for name, wanted, found in tried if wanted != found]
     for name, wanted, found in different:
         print(f"{name}: wanted {short(wanted)}, found {short(found)}")
