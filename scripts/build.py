@@ -6,7 +6,7 @@ Contents decide what is done, and not times: the program and each library have a
 is not made again. If the program is right already, nothing is said, written or locked, and no toolchain is needed.
 
 Each crate is proved by the prover's own command, over the libraries of the crates below, and those with the longest chains of crates above them go
-first. One process proves a crate, or more if processors would have nothing to do else. What is proved stays as a library in the crate's folder
+first. One process proves a crate: several are sooner done, but are a sixth more work or more. What is proved stays as a library in the crate's folder
 out/rlib/, so a build that was stopped goes on where it was. Beside the libraries lie the sums of `rt` too: so `rt check` takes those of a build, and
 a build takes those of `rt check`. A library of a build has statements only, and is made anew if one below it is another than it was proved over. A
 crate is proved from nothing, whatever a check kept of it (out/incremental/): the prover doesn't take that for a library of statements only. The
@@ -15,9 +15,8 @@ says which crates are being proved, how many are done and how long it has taken.
 
 The status is 0 if the program is in crates/bk_main/out/bk_main, made from what is there now. A build that a signal stops ends by that signal.
 
-With --for CRATE only the crates below that one are proved, so that `rt check` there begins with it at once; no program is built. With --measure one
-process proves each crate, and if all are proved in this run scripts/seconds.txt gets the seconds that each took; by these the next builds know which
-crates have long chains above.
+With --for CRATE only the crates below that one are proved, so that `rt check` there begins with it at once; no program is built. With --measure, if
+all are proved in this run, scripts/seconds.txt gets the seconds that each took; by these the next builds know which crates have long chains above.
 
     scripts/build.py [--jobs N] [--for CRATE | --measure]
 """
@@ -82,44 +81,28 @@ class Progress:
                 self.tell(self.so_far())
 
 
-def processes(free, ready):
-    """Returns by how many processes the next crate is proved, if so many processors are free and so many crates are ready: by one, and more only if else
-    processors had nothing to do, since several make it a third more work."""
-    return max(1, free - ready + 1)
-
-
-def waits_for_all(crate, ready, waiting):
-    """Returns whether nothing else can begin before this crate is done, but for those that are ready with it."""
-    return all(it in ready or crate in it.below for it in waiting)
-
-
-def prove(crates, toolchain, jobs, by_one, log, progress):
+def prove(crates, toolchain, jobs, log, progress):
     """Proves those of these crates that aren't proved yet, on so many processors, each after those below it, and first those with the longest chains
-    above; if that is asked, each by one process. Returns whether all passed."""
-    proved, running, free = {it for it in crates if it.is_proved(toolchain)}, {}, jobs
+    above. Returns whether all passed."""
+    proved, running = {it for it in crates if it.is_proved(toolchain)}, {}
     waiting = sorted(proved.symmetric_difference(crates), key=lambda it: -it.chain)
     progress.done = len(proved)
     # (nobody waits for its threads when a signal stops the build)
     pool = ThreadPoolExecutor(jobs)  # pylint: disable=consider-using-with
     while True:
         ready = [it for it in waiting if proved.issuperset(it.named)]
-        for place, it in enumerate(ready[: max(0, free)]):
-            # What still runs then is done soon, and leaves its processors to the crate that all others wait for.
-            is_last = place == 0 and waits_for_all(it, ready, waiting)
-            many = 1 if by_one else processes(jobs if is_last else free, len(ready) - place)
-            running[pool.submit(it.prove, toolchain, many)] = it, many
+        for it in ready[: jobs - len(running)]:
+            running[pool.submit(it.prove, toolchain)] = it
             waiting.remove(it)
-            free -= many
         if not running:
             return not waiting and len(proved) == len(crates)
-        progress.at_work = sorted(it.name for it, _ in running.values())
+        progress.at_work = sorted(it.name for it in running.values())
         for it in wait(running, return_when=FIRST_COMPLETED).done:
-            (crate, many), (is_proved, text) = running.pop(it), it.result()
-            free += many
+            crate, (is_proved, text) = running.pop(it), it.result()
             log.write(f"== {crate.name}\n{text}")
             log.flush()
             proved |= {crate} if is_proved else set()
-            progress.at_work = sorted(other.name for other, _ in running.values())
+            progress.at_work = sorted(other.name for other in running.values())
             progress.is_done(crate.name, is_proved)
 
 
@@ -127,7 +110,7 @@ def keep_seconds(crates):
     """Writes the seconds that the proof of each crate took, if all were proved in this run."""
     if all(it.seconds for it in crates):
         with open(SECONDS, "w", encoding="utf-8") as file:
-            file.write("# How many seconds the proof of each crate took by one process, in a build by `scripts/build.py --measure`.\n")
+            file.write("# How many seconds the proof of each crate took, in a build by `scripts/build.py --measure`.\n")
             file.writelines(f"{it.name} {it.seconds:.0f}\n" for it in crates)
 
 
@@ -138,7 +121,7 @@ def prove_and_build(crates, top, toolchain, jobs, asked, log):
     what = f"proving the crates below {top.name}" if asked.crate else "proving and building the program"
     minutes = max(1, round(left / LINES_A_SECOND / 60 / jobs))
     progress.tell(f"{what}, {len(crates)} crates on {jobs} processor{'s' * (jobs > 1)}: about {minutes} minute{'s' * (minutes > 1)}")
-    if not prove(crates, toolchain, jobs, asked.measure, log, progress):
+    if not prove(crates, toolchain, jobs, log, progress):
         progress.tell(f"not all crates are proved; what the checks printed is in {LOG}")
         return False
     if asked.measure:
@@ -147,7 +130,7 @@ def prove_and_build(crates, top, toolchain, jobs, asked, log):
         progress.tell(f"all crates below {top.name} are proved ({progress.so_far()})")
         return True
     progress.tell(f"all crates are proved, now the program is built ({progress.so_far()})")
-    if not build(top, toolchain, jobs, log):
+    if not build(top, toolchain, log):
         progress.tell(f"the build failed; what it printed is in {LOG}")
         return False
     progress.ended.set()

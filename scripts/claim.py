@@ -17,7 +17,7 @@ from sources import TOP, files_of, named_by_crate, text_of
 PAGE = "docs/CLAIM.md"
 BEGIN, END = "<!-- claim: begin -->\n", "<!-- claim: end -->\n"
 # The parts of the page, with what each of them is about. A definition is shown once, in the first part that needs it.
-PARTS = (("What `check` answers", "bk_answer.Checked.IsChecked"), ("What `list` writes", "bk_top.Running.Lists"))
+PARTS = (("Which lines `check` accepts", "bk_answer.Checked.IsChecked"), ("What `list` writes", "bk_top.Running.Lists"))
 HEAD = re.compile(r"^(?:abbrev pub|pub record|pub data|pub abbrev)\s+([^\s:({]+)", re.MULTILINE)
 USE = re.compile(r"^use\s+([\w.◌]+)\.\{([^}]*)\}", re.MULTILINE)
 WORD = re.compile(r"[^\W\d]['\w]*|[^\s\w(){}\[\];,.:\"'`]+")
@@ -46,7 +46,8 @@ class Declared:
 
     def __init__(self, crate, name):
         self.names, self.head = {}, ""
-        body = rf"pub (?:struct|enum) {name} \{{\n(?:.*\n)*?\}}|(?:pub(?:\(crate\))? )?const {name}: .*;"
+        is_seen = r"(?:pub(?:\(crate\))? )?"
+        body = rf"{is_seen}(?:struct|enum) {name}(?:<.*>)?(?:;| \{{\n(?:.*\n)*?\}})|{is_seen}const {name}: .*;"
         for self.path in files_of(crate, "src", ".rt"):
             found = re.search(rf"(?:^//.*\n)*(?:^#.*\n)*^(?:{body})", text_of(self.path), re.MULTILINE)
             if found:

@@ -31,7 +31,9 @@ def module_of(path):
 def modules_of(crate):
     """Proves the crate. Returns its modules with the seconds that each took, from one file to the next."""
     folder = f"{TOP}/crates/{crate}"
+    # (a folder that isn't there would be filled with what other checkouts keep on this machine)
     shutil.rmtree(f"{folder}/out/incremental", ignore_errors=True)
+    os.makedirs(f"{folder}/out/incremental")
     subprocess.run(["rt", "check", "--jobs", "1"], cwd=folder, stdin=subprocess.DEVNULL, check=True)
     files, found = files_in(f"{folder}/out/incremental"), Counter()
     for (before, _), (after, path) in zip(files, files[1:]):

@@ -64,8 +64,8 @@ class Toolchain:
         """Returns where a library of the toolchain lies."""
         return f"{self.folder}/rlibs/{name}.rlib"
 
-    def build(self, crate, jobs, *words):
-        """Returns the command that proves a crate by so many processes and then makes what the words say."""
+    def build(self, crate, *words):
+        """Returns the command that proves a crate by one process and then makes what the words say."""
         own = [f"--extern={it.name}={it.library}" for it in crate.named]
         given = [f"--extern={it}={self.library(it)}" for it in ("std", *crate.of_toolchain)]
         folders = [f"{self.folder}/rlibs", *(os.path.dirname(it.library) for it in crate.below)]
@@ -73,7 +73,7 @@ class Toolchain:
             *(f"{self.folder}/bin/rattle", "build", "--crate-name", crate.name, crate.root, *given, *own),
             *(f"-Ldependency={it}" for it in folders),
             *("--antt-project", f"{self.folder}/rattle/logic/antt-project.json", "--logic-built", f"{self.folder}/logic_built"),
-            *("--jobs", str(jobs), "--links", f"{crate.name}=", *words),
+            *("--jobs", "1", "--links", f"{crate.name}=", *words),
         ]
 
     def link(self, made, program):
@@ -120,15 +120,15 @@ class Crate:
         made_from, stamp = bytes_of(self.kept("made_from")), bytes_of(self.kept("stamp"))
         return made_from == self.made_from() if made_from else bool(stamp) and stamp == toolchain.stamp(self)
 
-    def prove(self, toolchain, jobs):
-        """Proves the crate over the libraries below it, by so many processes. Returns whether it is proved, and what was printed."""
+    def prove(self, toolchain):
+        """Proves the crate over the libraries below it. Returns whether it is proved, and what was printed."""
         with at_work(self):
             if self.is_proved(toolchain):
                 return True, ""
             shutil.rmtree(os.path.dirname(self.library), ignore_errors=True)
             os.makedirs(os.path.dirname(self.library))
             stamp, began = toolchain.stamp(self), time.monotonic()
-            passed, text = COMMANDS.run(toolchain.build(self, jobs, "--statements", "-o", self.library), self.folder)
+            passed, text = COMMANDS.run(toolchain.build(self, "--statements", "-o", self.library), self.folder)
             self.seconds = time.monotonic() - began
             if not passed or self.was_changed(toolchain):
                 return False, text + CHANGED * passed
@@ -178,12 +178,12 @@ def is_right():
     return is_built(read_crates(Toolchain())[-1])
 
 
-def build(program, toolchain, jobs, log):
-    """Proves the program by so many processes, builds and links it, and puts it in the place of the one before. Returns whether that was done."""
+def build(program, toolchain, log):
+    """Proves the program, builds and links it, and puts it in the place of the one before. Returns whether that was done."""
     made, new = f"{PROGRAM}.o", f"{PROGRAM}.new"
     with at_work(program):
         for command in (
-            toolchain.build(program, jobs, "--toolchain", f"{toolchain.folder}/toolchain", "-o", made),
+            toolchain.build(program, "--toolchain", f"{toolchain.folder}/toolchain", "-o", made),
             toolchain.link(made, new),
         ):
             passed, text = COMMANDS.run(command, program.folder)

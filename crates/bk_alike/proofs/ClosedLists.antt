@@ -8,12 +8,12 @@ use Rattle.bk_ports.specs.Causes.{HasCause, Rose}
 use Rattle.bk_ports.specs.declared.Failed.{Failed}
 use Rattle.bk_ports.proofs.OtherOutputs.{IsStop, stops_as, whole_behind}
 use Rattle.bk_ports.specs.Ending.{EndsWith, HasVerdict, IsReadWhole, Streams}
-use Rattle.bk_ports.specs.Entering.{AreAllEntered, entries_of}
+use Rattle.bk_ports.specs.Entering.{AreAllEntered, entering_from, entries_of}
 use Rattle.bk_ports.specs.Faults.{CountsTell, Faults}
 use Rattle.bk_ports.specs.Reply.{text_of}
 use Rattle.bk_ports.specs.declared.Ended.{Ended}
 use Rattle.bk_ports.specs.declared.Ended.TheVariants.{NoMemory, NoneRefused, ReadFailed, SomeRefused, TooMany, WriteFailed}
-use Rattle.bk_alike.specs.GroupsEnd.{IsListText, closing_lines, listing_of}
+use Rattle.bk_alike.specs.GroupsEnd.{IsListText, closing_lines, list_output}
 use Rattle.bk_alike.specs.Listed.{Listed, listing_start}
 use Rattle.bk_alike.specs.declared.Wanted.{Wanted}
 use Rattle.bk_alike.specs.WrittenLines.{WritesLines}
@@ -33,11 +33,16 @@ pub verdict_told : (ended : Ended) → (ended ≡ NoneRefused) ⊎ (ended ≡ So
 verdict_told ended (inl e) = subst IsVerdict (sym e) tt
 verdict_told ended (inr e) = subst IsVerdict (sym e) tt
 
+-- what was entered into a list without items or refused lines yet was entered from the start
+pub from_start : (s last : Listed) (streams : Streams) (ended : Ended) → s ≡ listing_start.state
+    → EndsWith (entries_of (entering_from listing_start.rules s 1) last) streams ended → EndsWith (entries_of listing_start last) streams ended
+from_start s last streams ended = subst (λ (t : Listed). EndsWith (entries_of (entering_from listing_start.rules t 1) last) streams ended)
+
 -- a run that stops at its lines
 pub stops_listing : (wanted : Wanted) (last : Listed) (streams : Streams) (ended : Ended) → IsStop ended
-    → EndsWith (entries_of listing_start last) streams ended → EndsWith (listing_of wanted) streams ended
+    → EndsWith (entries_of listing_start last) streams ended → EndsWith (list_output wanted) streams ended
 stops_listing wanted last =
-    stops_as (entries_of listing_start last) (listing_of wanted)
+    stops_as (entries_of listing_start last) (list_output wanted)
     (record {
       lines = λ lines refused a b all. record { replies = all.replies; each = (last, all.each); written = all.written; any = all.any };
       begun = λ lines a b begun. begun;
@@ -52,7 +57,7 @@ module _ (wanted : Wanted) (last : Listed) (left left_after a b c : Option (List
   list_text refused lines h = record { replies = h.replies; last = last; each = h.each; any = h.any; text_is = refl }
 
   listed : (refused : Bool) (lines : List (List ℕ)) → (r : Result (Unit {0}) Failed) → WritesLines (closing_lines wanted last) b c r → r ≡ Ok tt
-      → AreAllEntered listing_start last lines refused a b → (listing_of wanted).whole lines refused a c
+      → AreAllEntered listing_start last lines refused a b → (list_output wanted).whole lines refused a c
   listed refused lines (Ok x) w e h = (
     text_of h.replies ++ concat (closing_lines wanted last),
     list_text refused lines h,
@@ -62,7 +67,7 @@ module _ (wanted : Wanted) (last : Listed) (left left_after a b c : Option (List
   listed refused lines (Err f) w e h = absurd (cc)
 
   broken : (refused : Bool) (lines : List (List ℕ)) → (r : Result (Unit {0}) Failed) → WritesLines (closing_lines wanted last) b c r → (f : Failed)
-      → r ≡ Err f → AreAllEntered listing_start last lines refused a b → (listing_of wanted).begun_behind lines a c
+      → r ≡ Err f → AreAllEntered listing_start last lines refused a b → (list_output wanted).begun_behind lines a c
   broken refused lines (Ok x) w f e h = absurd (cc)
   broken refused lines (Err g) w f e h = (
     refused,
@@ -73,22 +78,22 @@ module _ (wanted : Wanted) (last : Listed) (left left_after a b c : Option (List
 
   listed_behind : (refused : Bool) → (r : Result (Unit {0}) Failed) → WritesLines (closing_lines wanted last) b c r → r ≡ Ok tt
       → IsReadWhole (λ lines. AreAllEntered listing_start last lines refused) (streams_of left left_after a b)
-      → IsReadWhole (λ lines. (listing_of wanted).whole lines refused) (streams_of left left_after a c)
+      → IsReadWhole (λ lines. (list_output wanted).whole lines refused) (streams_of left left_after a c)
   listed_behind refused r w e all =
-      whole_behind (λ lines. AreAllEntered listing_start last lines refused) (λ lines. (listing_of wanted).whole lines refused)
+      whole_behind (λ lines. AreAllEntered listing_start last lines refused) (λ lines. (list_output wanted).whole lines refused)
       left left_after a b c all (λ lines. listed refused lines r w e)
 
   closing_broken : (refused : Bool) → (r : Result (Unit {0}) Failed) → WritesLines (closing_lines wanted last) b c r → (f : Failed) → r ≡ Err f
       → IsReadWhole (λ lines. AreAllEntered listing_start last lines refused) (streams_of left left_after a b)
-      → IsReadWhole (listing_of wanted).begun_behind (streams_of left left_after a c)
+      → IsReadWhole (list_output wanted).begun_behind (streams_of left left_after a c)
   closing_broken refused r w f e all =
-      whole_behind (λ lines. AreAllEntered listing_start last lines refused) (listing_of wanted).begun_behind left left_after a b c all
+      whole_behind (λ lines. AreAllEntered listing_start last lines refused) (list_output wanted).begun_behind left left_after a b c all
       (λ lines. broken refused lines r w f e)
 
   -- where all lines are entered, and what is wanted was written or not
   pub closes_well : (ended : Ended) → EndsWith (entries_of listing_start last) (streams_of left left_after a b) ended → IsVerdict ended
       → (r : Result (Unit {0}) Failed) → WritesLines (closing_lines wanted last) b c r → r ≡ Ok tt
-      → EndsWith (listing_of wanted) (streams_of left left_after a c) ended
+      → EndsWith (list_output wanted) (streams_of left left_after a c) ended
   closes_well NoneRefused h v r w e = listed_behind false r w e h
   closes_well SomeRefused h v r w e = listed_behind true r w e h
   closes_well ReadFailed h v r w e = absurd v
@@ -99,7 +104,7 @@ module _ (wanted : Wanted) (last : Listed) (left left_after a b c : Option (List
   -- a listing with a verdict whose closing lines can't be written ends with a failed write
   pub closes_broken : (ended : Ended) → EndsWith (entries_of listing_start last) (streams_of left left_after a b) ended → IsVerdict ended
       → (r : Result (Unit {0}) Failed) → WritesLines (closing_lines wanted last) b c r → (f : Failed) → r ≡ Err f
-      → EndsWith (listing_of wanted) (streams_of left left_after a c) WriteFailed
+      → EndsWith (list_output wanted) (streams_of left left_after a c) WriteFailed
   closes_broken NoneRefused h v r w f e = inr (closing_broken false r w f e h)
   closes_broken SomeRefused h v r w f e = inr (closing_broken true r w f e h)
   closes_broken ReadFailed h v r w f e = absurd v

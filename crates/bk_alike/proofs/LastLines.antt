@@ -1,6 +1,7 @@
 -- The lines of the groups or of the pairs, and the last line behind them.
 use Rattle.std.specs.List.{concat, flat_map}
-use Rattle.std.specs.Prelude.{Err, OnErr, OnOk, Result}
+use Rattle.std.specs.Result.{IsErrAnd}
+use Rattle.std.specs.Prelude.{OnErr, OnOk, Result}
 use Rattle.std.specs.Io.KnownBytes.{Appends}
 use Rattle.std.proofs.Common.{List, [], Option, ap, length, subst, ℕ, ◌∙◌, ◌∷◌, ◌≡◌}
 use Rattle.bk_ports.specs.Causes.{AppendsPrefix}
@@ -18,10 +19,11 @@ use Rattle.bk_alike.proofs.ListLoops.{ends_broken}
 use Rattle.bk_alike.proofs.GroupMembers.{length-groups}
 
 -- a write failed at the groups
-pub groups_broken : {T E : Type 0} (s : Listed) (items : List KeptItem) (a c : Option (List ℕ)) (r : Result T E) (f : E) → items ≡ s.items → r ≡ Err f
+pub groups_broken : {T E : Type 0} (Q : E → Type 0) (s : Listed) (items : List KeptItem) (a c : Option (List ℕ)) (r : Result T E) → IsErrAnd r Q
+    → items ≡ s.items
     → AppendsPrefix a c (concat (flat_map (group_lines items) (sizes items))) → WritesLines (closing_lines Groups s) a c r
-groups_broken s items a c r f e is h =
-    ends_broken (closing_lines Groups s) a c r f is
+groups_broken Q s items a c r is e h =
+    ends_broken _ (closing_lines Groups s) a c r is
     (broken_before (flat_map (group_lines s.items) (sizes s.items)) (alike_line (length (sizes s.items)) (length s.items) s.refused ∷ []) a c
     (subst (λ (l : List KeptItem). AppendsPrefix a c (concat (flat_map (group_lines l) (sizes l)))) e h))
 
@@ -39,10 +41,11 @@ groups_closed s items groups many refused piece a b c r e first g m t p ok err =
     (p ∙ (λ i. alike_line (g' i) (m' i) (t i))) ok err
 
 -- a write failed at the pairs
-pub pairs_cut : {T E : Type 0} (kind : Kind) (s : Listed) (items : List KeptItem) (a c : Option (List ℕ)) (r : Result T E) (f : E) → items ≡ s.items → r ≡ Err f
+pub pairs_cut : {T E : Type 0} (Q : E → Type 0) (kind : Kind) (s : Listed) (items : List KeptItem) (a c : Option (List ℕ)) (r : Result T E) → IsErrAnd r Q
+    → items ≡ s.items
     → AppendsPrefix a c (concat (all_pairs kind items)) → WritesLines (closing_lines (Pairs kind) s) a c r
-pairs_cut kind s items a c r f e is h =
-    ends_broken (closing_lines (Pairs kind) s) a c r f is
+pairs_cut Q kind s items a c r is e h =
+    ends_broken _ (closing_lines (Pairs kind) s) a c r is
     (broken_before (all_pairs kind s.items) (pairs_line (length (all_pairs kind s.items)) (length s.items) s.refused ∷ []) a c
     (subst (λ (l : List KeptItem). AppendsPrefix a c (concat (all_pairs kind l))) e h))
 

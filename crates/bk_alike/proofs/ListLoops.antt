@@ -2,6 +2,7 @@
 use Rattle.std.specs.List.{concat, flat_map}
 use Rattle.std.specs.Prelude.{Err, Ok, Result, Some, drop, slice_get}
 use Rattle.std.specs.Option.{option_map_or}
+use Rattle.std.specs.Result.{IsErrAnd}
 use Rattle.std.specs.Io.KnownBytes.{Appends}
 use Rattle.std.proofs.Common.{List, [], Option, ap, arith, get_or, length, refl, subst, sym, ℕ, ◌++◌, ◌+◌, ◌<◌, ◌∙◌, ◌∷◌, ◌≡◌}
 use Rattle.std.proofs.lemmas.List.{length-append}
@@ -19,9 +20,10 @@ use Rattle.bk_alike.proofs.PairLines.{IsItemAt}
 use Rattle.bk_alike.proofs.WrittenLines.{IsWrittenTo, item_at, one_broken, prefix_more, written_broken, written_more}
 
 -- lines of which a beginning was written where a call failed
-pub ends_broken : {T E : Type 0} (lines : List (List ℕ)) (a b : Option (List ℕ)) (r : Result T E) (f : E) → r ≡ Err f
+pub ends_broken : {T E : Type 0} (Q : E → Type 0) (lines : List (List ℕ)) (a b : Option (List ℕ)) (r : Result T E) → IsErrAnd r Q
     → AppendsPrefix a b (concat lines) → WritesLines lines a b r
-ends_broken {T} {E} lines a b r f e h = subst (λ (q : Result T E). WritesLines lines a b q) (sym e) h
+ends_broken Q lines a b (Ok x) e h = absurd e
+ends_broken Q lines a b (Err f) e h = h
 
 -- ---- the lines of each element
 

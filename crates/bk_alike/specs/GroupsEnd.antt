@@ -41,8 +41,8 @@ pub record IsListText (wanted : Wanted) (lines : List (List ℕ)) (refused : Boo
   pub text_is : text ≡ text_of replies ++ concat (closing_lines wanted last)
 
 -- what a run writes that lists lines
-abbrev pub listing_of : Wanted → Output
-listing_of wanted = record {
+abbrev pub list_output : Wanted → Output
+list_output wanted = record {
   lines = AreAnswered (CanBeEntered listing_start);
   whole = λ lines refused before after. (text : List ℕ) × IsListText wanted lines refused text
       × Appends before after text;

@@ -11,19 +11,19 @@ ghost use Rattle.bk_alike.specs.Grouped.{with_place};
 ghost use Rattle.indexmap.specs.IndexMap.{keys, values};
 
 mod closing;
-mod command;
 mod item;
 mod laws;
+mod list_run;
 mod listed;
 mod pairs;
 
 use bk_pair::{KeptTiling, Kind};
 use bk_sym::canonical;
 use bk_tiling::Tiling;
-pub use command::list_lines;
 use indexmap::IndexMap;
 pub use item::KeptItem;
 pub use laws::lines_have_one_listing;
+pub use list_run::list_lines;
 use std::alloc::{AllocError, Global};
 use std::marker::Model;
 

@@ -1,3 +1,4 @@
+pub mod Failing
 pub mod TilingsLaid
 pub mod OneNetAnswer
 pub mod OneItem

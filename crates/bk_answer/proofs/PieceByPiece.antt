@@ -1,12 +1,12 @@
 -- Pieces that are written one after another.
 use Rattle.std.specs.List.{concat}
-use Rattle.std.proofs.Common.{Err, List, Option, [], ap, arith, drop, get_or, length, min, subst, sym, take, ℕ, ◌+◌, ◌++◌, ◌<◌, ◌∙◌, ◌∷◌, ◌≡◌, ◌≤◌}
+use Rattle.std.proofs.Common.{List, Option, [], ap, arith, drop, get_or, length, min, subst, sym, take, ℕ, ◌+◌, ◌++◌, ◌<◌, ◌∙◌, ◌∷◌, ◌≡◌, ◌≤◌}
 use Rattle.std.specs.Io.KnownBytes.{Appends}
 use Rattle.std.proofs.lemmas.List.{append-nil, append_assoc, take-append-drop, take-append-le, take_all, take_min, take_more}
 use Rattle.std.proofs.lemmas.List.Folds.{concat-append}
 use Rattle.std.proofs.Math.Seq.{take-append-add}
 use Rattle.bk_laws.proofs.Bytes.{appends-then}
-use Rattle.bk_ports.specs.Causes.{AppendsPrefix, HasCause, Rose}
+use Rattle.bk_ports.specs.Causes.{AppendsPrefix}
 
 -- the first k pieces are written
 abbrev pub AreWritten : List (List ℕ) → ℕ → Option (List ℕ) → Option (List ℕ) → Type 0
@@ -43,12 +43,3 @@ module _ (pieces : List (List ℕ)) (k : ℕ) (piece : List ℕ) (a b c : Option
 -- all are written
 pub written_all : (pieces : List (List ℕ)) (k : ℕ) (a b : Option (List ℕ)) → length pieces ≤ k → AreWritten pieces k a b → Appends a b (concat pieces)
 written_all pieces k a b all done = subst (λ (l : List (List ℕ)). Appends a b (concat l)) (take_all k pieces all) done
-
--- a write that fails after writes that did not is the cause of the fault
-pub failed_later : {T E : Type 0} (before between now : ℕ) (x y : E) → between ≡ before → HasCause {T = T} {E = E} between now (Err x)
-    → HasCause {T = T} {E = E} before now (Err y)
-failed_later before between now x y e cause = record {
-  later = subst (λ (n : ℕ). n ≤ now) e cause.later;
-  ok = tt;
-  failed = subst (λ (n : ℕ). Rose n now) e cause.failed;
-}

@@ -19,8 +19,8 @@ use Rattle.bk_answer.specs.declared.plain.PlainCommand.TheVariants.{Check}
 abbrev pub Accepts : List (List ℕ) → Type 0
 Accepts pieces = (rest : List ℕ) × (concat pieces ≡ ok_word ++ rest)
 
--- `check` answers a line by these pieces: they begin with `ok` exactly where the squares of the line tile the stated
--- rectangle in code order
+-- `check` answers a line by these pieces: they begin with `ok` exactly where the line isn't too long, has at most 200
+-- sides, and some tiling has its code, or its width and flat list, and the order and the size that it states
 pub record IsChecked (bytes : List ℕ) (pieces : List (List ℕ)) : Type 0 where
   -- any line: it is not too long, and some tiling has what its item states
   pub any_line : Accepts pieces ↔ (t : Tiling) × HasTiling bytes t

@@ -41,7 +41,8 @@ IsLaidBy Skip t = ⊥
 IsLaidBy (Item order size code) t = HasCode code t
 IsLaidBy (Flat order width height sides) t = HasFlat width sides t
 
--- the tiling is the one that the item speaks of: its squares tile the stated rectangle in code order
+-- the tiling is the one that the item speaks of: it has the code, or the width and the flat list, and the order and the
+-- size that are stated
 pub record IsStatedBy (item : Line) (t : Tiling) : Type 0 where
   pub laid : IsLaidBy item t
   pub order_is : AllowsOrder item (order t)

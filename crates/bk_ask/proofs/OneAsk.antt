@@ -15,26 +15,26 @@ use Rattle.bk_ask.proofs.OptionLaws.{given_once, given_or_once, may_have_once}
 use Rattle.bk_ask.proofs.ValueLaws.{one_class, one_cursor, one_kind, one_number}
 
 -- the commands counted: those that stand alone come first
-abbrev pub place : Ask → ℕ
-place asks.Check = 0
-place asks.Canon = 1
-place asks.Images = 2
-place asks.Net = 3
-place asks.Flow = 4
-place asks.Word = 5
-place asks.Solve = 6
-place asks.Draw = 7
-place asks.Dual = 8
-place asks.Alike = 9
-place asks.Help = 10
-place (asks.List order class from limit) = 11
-place (asks.Trial seed count) = 12
-place (asks.Verify order) = 13
-place (asks.Pair kind) = 14
+abbrev pub ask_place : Ask → ℕ
+ask_place asks.Check = 0
+ask_place asks.Canon = 1
+ask_place asks.Images = 2
+ask_place asks.Net = 3
+ask_place asks.Flow = 4
+ask_place asks.Word = 5
+ask_place asks.Solve = 6
+ask_place asks.Draw = 7
+ask_place asks.Dual = 8
+ask_place asks.Alike = 9
+ask_place asks.Help = 10
+ask_place (asks.List order class from limit) = 11
+ask_place (asks.Trial seed count) = 12
+ask_place (asks.Verify order) = 13
+ask_place (asks.Pair kind) = 14
 
 -- a number that tells a name: the sum of its bytes, the first one twice
-abbrev pub mark : List ℕ → ℕ
-mark name = slice_index name 0 + sum name
+abbrev pub name_mark : List ℕ → ℕ
+name_mark name = slice_index name 0 + sum name
 
 -- the place of a command, by the mark of its name
 abbrev pub place_by_mark : ℕ → ℕ
@@ -45,12 +45,12 @@ place_by_mark n =
     cond (nat_eq n 656) 12 (cond (nat_eq n 779) 13 14)))))))))))))
 
 -- the name of a command tells which command it is
-pub place_of_name : (a : Ask) → place a ≡ place_by_mark (mark (command_name a))
+pub place_of_name : (a : Ask) → ask_place a ≡ place_by_mark (name_mark (command_name a))
 place_of_name asks.Check = refl
 place_of_name _ = refl
 
-same_place : (a b : Ask) → command_name a ≡ command_name b → place a ≡ place b
-same_place a b same = place_of_name a ∙ ap (λ (name : List ℕ). place_by_mark (mark name)) same ∙ sym (place_of_name b)
+same_place : (a b : Ask) → command_name a ≡ command_name b → ask_place a ≡ ask_place b
+same_place a b same = place_of_name a ∙ ap (λ (name : List ℕ). place_by_mark (name_mark name)) same ∙ sym (place_of_name b)
 
 -- the command that stands alone at a place
 abbrev alone_at : ℕ → Ask
@@ -59,7 +59,7 @@ alone_at n =
     cond (nat_eq n 3) asks.Net (cond (nat_eq n 4) asks.Flow (cond (nat_eq n 5) asks.Word (cond (nat_eq n 6) asks.Solve (
     cond (nat_eq n 7) asks.Draw (cond (nat_eq n 8) asks.Dual (cond (nat_eq n 9) asks.Alike asks.Help)))))))))
 
-alone : (a : Ask) → place a < 11 → a ≡ alone_at (place a)
+alone : (a : Ask) → ask_place a < 11 → a ≡ alone_at (ask_place a)
 alone (asks.List order class from limit) few = absurd (omega arith)
 alone (asks.Trial seed count) few = absurd (omega arith)
 alone (asks.Verify order) few = absurd (omega arith)
@@ -106,30 +106,30 @@ pair_once words kind kind' a b =
 
 -- what another ask says at the place of a command with options
 same_listing : (words : List (List ℕ)) (order : ℕ) (class : Class) (from : Option Word) (limit : Option ℕ) → AsksListing words order class from limit
-    → (b : Ask) → 11 ≡ place b → OptionsSay words b → asks.List order class from limit ≡ b
+    → (b : Ask) → 11 ≡ ask_place b → OptionsSay words b → asks.List order class from limit ≡ b
 same_listing words order class from limit a (asks.List order' class' from' limit') at say = listing_once words order order' class class' from from'
     limit limit' a say
 same_listing words order class from limit a _ at say = absurd (omega arith)
 
-same_trial : (words : List (List ℕ)) (seed count : ℕ) → AsksTrial words seed count → (b : Ask) → 12 ≡ place b → OptionsSay words b → asks.Trial seed count ≡ b
+same_trial : (words : List (List ℕ)) (seed count : ℕ) → AsksTrial words seed count → (b : Ask) → 12 ≡ ask_place b → OptionsSay words b → asks.Trial seed count ≡ b
 same_trial words seed count a (asks.Trial seed' count') at say = trial_once words seed seed' count count' a say
 same_trial words seed count a _ at say = absurd (omega arith)
 
-same_verify : (words : List (List ℕ)) (order : ℕ) → AsksVerify words order → (b : Ask) → 13 ≡ place b → OptionsSay words b → asks.Verify order ≡ b
+same_verify : (words : List (List ℕ)) (order : ℕ) → AsksVerify words order → (b : Ask) → 13 ≡ ask_place b → OptionsSay words b → asks.Verify order ≡ b
 same_verify words order a (asks.Verify order') at say = verify_once words order order' a say
 same_verify words order a _ at say = absurd (omega arith)
 
-same_pair : (words : List (List ℕ)) (kind : Kind) → AsksPair words kind → (b : Ask) → 14 ≡ place b → OptionsSay words b → asks.Pair kind ≡ b
+same_pair : (words : List (List ℕ)) (kind : Kind) → AsksPair words kind → (b : Ask) → 14 ≡ ask_place b → OptionsSay words b → asks.Pair kind ≡ b
 same_pair words kind a (asks.Pair kind') at say = pair_once words kind kind' a say
 same_pair words kind a _ at say = absurd (omega arith)
 
-both_alone : (a b : Ask) → place a ≡ place b → place a < 11 → a ≡ b
+both_alone : (a b : Ask) → ask_place a ≡ ask_place b → ask_place a < 11 → a ≡ b
 both_alone a b at few =
-    let few' : place b < 11 = omega (arith, at, few) in
+    let few' : ask_place b < 11 = omega (arith, at, few) in
     alone a few ∙ ap alone_at at ∙ sym (alone b few')
 
 -- options that say two asks of one command say one ask
-pub same_options : (words : List (List ℕ)) (a b : Ask) → place a ≡ place b → OptionsSay words a → OptionsSay words b → a ≡ b
+pub same_options : (words : List (List ℕ)) (a b : Ask) → ask_place a ≡ ask_place b → OptionsSay words a → OptionsSay words b → a ≡ b
 same_options words (asks.List order class from limit) b at say say' = same_listing words order class from limit say b at say'
 same_options words (asks.Trial seed count) b at say say' = same_trial words seed count say b at say'
 same_options words (asks.Verify order) b at say say' = same_verify words order say b at say'

@@ -9,11 +9,11 @@ use Rattle.bk_ask.specs.declared.Ask.{Ask}
 use Rattle.bk_ask.specs.declared.Ask.TheVariants as asks
 use Rattle.bk_pair.specs.declared.Kind.{Kind}
 use Rattle.bk_ask.proofs.OptionLaws.{option_of}
-use Rattle.bk_ask.proofs.OneAsk.{first_of, mark, place, place_by_mark, place_of_name, rest_of}
+use Rattle.bk_ask.proofs.OneAsk.{first_of, name_mark, ask_place, place_by_mark, place_of_name, rest_of}
 
 -- words that ask something begin with the name of that command
-pub named_place : (name : List ℕ) (options : List (List ℕ)) (ask : Ask) → Asks (name ∷ options) ask → place_by_mark (mark name) ≡ place ask
-named_place name options ask is = ap (λ (words : List (List ℕ)). place_by_mark (mark (first_of words))) is.line ∙ sym (place_of_name ask)
+pub named_place : (name : List ℕ) (options : List (List ℕ)) (ask : Ask) → Asks (name ∷ options) ask → place_by_mark (name_mark name) ≡ ask_place ask
+named_place name options ask is = ap (λ (words : List (List ℕ)). place_by_mark (name_mark (first_of words))) is.line ∙ sym (place_of_name ask)
 
 -- the words behind the name of a command say what is asked
 pub options_say : (name : List ℕ) (options : List (List ℕ)) (ask : Ask) → Asks (name ∷ options) ask → OptionsSay options ask
@@ -35,41 +35,41 @@ NoVerify options = (order : ℕ) → AsksVerify options order → ⊥
 abbrev pub NoPair : List (List ℕ) → Type 0
 NoPair options = (kind : Kind) → AsksPair options kind → ⊥
 
-listed : (options : List (List ℕ)) → NoListing options → (ask : Ask) → 11 ≡ place ask → OptionsSay options ask → ⊥
+listed : (options : List (List ℕ)) → NoListing options → (ask : Ask) → 11 ≡ ask_place ask → OptionsSay options ask → ⊥
 listed options none (asks.List order class from limit) at say = none order class from limit say
 listed options none _ at say = omega arith
 
-tried : (options : List (List ℕ)) → NoTrial options → (ask : Ask) → 12 ≡ place ask → OptionsSay options ask → ⊥
+tried : (options : List (List ℕ)) → NoTrial options → (ask : Ask) → 12 ≡ ask_place ask → OptionsSay options ask → ⊥
 tried options none (asks.Trial seed count) at say = none seed count say
 tried options none _ at say = omega arith
 
-verified : (options : List (List ℕ)) → NoVerify options → (ask : Ask) → 13 ≡ place ask → OptionsSay options ask → ⊥
+verified : (options : List (List ℕ)) → NoVerify options → (ask : Ask) → 13 ≡ ask_place ask → OptionsSay options ask → ⊥
 verified options none (asks.Verify order) at say = none order say
 verified options none _ at say = omega arith
 
-paired : (options : List (List ℕ)) → NoPair options → (ask : Ask) → 14 ≡ place ask → OptionsSay options ask → ⊥
+paired : (options : List (List ℕ)) → NoPair options → (ask : Ask) → 14 ≡ ask_place ask → OptionsSay options ask → ⊥
 paired options none (asks.Pair kind) at say = none kind say
 paired options none _ at say = omega arith
 
+nothing_said : (name : List ℕ) (options : List (List ℕ)) → ((ask : Ask) → place_by_mark (name_mark name) ≡ ask_place ask → OptionsSay options ask → ⊥)
+    → AsksNothing (name ∷ options)
+nothing_said name options none ask is = none ask (named_place name options ask is) (options_say name options ask is)
+
 -- `list` with options that ask for no listing asks nothing
 pub nothing_listed : (options : List (List ℕ)) → NoListing options → AsksNothing (codes "list" ∷ options)
-nothing_listed options none ask is =
-    listed options none ask (named_place (codes "list") options ask is) (options_say (codes "list") options ask is)
+nothing_listed options none = nothing_said (codes "list") options (listed options none)
 
 -- `trial` with options that ask for no trial asks nothing
 pub nothing_tried : (options : List (List ℕ)) → NoTrial options → AsksNothing (codes "trial" ∷ options)
-nothing_tried options none ask is =
-    tried options none ask (named_place (codes "trial") options ask is) (options_say (codes "trial") options ask is)
+nothing_tried options none = nothing_said (codes "trial") options (tried options none)
 
 -- `verify` with options that name no order asks nothing
 pub nothing_verified : (options : List (List ℕ)) → NoVerify options → AsksNothing (codes "verify" ∷ options)
-nothing_verified options none ask is =
-    verified options none ask (named_place (codes "verify") options ask is) (options_say (codes "verify") options ask is)
+nothing_verified options none = nothing_said (codes "verify") options (verified options none)
 
 -- `pair` with options that ask for no pairs asks nothing
 pub nothing_paired : (options : List (List ℕ)) → NoPair options → AsksNothing (codes "pair" ∷ options)
-nothing_paired options none ask is =
-    paired options none ask (named_place (codes "pair") options ask is) (options_say (codes "pair") options ask is)
+nothing_paired options none = nothing_said (codes "pair") options (paired options none)
 
 -- the name of no command that has options
 pub record HasNoOptions (name : List ℕ) : Type 0 where

@@ -5,7 +5,7 @@ ghost use Rattle.std.specs.Prelude.{IfNone, IfSome, map, string_bytes, ◌≡◌
 ghost use Rattle.bk_ask.specs.Asked.{Asks, AsksNothing};
 ghost use Rattle.bk_ask.specs.Help.{help_text, usage};
 
-mod commands;
+mod command_options;
 mod laws;
 mod options;
 mod values;
@@ -14,7 +14,7 @@ mod words;
 use bk_grammar::{AnswerBuffer, push_bytes};
 pub use bk_pair::Kind;
 use bk_word::{Class, Word};
-use commands::{command_alone, listing, pair, trial, verify};
+use command_options::{command_alone, listing, pair, trial, verify};
 pub use laws::words_ask_one_thing;
 use std::alloc::Global;
 pub use words::words_of;

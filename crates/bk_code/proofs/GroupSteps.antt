@@ -21,23 +21,23 @@ with_next true code s = code ++ (s ∷ []) ∷ []
 with_next false code s = with_side code s
 
 -- a side put before a code: into its first group, or as a group
-abbrev pub before : Bool → ℕ → Code → Code
-before b s code = cond b (onto_first s code) ((s ∷ []) ∷ code)
+abbrev pub with_side_before : Bool → ℕ → Code → Code
+with_side_before b s code = cond b (onto_first s code) ((s ∷ []) ∷ code)
 
 onto_sides : (q : Square) (groups : List (List Square)) → map (map (λ q. q.s)) (onto_first q groups) ≡ onto_first q.s (map (map (λ q. q.s)) groups)
 onto_sides q [] = refl
 onto_sides q (group ∷ groups) = refl
 
 -- a square before others joins the first of their groups where the next square stands beside it, else it is a group of its own
-pub groups_cons : (q r : Square) (squares : List Square) → side_groups (q ∷ r ∷ squares) ≡ before (stands_beside q r) q.s (side_groups (r ∷ squares))
+pub groups_cons : (q r : Square) (squares : List Square) → side_groups (q ∷ r ∷ squares) ≡ with_side_before (stands_beside q r) q.s (side_groups (r ∷ squares))
 groups_cons q r squares = cases (stands_beside q r)
   where
     cases : (b : Bool) → map (map (λ q. q.s)) (cond b (onto_first q (square_groups (r ∷ squares))) ((q ∷ []) ∷ square_groups (r ∷ squares)))
-        ≡ before b q.s (side_groups (r ∷ squares))
+        ≡ with_side_before b q.s (side_groups (r ∷ squares))
     cases true = onto_sides q (square_groups (r ∷ squares))
     cases false = refl
 
-before_next : (b c : Bool) (s t : ℕ) (code : Code) → 0 < length code → with_next c (before b s code) t ≡ before b s (with_next c code t)
+before_next : (b c : Bool) (s t : ℕ) (code : Code) → 0 < length code → with_next c (with_side_before b s code) t ≡ with_side_before b s (with_next c code t)
 before_next b c s t [] some = absurd (omega arith)
 before_next true true s t (group ∷ code) some = refl
 before_next false true s t (group ∷ code) some = refl
@@ -46,7 +46,7 @@ before_next false false s t (group ∷ []) some = refl
 before_next true false s t (group ∷ next ∷ code) some = refl
 before_next false false s t (group ∷ next ∷ code) some = refl
 
-before_some : (b : Bool) (s : ℕ) (code : Code) → 0 < length (before b s code)
+before_some : (b : Bool) (s : ℕ) (code : Code) → 0 < length (with_side_before b s code)
 before_some true s [] = omega arith
 before_some true s (group ∷ code) = omega arith
 before_some false s code = omega arith
@@ -70,7 +70,7 @@ groups_next (p ∷ r ∷ squares) q rest =
     let more : side_groups (r ∷ squares ++ q ∷ [])
     ≡ with_next (begins_group (r ∷ squares ++ q ∷ rest) (length (r ∷ squares))) (side_groups (r ∷ squares)) q.s = groups_next (r ∷ squares) q rest in
     groups_cons p r (squares ++ q ∷ [])
-    ∙ ap (before (stands_beside p r) p.s) more
+    ∙ ap (with_side_before (stands_beside p r) p.s) more
     ∙ sym (before_next (stands_beside p r) (begins_group (r ∷ squares ++ q ∷ rest) (length (r ∷ squares))) p.s q.s (side_groups (r ∷ squares))
     (groups_some r squares))
     ∙ ap (λ (code : Code). with_next (begins_group (r ∷ squares ++ q ∷ rest) (length (r ∷ squares))) code q.s) (sym (groups_cons p r squares))

@@ -21,7 +21,7 @@ use Rattle.bk_sym.specs.Image.{image}
 use Rattle.bk_sym.specs.declared.Turn.TheVariants.{Swap}
 use Rattle.bk_net.proofs.NodeNumbers.{wire_at, wires_many}
 use Rattle.bk_net.proofs.GroupSquares.{get_index, row_is}
-use Rattle.bk_net.proofs.NodeBelow.{place, stands_on}
+use Rattle.bk_net.proofs.NodeBelow.{has_node_below, stands_on}
 use Rattle.bk_net.specs.Diagram.{group_level, node_below}
 use Rattle.bk_net.specs.GroupNumbers.{group_numbers, numbered}
 use Rattle.bk_dual.proofs.Numbers.{HasPlace, from_image, has_place}
@@ -80,7 +80,7 @@ module _ (t : Tiling) (tiling : IsTiling (image Swap t)) where
           (λ v g e. subst (λ (k : ℕ). slice_get (square_groups (image Swap t).squares) k ≡ Some g) (omega arith) e))) m q within
 
   at_right : (q : Square) → IsOneOf q (image Swap t).squares → IsAtRight t (exchanged q) (node_below (square_groups (image Swap t).squares) q)
-  at_right q one = by (place (image Swap t) tiling q one).found
+  at_right q one = by (has_node_below (image Swap t) tiling q one).found
     where
       inner : (g : List Square) → slice_get (square_groups (image Swap t).squares) (node_below (square_groups (image Swap t).squares) q) ≡ Some g
           → 0 < count_by (λ r. nat_eq r.y (q.y + q.s) && covers_column q.x r) g → IsAtRight t (exchanged q)

@@ -10,7 +10,7 @@ use Rattle.bk_tiling.proofs.TilingLaws.{side_of}
 use Rattle.bk_tiling.specs.CodeOrder.{in_code_order}
 use Rattle.bk_tiling.specs.Scale.{IsPrimitiveTiling}
 use Rattle.bk_tiling.specs.SquareGroups.{square_groups}
-use Rattle.bk_tiling.specs.Tiling.{IsTiling, Tiles, Tiling, whole}
+use Rattle.bk_tiling.specs.Tiling.{IsTiling, Tiles, Tiling, square_of, whole}
 use Rattle.bk_tiling.specs.declared.Square.{Square}
 use Rattle.bk_net.specs.Diagram.{node_levels}
 use Rattle.bk_net.specs.Flow.{Flow, IsFlow, IsOneFlow, IsPrimitive, potential}
@@ -21,7 +21,6 @@ use Rattle.bk_word.specs.Word.{Word}
 use Rattle.bk_word_net.proofs.WordFlows.NoLoose.{a_word_has_one_flow, a_word_net_has_no_loose}
 use Rattle.bk_word_net.specs.WordNet.{net_of_word}
 use Rattle.bk_layout.proofs.TilingLayouts.TilingSquares.{in_square, node_at}
-use Rattle.bk_layout.specs.TilingLayout.{square_of}
 use Rattle.bk_layout.proofs.TilingLayouts.GroupNodes.{IsNode}
 use Rattle.bk_layout.specs.LineNumbers.{square_lines}
 use Rattle.bk_layout.proofs.FreeCuts.CutByNodes.{as_many_sides}

@@ -7,7 +7,7 @@ use Rattle.bk_laws.proofs.NumberTests.{eq_test-same_of_equivalent, nat_eq-of_dif
 use Rattle.bk_laws.proofs.ListItems.{slice_index_or-map}
 use Rattle.bk_tiling.specs.Scale.{IsPrimitiveTiling}
 use Rattle.bk_tiling.specs.SquareGroups.{square_groups}
-use Rattle.bk_tiling.specs.Tiling.{IsOneOf, IsTiling, Tiling}
+use Rattle.bk_tiling.specs.Tiling.{IsOneOf, IsTiling, Tiling, square_of}
 use Rattle.bk_tiling.specs.declared.Square.{Square}
 use Rattle.bk_net.specs.Diagram.{node_below}
 use Rattle.bk_net.specs.Flow.{Flow, IsFlow, IsPrimitive, IsPrimitiveFlow}
@@ -19,7 +19,7 @@ use Rattle.bk_word_net.proofs.Outlines.Shape.{hung_many}
 use Rattle.bk_word_net.specs.WordNet.{net_of_word}
 use Rattle.bk_layout.proofs.TilingLayouts.TilingFits.{a_tiling_has_a_layout}
 use Rattle.bk_layout.proofs.TilingLayouts.TilingSquares.{in_square}
-use Rattle.bk_layout.specs.TilingLayout.{node_above, square_of}
+use Rattle.bk_layout.specs.TilingLayout.{node_above}
 use Rattle.bk_layout.proofs.FreeCuts.CutByNodes.{as_many_sides}
 use Rattle.bk_layout.specs.LineNumbers.{lefts_of, square_lines}
 use Rattle.bk_layout.proofs.SignedWords.SignedFlows.{ends_below, pair_is, square_below}
@@ -227,15 +227,17 @@ module _ (w : Word) (complete : IsComplete w) (few : order_of w ≤ 16) (total :
   abbrev the_flow : Flow
   the_flow = record { total = total; potentials = flow.0; currents = currents }
 
-  lines_are : (t : Tiling) (tiling : IsTiling t) (primitive : IsPrimitiveTiling t) (s : IsSignedWordOf t w)
-      → l ≡ record {
-        wires = (net_of_word w).wires;
-        currents = currents;
-        lefts = lefts_of w;
-        rights = right_edges w the_flow;
-        total = total;
-        last = last_node (net_of_word w);
-      }
+  abbrev the_lines : Lines
+  the_lines = record {
+    wires = (net_of_word w).wires;
+    currents = currents;
+    lefts = lefts_of w;
+    rights = right_edges w the_flow;
+    total = total;
+    last = last_node (net_of_word w);
+  }
+
+  lines_are : (t : Tiling) (tiling : IsTiling t) (primitive : IsPrimitiveTiling t) (s : IsSignedWordOf t w) → l ≡ the_lines
   lines_are t tiling primitive s = λ i. record {
     wires = wires i;
     currents = currents_is i;
@@ -254,7 +256,7 @@ module _ (w : Word) (complete : IsComplete w) (few : order_of w ≤ 16) (total :
       (subst (λ (n : ℕ). AreLongest n height (candidate_squares w the_flow) most) (sym width_is)
       (subst (λ (n : ℕ). AreLongest t.width n (candidate_squares w the_flow) most) (sym height_is)
       (longest_found t w the_flow met.tiling primitive s (flow.1).flow (flow.1).positive flow.2 found.width hung long many most
-      (subst (λ (n : ℕ). AreLongestTold right_lines n most) wires_long
+      (subst (λ (n : ℕ). AreLongestTold the_lines n most) wires_long
       (subst (λ (m : Lines). AreLongestTold m (length l.wires) most) (lines_are t met.tiling primitive s) told)))))
       (subst (λ (n : ℕ). AreCornersSettled (counts_of_word w) n height (candidate_squares w the_flow)) (sym width_is)
       (subst (λ (n : ℕ). AreCornersSettled (counts_of_word w) t.width n (candidate_squares w the_flow)) (sym height_is)
@@ -265,16 +267,6 @@ module _ (w : Word) (complete : IsComplete w) (few : order_of w ≤ 16) (total :
 
       found : IsCandidateOf t w (met.is_word).signed the_flow
       found = the_candidate_is_the_tiling t w the_flow met.tiling primitive (met.is_word).signed (flow.1).flow (flow.1).positive flow.2
-
-      right_lines : Lines
-      right_lines = record {
-        wires = (net_of_word w).wires;
-        currents = currents;
-        lefts = lefts_of w;
-        rights = right_edges w the_flow;
-        total = total;
-        last = last_node (net_of_word w);
-      }
 
       wires_long : length l.wires ≡ length t.squares
       wires_long = ap length wires ∙ wires_are w complete few ∙ ((met.is_word).signed).order_is

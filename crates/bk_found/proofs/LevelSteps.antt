@@ -1,11 +1,11 @@
 -- Levels found wire by wire, and edges found square by square; all of them small.
 use Rattle.std.specs.Int.{w64}
 use Rattle.std.specs.Prelude.{FitsSigned, nat_abs, negsuc, pos, ℤ, ◌+ℤ◌}
-use Rattle.std.proofs.Common.{List, [], ap, arith, drop, inl, inr, length, length-set, refl, set, slice_index_or, subst, suc, sym}
+use Rattle.std.proofs.Common.{List, [], ap, arith, drop, inl, inr, length, length-set, of_z, refl, set, slice_index_or, subst, suc, sym, to_z}
 use Rattle.std.proofs.Common.{zero, ℕ, ◌*◌, ◌++◌, ◌+◌, ◌<◌, ◌^◌, ◌∙◌, ◌∷◌, ◌≡◌, ◌≤◌, ◌⊎◌}
 use Rattle.std.proofs.Math.Seq.{drop-cons}
 use Rattle.std.proofs.lemmas.Bool.{cases_eq, cases_lt}
-use Rattle.std.proofs.lemmas.Int.{ints}
+use Rattle.std.proofs.lemmas.Int.{ints, to_z-of_z}
 use Rattle.std.proofs.lemmas.List.{get_or-map, get_or-set_other, get_or-set_same, length-append, length-map}
 use Rattle.bk_laws.proofs.ListPlaces.{get_back, get_front}
 use Rattle.bk_tiling.specs.declared.Square.{Square}
@@ -34,6 +34,18 @@ small_from most (negsuc n) h = (omega (arith, ints, h), omega (arith, ints, h))
 pub fits_small : (most : ℕ) (z : ℤ) → IsSmallNumber most z → most ≤ 2 ^ 40 → FitsSigned w64 z
 fits_small most (pos n) s h = record { sfits = omega (arith, ints, s.1, h) }
 fits_small most (negsuc n) s h = record { sfits = omega (arith, ints, s.0, h) }
+
+-- a small number is held in 64 bits as it is
+pub held_as_is : (most : ℕ) (z : ℤ) → IsSmallNumber most z → most ≤ 2 ^ 40 → to_z w64 (of_z w64 z) ≡ z
+held_as_is most z small few = to_z-of_z w64 z (fits_small most z small few)
+
+-- and stays small
+pub held_still : (most : ℕ) (z : ℤ) → IsSmallNumber most z → most ≤ 2 ^ 40 → IsSmallNumber most (to_z w64 (of_z w64 z))
+held_still most z small few = subst (λ (x : ℤ). IsSmallNumber most x) (sym (held_as_is most z small few)) small
+
+-- and within what 40 bits hold
+pub held_within : (most : ℕ) (z : ℤ) → IsSmallNumber most z → most ≤ 2 ^ 40 → IsSmallNumber (2 ^ 40) (to_z w64 (of_z w64 z))
+held_within most z small few = small_more most (2 ^ 40) (to_z w64 (of_z w64 z)) (held_still most z small few) few
 
 -- ---- levels
 
@@ -133,6 +145,25 @@ pub place_small : (rights : List ℤ) (total : ℤ) (i line : ℕ) → IsSmallNu
 place_small rights total i zero small many each h = small_zero ((i + 1) * 2 ^ 34)
 place_small rights total i (suc zero) small many each h = small_more (2 ^ 34) ((i + 1) * 2 ^ 34) total small (omega arith)
 place_small rights total i (suc (suc k)) small many each h = each k (omega (arith, h))
+
+-- so does each line where all right edges are small
+pub line_within : (rights : List ℤ) (total : ℤ) (line : ℕ) → IsSmallNumber (2 ^ 34) total → AreSmallNumbers (17 * 2 ^ 34) rights → line < length rights + 2
+    → IsSmallNumber (17 * 2 ^ 34) (line_place total rights line)
+line_within rights total zero small each h = small_zero (17 * 2 ^ 34)
+line_within rights total (suc zero) small each h = small_more (2 ^ 34) (17 * 2 ^ 34) total small (omega arith)
+line_within rights total (suc (suc k)) small each h = each k (omega arith)
+
+-- where a line of the next square lies, as the code finds it
+pub line_found : (lefts : List ℕ) (currents rights read : List ℤ) (total place : ℤ) (i : ℕ) → AreEdges lefts currents rights total i → i < length lefts
+    → length lefts ≤ 16 → AreKnownLines lefts → IsSmallNumber (2 ^ 34) total → read ≡ rights
+    → place ≡ line_place total read (slice_index_or lefts i 0)
+    → (place ≡ line_place total rights (slice_index_or lefts i 0)) × IsSmallNumber (2 ^ 39) place
+line_found lefts currents rights read total place i edges low few known small same is =
+    let here = is ∙ ap (λ (rs : List ℤ). line_place total rs (slice_index_or lefts i 0)) same in (
+      here,
+      subst (λ (z : ℤ). IsSmallNumber (2 ^ 39) z) (sym here) (small_more ((i + 1) * 2 ^ 34) (2 ^ 39) (line_place total rights (slice_index_or lefts i 0))
+          (place_small rights total i (slice_index_or lefts i 0) small edges.many edges.small (known i low)) (omega (arith, low, few))),
+    )
 
 -- one square more: its right edge lies its current right of its left line
 pub edges_more : (lefts : List ℕ) (currents rights : List ℤ) (total : ℤ) (i : ℕ) (right : ℤ) → AreEdges lefts currents rights total i

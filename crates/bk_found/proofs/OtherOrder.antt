@@ -7,12 +7,11 @@ use Rattle.bk_tiling.proofs.PuttingInOrder.{from_order, in_order, ordered}
 use Rattle.bk_tiling.proofs.Scaling.{same_members}
 use Rattle.bk_tiling.proofs.TilingLaws.{side_of, within_of}
 use Rattle.bk_tiling.specs.CodeOrder.{in_code_order}
-use Rattle.bk_tiling.specs.Tiling.{IsOneOf, IsTiling, IsWithin, Tiles, Tiling, covers, whole}
+use Rattle.bk_tiling.specs.Tiling.{IsOneOf, IsTiling, IsWithin, Tiles, Tiling, covers, square_of, whole}
 use Rattle.bk_tiling.specs.declared.Square.{Square}
 use Rattle.bk_word.specs.Play.{numbers_from}
 use Rattle.bk_layout.proofs.TilingLayouts.Edges.{IsOn, meet}
 use Rattle.bk_layout.proofs.TilingLayouts.TilingSquares.{in_square}
-use Rattle.bk_layout.specs.TilingLayout.{square_of}
 use Rattle.bk_layout.proofs.Lists.NumberedLists.{numbers_length}
 use Rattle.bk_layout.proofs.Lists.Totals.{renumbered, total_from}
 

@@ -7,9 +7,8 @@ use Rattle.std.proofs.lemmas.Int.{ints}
 use Rattle.std.proofs.lemmas.List.{length-append}
 use Rattle.bk_laws.proofs.ListItems.{slice_index_or-snoc_last}
 use Rattle.bk_laws.proofs.ListPlaces.{get_front}
-use Rattle.bk_tiling.specs.Tiling.{Tiling}
+use Rattle.bk_tiling.specs.Tiling.{Tiling, square_of}
 use Rattle.bk_word.specs.Play.{numbers_from}
-use Rattle.bk_layout.specs.TilingLayout.{square_of}
 use Rattle.bk_found.specs.Candidate.{line_place, right_edges_from}
 use Rattle.bk_layout.specs.SignedFlow.{signed_side}
 use Rattle.bk_layout.specs.SignedWord.{left_edge, line_column, right_edge}

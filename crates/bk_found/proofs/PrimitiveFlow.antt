@@ -1,6 +1,6 @@
 -- The signed flow of a tiling in lowest terms is primitive; flows with the same currents have the same levels.
 use Rattle.std.specs.Prelude.{nat_abs, ℤ, ◌-ℤ◌}
-use Rattle.std.proofs.Common.{arith, length, map, subst, sym, ℕ, ◌*◌, ◌+◌, ◌/◌}
+use Rattle.std.proofs.Common.{Contains, arith, length, map, subst, sym, ℕ, ◌*◌, ◌+◌, ◌/◌}
 use Rattle.std.proofs.Common.{◌<◌, ◌∙◌, ◌≡◌}
 use Rattle.std.proofs.Math.Nat.{mul-div_cancel'}
 use Rattle.std.proofs.lemmas.Int.{ints}
@@ -10,12 +10,11 @@ use Rattle.bk_laws.proofs.ListItems.{slice_index_or-same_drops}
 use Rattle.bk_laws.proofs.Magnitudes.{abs-signed}
 use Rattle.bk_tiling.proofs.Cells.{all_from}
 use Rattle.bk_tiling.specs.Scale.{IsPrimitiveTiling}
-use Rattle.bk_tiling.specs.Tiling.{IsOneOf, IsTiling, Tiling}
+use Rattle.bk_tiling.specs.Tiling.{IsOneOf, IsTiling, Tiling, square_of}
 use Rattle.bk_tiling.specs.declared.Square.{Square}
 use Rattle.bk_net.specs.Flow.{Flow, IsFlow, IsPrimitive, potential}
 use Rattle.bk_net.specs.Net.{HasNoLoose, IsJoined, Net, against, along, here}
 use Rattle.bk_word.specs.Word.{Word}
-use Rattle.bk_layout.specs.TilingLayout.{square_of}
 use Rattle.bk_found.proofs.OtherOrder.{in_other, number_in}
 use Rattle.bk_found.specs.Candidate.{level_in}
 use Rattle.bk_layout.proofs.Lists.NumberedLists.{at_number}
@@ -46,22 +45,14 @@ module _ (net : Net) (f g : Flow) (flow : IsFlow net f) (other : IsFlow net g) (
   drops : map (λ (w : ℕ × ℕ). potential f w.0 -ℤ potential f w.1) net.wires ≡ map (λ (w : ℕ × ℕ). potential g w.0 -ℤ potential g w.1) net.wires
   drops = sym flow.differences ∙ same ∙ other.differences
 
+  drop_same : {u v : ℕ} (c : Contains net.wires (u, v)) → potential f u -ℤ potential f v ≡ potential g u -ℤ potential g v
+  drop_same {u} {v} c = subst (λ (e : ℕ × ℕ). potential f e.0 -ℤ potential f e.1 ≡ potential g e.0 -ℤ potential g e.1) c.2
+      (slice_index_or-same_drops (potential f) (potential g) net.wires c.0 (u, v) drops c.1)
+
   joined_same : {u v : ℕ} → IsJoined net.wires u v → potential f u -ℤ potential f v ≡ potential g u -ℤ potential g v
   joined_same (here {v}) = omega (arith, ints)
-  joined_same (along {u} {v} {w} c j) = omega (
-    arith,
-    ints,
-    subst (λ (e : ℕ × ℕ). potential f e.0 -ℤ potential f e.1 ≡ potential g e.0 -ℤ potential g e.1) c.2
-        (slice_index_or-same_drops (potential f) (potential g) net.wires c.0 (u, v) drops c.1),
-    joined_same j,
-  )
-  joined_same (against {u} {v} {w} c j) = omega (
-    arith,
-    ints,
-    subst (λ (e : ℕ × ℕ). potential f e.0 -ℤ potential f e.1 ≡ potential g e.0 -ℤ potential g e.1) c.2
-        (slice_index_or-same_drops (potential f) (potential g) net.wires c.0 (v, u) drops c.1),
-    joined_same j,
-  )
+  joined_same (along {u} {v} {w} c j) = omega (arith, ints, drop_same c, joined_same j)
+  joined_same (against {u} {v} {w} c j) = omega (arith, ints, drop_same c, joined_same j)
 
   -- flows of one net with the same currents have the same levels
   pub same_levels : HasNoLoose net → 0 < net.nodes → (v : ℕ) → v < net.nodes → level_in f v ≡ level_in g v

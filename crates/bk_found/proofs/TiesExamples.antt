@@ -4,7 +4,7 @@ use Rattle.std.proofs.Common.{Bool, List, [], arith, false, lit<, lit≤, refl, 
 use Rattle.std.proofs.lemmas.Int.{ints}
 use Rattle.bk_tiling.proofs.ExampleTilings.{rectangle_3x2}
 use Rattle.bk_layout.specs.Normal.{Counts, counts_of}
-use Rattle.bk_found.specs.Known.{IsCandidate}
+use Rattle.bk_found.specs.KnownLines.{IsCandidate}
 use Rattle.bk_found.specs.Placing.{AreKnownLines, AreSmallNumbers, EndWithin, IsSmallNumber}
 use Rattle.bk_found.specs.Ties.{AreTiesOf}
 use Rattle.bk_found.specs.ToldCorners.{AreLongest, AreLongestTold, Lines}

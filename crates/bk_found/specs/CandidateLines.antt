@@ -3,8 +3,8 @@
 use Rattle.bk_found.specs.ToldCorners.{Lines}
 use Rattle.bk_found.specs.declared.lines.Candidate.{Candidate}
 
-abbrev pub lines_of : Candidate → Lines
-lines_of c = record {
+abbrev pub candidate_lines : Candidate → Lines
+candidate_lines c = record {
   wires = c.wires.now;
   currents = c.currents.now;
   lefts = c.lefts.now;

@@ -1,7 +1,7 @@
 //! The longest squares in the corners, told by wires and lines before any square is placed.
 
 ghost use Rattle.std.specs.Prelude.{cond, length, max, ◌≡◌};
-ghost use Rattle.bk_found.specs.CandidateLines.{lines_of};
+ghost use Rattle.bk_found.specs.CandidateLines.{candidate_lines};
 ghost use Rattle.bk_found.specs.ToldCorners.{AreLongestTold, in_bottom_corner, in_left_corner, in_right_corner};
 ghost use Rattle.bk_found.specs.ToldCorners.{in_top_corner};
 
@@ -18,7 +18,7 @@ pub(crate) struct Longest {
 }
 
 // Which sides of a rectangle a square touches.
-#[derive(Clone, Copy, Drop)]
+#[derive(Drop)]
 pub(crate) struct Contact {
     pub(crate) top: bool,
     pub(crate) bottom: bool,
@@ -28,7 +28,7 @@ pub(crate) struct Contact {
 
 // The longest in the corners, of squares that hang from node 0 or end on the last node. No other one lies in a corner.
 pub(crate) fn longest_in_corners(candidate: &Candidate) -> Longest
-    ensures { AreLongestTold (lines_of candidate.now) (length candidate.now.wires.now) result }
+    ensures { AreLongestTold (candidate_lines candidate.now) (length candidate.now.wires.now) result }
 {
     let (wires, currents) = (candidate.wires, candidate.currents);
     let (lefts, rights) = (candidate.lefts, candidate.rights);

@@ -1,6 +1,6 @@
 //! The lines and the wires by which a candidate is placed.
 
-ghost use Rattle.bk_found.specs.Known.{IsCandidate};
+ghost use Rattle.bk_found.specs.KnownLines.{IsCandidate};
 
 use crate::levels::NODES;
 

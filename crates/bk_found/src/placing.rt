@@ -9,7 +9,7 @@ ghost use Rattle.bk_word.specs.Word.{order_of};
 ghost use Rattle.bk_found.specs.Candidate.{placed_square};
 ghost use Rattle.bk_layout.specs.LineNumbers.{lefts_of};
 ghost use Rattle.bk_found.specs.Placing.{IsPlacedAt, IsSmallNumber};
-ghost use Rattle.bk_found.specs.CandidateLines.{lines_of};
+ghost use Rattle.bk_found.specs.CandidateLines.{candidate_lines};
 ghost use Rattle.bk_found.specs.ToldCorners.{AreLongest, AreLongestTold};
 ghost use Rattle.bk_found.specs.declared.corners.Longest.{Longest};
 ghost use Rattle.bk_found.specs.Found.{IsFound};
@@ -89,7 +89,7 @@ pub fn leaf(skel: &SmallSkel, lefts: &[u8], ties: Ties, class: Class) -> Option<
 // Whether the corners tell, where counts tie, that another image than the candidate is met.
 fn loses_by_corners(candidate: &Candidate, width: u64, height: u64, ties: Ties) -> bool
     ensures { IsTrue result → (most : Longest)
-        × AreLongestTold (lines_of candidate.now) (length candidate.now.wires.now) most
+        × AreLongestTold (candidate_lines candidate.now) (length candidate.now.wires.now) most
         × ((c : Counts) (squares : List PlacedSquare) → AreTiesOf c ties → AreLongest width height squares most
         → AreCornersSettled c width height squares → ⊥) }
 {
@@ -115,7 +115,7 @@ fn has_zero(currents: &[i64]) -> bool
 fn squares_at(candidate: &Candidate) -> ArrayVec<Square, INLINE_ORDER>
     ensures many { length result.items ≡ length candidate.now.lefts.now }
     ensures each { (k : ℕ) → k < length candidate.now.lefts.now
-        → IsPlacedAt (lines_of candidate.now) candidate.now.levels.now k
+        → IsPlacedAt (candidate_lines candidate.now) candidate.now.levels.now k
         (slice_index_or result.items k (record { x = 0; y = 0; s = 0 })) }
 {
     let (lefts, wires, currents) = (candidate.lefts, candidate.wires, candidate.currents);

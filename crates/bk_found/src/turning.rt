@@ -1,6 +1,6 @@
 //! Placed squares, turned before they are tried as a tiling.
 
-ghost use Rattle.std.specs.Prelude.{map, ℕ, ◌≡◌, ◌≤◌};
+ghost use Rattle.std.specs.Prelude.{cond, map, ℕ, ◌≡◌, ◌≤◌};
 ghost use Rattle.bk_sym.specs.Image.{image_size, image_square};
 ghost use Rattle.bk_sym.specs.declared.Turn.{Turn as Turned};
 
@@ -17,35 +17,23 @@ pub fn best_turn(placed: &Placed) -> Turn
         (image_size result placed.now.width placed.now.height).0 }
 {
     let (right, bottom) = longest_corner(placed);
-    if placed.width < placed.height {
-        swapping_turn(right, bottom)
-    } else {
-        keeping_turn(right, bottom)
-    }
+    turn_from(placed.width < placed.height, right, bottom)
 }
 
-// The turn that exchanges columns and levels, and brings a square at the right or at the left, at the bottom or at the
-// top, to the top left corner.
-fn swapping_turn(right: bool, bottom: bool) -> Turn
-    ensures { (w h : ℕ) → image_size result w h ≡ (h, w) }
+// The turn that exchanges columns and levels or doesn't, and brings a square at the right or at the left, at the bottom
+// or at the top, to the top left corner.
+fn turn_from(swaps: bool, right: bool, bottom: bool) -> Turn
+    ensures { (w h : ℕ) → image_size result w h ≡ cond swaps (h, w) (w, h) }
 {
-    match (right, bottom) {
-        (false, false) => Turn::Swap,
-        (false, true) => Turn::SwapFlipX,
-        (true, false) => Turn::SwapFlipY,
-        (true, true) => Turn::SwapHalf,
-    }
-}
-
-// The turn that exchanges no columns and levels, and brings such a square to the top left corner.
-fn keeping_turn(right: bool, bottom: bool) -> Turn
-    ensures { (w h : ℕ) → image_size result w h ≡ (w, h) }
-{
-    match (right, bottom) {
-        (false, false) => Turn::Same,
-        (false, true) => Turn::FlipY,
-        (true, false) => Turn::FlipX,
-        (true, true) => Turn::Half,
+    match (swaps, right, bottom) {
+        (false, false, false) => Turn::Same,
+        (false, false, true) => Turn::FlipY,
+        (false, true, false) => Turn::FlipX,
+        (false, true, true) => Turn::Half,
+        (true, false, false) => Turn::Swap,
+        (true, false, true) => Turn::SwapFlipX,
+        (true, true, false) => Turn::SwapFlipY,
+        (true, true, true) => Turn::SwapHalf,
     }
 }
 

@@ -9,3 +9,4 @@ pub mod SignPhases
 pub mod SoughtExamples
 pub mod TurnsTaken
 pub mod UnderSigns
+pub mod WordsMet

@@ -1,6 +1,9 @@
--- What a call of the search leaves as it was.
-use Rattle.std.specs.Prelude.{◌≡◌}
+-- What a call of the search leaves as it was, and what it meets.
+use Rattle.std.specs.Prelude.{List, ◌≡◌}
 use Rattle.bk_word.specs.Word.{Word}
+use Rattle.bk_word.specs.declared.Sign.{Sign}
+use Rattle.bk_layout.specs.NormalImage.{IsNormalSought}
+use Rattle.bk_free_search.specs.Sought.{GoesOn, GoesOnBy}
 use Rattle.bk_free_search.specs.declared.state.Begun.{Begun}
 use Rattle.bk_free_search.specs.declared.state.Search.{Search}
 
@@ -14,3 +17,19 @@ pub record KeepsMet {Leaves Fixed : Type 0} (has_met : Leaves → Word → Type 
 pub record IsUnchanged (s : Search) (a : Begun) (t : Search) (b : Begun) : Type 0 where
   pub search : t ≡ s
   pub begun : b ≡ a
+
+-- all words that are sought and go on from these moves are met, and the search is as it was
+pub record MeetsAllFrom {Leaves Fixed : Type 0} (has_met : Leaves → Word → Type 0) (fixed : Leaves → Fixed)
+    (front : Word) (s : Search) (before : Leaves) (t : Search) (after : Leaves) : Type 0 where
+  pub all : (w : Word) → IsNormalSought s.order w → GoesOn front w → has_met after w
+  pub kept : KeepsMet has_met fixed before after
+  pub same : t ≡ s
+
+-- all are met that go on by a move of the count that is begun whose signs begin with these, and the search and the move
+-- are as they were
+pub record MeetsAllBy {Leaves Fixed : Type 0} (has_met : Leaves → Word → Type 0) (fixed : Leaves → Fixed)
+    (signs : List Sign) (s : Search) (a : Begun) (before : Leaves) (t : Search) (b : Begun)
+    (after : Leaves) : Type 0 where
+  pub all : (w : Word) → IsNormalSought s.order w → GoesOnBy s.board a.m.count signs w → has_met after w
+  pub kept : KeepsMet has_met fixed before after
+  pub same : IsUnchanged s a t b

@@ -11,7 +11,7 @@ use crate::board::Board;
 use crate::counts::one_if;
 
 /// How many moves are left after the next one, and how many signs of this one are even at least.
-#[derive(Clone, Copy, Drop)]
+#[derive(Drop)]
 pub(crate) struct Ahead {
     pub(crate) moves: usize,
     pub(crate) evens: usize,

@@ -11,6 +11,7 @@ ghost use Rattle.bk_word.specs.Word.{order_of};
 ghost use Rattle.bk_word.specs.declared.Sign.TheVariants.{Under};
 ghost use Rattle.bk_layout.specs.NormalCuts.{IsNormalBarren};
 ghost use Rattle.bk_free_search.specs.AllUnder.{StandsAfter};
+ghost use Rattle.bk_free_search.specs.Sought.{IsNextMove};
 
 use crate::ahead::{are_most_moves, most_moves};
 use crate::board::Board;
@@ -19,7 +20,7 @@ use bk_play::SmallMove;
 use bk_word::Sign;
 
 /// What stands after a move: how many squares at the top and at each wall, and how many signs.
-#[derive(Clone, Copy, Drop)]
+#[derive(Drop)]
 pub(crate) struct After {
     pub(crate) top: u8,
     pub(crate) left: usize,
@@ -30,10 +31,7 @@ pub(crate) struct After {
 /// Whether no word of a normal layout goes on by this legal move, since all signs are under then, no more moves are
 /// left than segments, and to close these one by one doesn't end the word, or ends one with too many squares at a wall.
 pub(crate) fn ends_otherwise(board: &Board, m: &SmallMove, order: u8) -> bool
-    requires least { 3 ≤ order }
-    requires most { order ≤ 16 }
-    requires few { order_of board.now + m.now.count < order }
-    requires legal { IsLegalMove (outline_of board.now) m.now }
+    requires { IsNextMove order board.now m.now }
     ensures { IsTrue result → IsNormalBarren order (board.now ++ m.now ∷ []) }
 {
     if !are_under_then(board, m) {
@@ -106,12 +104,21 @@ fn behind(signs: &[Sign], place: usize) -> &[Sign]
 fn is_any_above(signs: &[Sign]) -> bool
     ensures { result ≡ list_any is_above signs.now }
 {
-    signs.iter().any(|sign| sign.is_above())
+    'signs: for sign in signs {
+        if sign.is_above() {
+            return true;
+        }
+    }
+    false
 }
 
-// How many of the signs are even.
-fn evens_in(signs: &[Sign]) -> usize
+/// How many of the signs are even.
+pub(crate) fn evens_in(signs: &[Sign]) -> usize
     ensures { result ≡ count_by is_even signs.now }
 {
-    signs.iter().filter(|sign| sign.is_even()).count()
+    let mut evens = 0;
+    'signs: for sign in signs {
+        evens += one_if(sign.is_even());
+    }
+    evens
 }

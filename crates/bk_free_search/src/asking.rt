@@ -1,7 +1,7 @@
 //! What a next move's first signs ask for, counted sign by sign.
 
 ghost use Rattle.std.specs.Prelude.{IsTrue, List, [], length, ℕ, ◌++◌, ◌+◌, ◌-◌, ◌<◌, ◌∷◌, ◌≡◌, ◌≤◌};
-ghost use Rattle.bk_word.specs.Outline.{has_left_wall, has_right_wall, open_side, valley_place};
+ghost use Rattle.bk_word.specs.Outline.{has_left_wall, open_side, valley_place};
 ghost use Rattle.bk_word.specs.Play.{IsLegal, outline_of};
 ghost use Rattle.bk_word.specs.Word.{Move as SeenMove, Word as Moves, order_of};
 ghost use Rattle.bk_word.specs.declared.Sign.{Sign as SeenSign};
@@ -9,7 +9,7 @@ ghost use Rattle.bk_word.specs.declared.Sign.TheVariants.{Even, Under};
 ghost use Rattle.bk_play.specs.SmallSkeleton.{IsValleyPlace};
 ghost use Rattle.bk_free_search.specs.Apart.{IsCountedTo};
 ghost use Rattle.bk_free_search.specs.AskedSigns.{AreAskedBefore, AreFewAsks, AreFewBefore, AreMarks, AreNeeds};
-ghost use Rattle.bk_free_search.specs.AskedSigns.{IsAsked, IsNextCount, IsOver, NeedsLeft, StandBeside};
+ghost use Rattle.bk_free_search.specs.AskedSigns.{IsAsked, IsOver, NeedsLeft, StandBeside};
 ghost use Rattle.bk_free_search.specs.Strong.{IsFewPassed, seen_passed};
 ghost use Rattle.bk_free_search.specs.declared.counts.TheConstants.{FEW};
 
@@ -25,7 +25,7 @@ use bk_word::Sign;
 
 /// What stands beside the leftmost valley: whether the walls do, what the segments before it ask for, and those behind
 /// it, what is ahead, and where the valley is.
-#[derive(Clone, Copy, Drop)]
+#[derive(Drop)]
 pub(crate) struct Beside {
     pub(crate) left_wall: bool,
     pub(crate) right_wall: bool,
@@ -37,7 +37,7 @@ pub(crate) struct Beside {
 }
 
 /// What is asked for before the first sign of a next move, and with the sign even or under at a left neighbour.
-#[derive(Clone, Copy, Drop)]
+#[derive(Drop)]
 pub(crate) struct Before {
     pub(crate) none: Asked,
     pub(crate) even: Asked,
@@ -46,7 +46,7 @@ pub(crate) struct Before {
 
 /// How many squares must be left after the next move at least, by what is asked for before its first sign, and with the
 /// sign even or under at a left neighbour.
-#[derive(Clone, Copy, Drop)]
+#[derive(Drop)]
 pub(crate) struct Needs {
     pub(crate) none: usize,
     pub(crate) even: usize,
@@ -55,7 +55,7 @@ pub(crate) struct Needs {
 
 /// Of a next move of some count: how many signs it has, how many of them without that at a right neighbour, and how
 /// many squares are left after it.
-#[derive(Clone, Copy, Default, Drop)]
+#[derive(Default, Drop)]
 pub(crate) struct Next {
     pub(crate) wanted: usize,
     pub(crate) own: usize,
@@ -90,13 +90,14 @@ pub(crate) fn stand_beside(board: &Board, order: u8) -> Beside
     let before = before_valley(board, marks, &valley);
     let behind = behind_valley(board, marks, place);
     let ahead = look_ahead(board, order, left_wall, right_wall);
+    let needs = needs_of(&before, &behind, ahead.moves);
     Beside {
         left_wall,
         right_wall,
         before,
         behind,
         ahead,
-        needs: needs_of(&before, &behind, ahead.moves),
+        needs,
         valley,
     }
 }
@@ -150,24 +151,6 @@ pub(crate) fn open_sides(beside: &Beside) -> OpenSides
     OpenSides {
         left: open_side(beside.left_wall),
         right: open_side(beside.right_wall),
-    }
-}
-
-/// Of a next move of the count, after which so many squares are left, where so many segments stand beside the valley.
-#[inline]
-pub(crate) fn next_of(sides: OpenSides, count: u8, left: usize) -> Next
-    requires some { 0 < count }
-    requires left { sides.left ≤ 1 }
-    requires right { sides.right ≤ 1 }
-    ensures { (order : ℕ) (front : Moves) → sides.left ≡ open_side (has_left_wall (outline_of front))
-        → sides.right ≡ open_side (has_right_wall (outline_of front)) → left ≡ order - order_of front - count
-        → IsNextCount order front count result }
-{
-    let own = usize::from(count) - 1 + sides.left;
-    Next {
-        wanted: own + sides.right,
-        own,
-        left,
     }
 }
 

@@ -29,7 +29,7 @@ pub(crate) struct Asks {
 }
 
 /// What the segments behind the leftmost valley ask for, by the sign before the first of them.
-#[derive(Clone, Copy, Drop)]
+#[derive(Drop)]
 pub(crate) struct Behind {
     pub(crate) above: Asks,
     pub(crate) even: Asks,

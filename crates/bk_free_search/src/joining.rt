@@ -1,15 +1,15 @@
 //! Moves of one square by which no word goes on, for what they join: told before they are played.
 #![tactic(auto)]
 
-ghost use Rattle.std.specs.List.{list_any};
 ghost use Rattle.std.specs.Prelude.{IsTrue, Some, [], length, slice_get, ◌++◌, ◌<◌, ◌∷◌, ◌≡◌, ◌≤◌};
 ghost use Rattle.bk_word.specs.Outline.{IsLegalMove, valley_place};
-ghost use Rattle.bk_word.specs.Play.{IsLegal, outline_of, parts};
+ghost use Rattle.bk_word.specs.Play.{IsLegal, outline_of};
 ghost use Rattle.bk_play.specs.SmallSkeleton.{IsValleyPlace};
 ghost use Rattle.bk_layout.specs.NodeCut.{ShareANode};
 ghost use Rattle.bk_layout.specs.NetWord.{IsNetBarren};
 ghost use Rattle.bk_free_search.specs.Joining.{JoinsLeft, JoinsRight};
 
+use crate::all_under::evens_in;
 use crate::board::Board;
 use crate::line_set::{no_line, with_line};
 use bk_play::{SmallMove, SmallSkel, ValleyPlace};
@@ -39,14 +39,7 @@ fn leaves_one_early(skel: &SmallSkel, m: &SmallMove, order: u8) -> bool
     if skel.signs().len() != m.signs.len() || skel.order() + 1 >= usize::from(order) {
         return false;
     }
-    !any_parts(m.signs.as_slice())
-}
-
-// Whether one of the signs stays between two segments.
-fn any_parts(signs: &[Sign]) -> bool
-    ensures { result ≡ list_any parts signs.now }
-{
-    signs.iter().any(|sign| sign.parts())
+    evens_in(m.signs.as_slice()) == m.signs.len()
 }
 
 // Whether, after a legal move of one square, two lines at the segment that it joins bound a part of the tiling.

@@ -41,14 +41,6 @@ pub(crate) fn with_place(places: LineSet, place: usize, holds: bool) -> LineSet
     }
 }
 
-/// Whether the set has the line.
-pub(crate) fn has_line(lines: LineSet, line: u8) -> bool
-    ensures only { IsTrue result → Has lines line }
-    ensures all { line < 32 → Has lines line → IsTrue result }
-{
-    line < 32 && (lines.bits >> line) & 1 == 1
-}
-
 /// The lines of both sets together.
 pub(crate) fn joined_lines(lines: LineSet, others: LineSet) -> LineSet
     ensures only { (line : ℕ) → Has result line → Has lines line ⊎ Has others line }

@@ -16,7 +16,7 @@ ghost use Rattle.bk_free_search.specs.Strong.{AreFilled, marks_by_lists};
 ghost use Rattle.bk_free_search.specs.TopLines.{AreSquares, HasOneFrom, on_top_lines};
 
 use crate::board::Board;
-use crate::line_set::{LineSet, has_line, no_line, with_place};
+use crate::line_set::{LineSet, no_line, with_place};
 use crate::top_lines::places_on_lines;
 use bk_play::ValleyPlace;
 
@@ -82,7 +82,7 @@ pub(crate) fn is_left_on_line(board: &Board, valley: &ValleyPlace) -> bool
 pub(crate) fn has_mark(marks: LineSet, place: usize) -> bool
     ensures { result ≡ true → Has marks place }
 {
-    place < 32 && has_line(marks, place as u8)
+    place < 32 && (marks.bits >> place) & 1 == 1
 }
 
 /// Whether the segment at a place is marked, or is with one square more.

@@ -3,7 +3,7 @@
 
 ghost use Rattle.std.specs.Prelude.{IfNone, IfSome, IsTrue, List, [], false, length, true, ℕ, ◌++◌, ◌+◌, ◌<◌, ◌∷◌, ◌≡◌};
 ghost use Rattle.std.specs.Prelude.{◌-◌, ◌≤◌};
-ghost use Rattle.bk_word.specs.Outline.{IsLegalMove, has_left_wall, open_side};
+ghost use Rattle.bk_word.specs.Outline.{has_left_wall, open_side};
 ghost use Rattle.bk_word.specs.Play.{outline_of};
 ghost use Rattle.bk_word.specs.Word.{Word as Moves, order_of};
 ghost use Rattle.bk_word.specs.declared.Sign.{Sign as SeenSign};
@@ -12,6 +12,7 @@ ghost use Rattle.bk_play.specs.SmallSkeleton.{IsValleyPlace};
 ghost use Rattle.bk_layout.specs.NormalCuts.{IsNormalBarren};
 ghost use Rattle.bk_free_search.specs.AskedSigns.{AreFewAsks, BarsNext, BarsSigns, IsAsked, IsMoveBegun, IsWithOwn};
 ghost use Rattle.bk_free_search.specs.AskedSigns.{StandBeside, asks_then};
+ghost use Rattle.bk_free_search.specs.Sought.{IsNextMove};
 ghost use Rattle.bk_free_search.specs.Strong.{IsFewPassed};
 ghost use Rattle.bk_free_search.specs.declared.asking.Beside.{Beside as SeenBeside};
 ghost use Rattle.bk_free_search.specs.declared.counts.TheConstants.{MANY};
@@ -21,7 +22,6 @@ ghost use Rattle.bk_free_search.specs.declared.state.Search.{Search as SeenSearc
 use crate::all_under::ends_otherwise;
 use crate::asking::{Asked, Beside, asked_with, is_over};
 use crate::behind::{Asks, Behind};
-use crate::cuts::bars_above;
 use crate::joining::joins_barrenly;
 use crate::state::{Begun, Search};
 use bk_play::{ValleyPlace, open_side};
@@ -43,10 +43,7 @@ impl Search {
 
     /// Whether no word goes on by this move, which has all its signs, and after which squares are left.
     pub(crate) fn bars_move(&self, begun: &Begun, valley: &ValleyPlace) -> bool
-        requires least { 3 ≤ self.now.order }
-        requires most { self.now.order ≤ 16 }
-        requires few { order_of self.now.board + begun.now.m.count < self.now.order }
-        requires legal { IsLegalMove (outline_of self.now.board) begun.now.m }
+        requires next { IsNextMove self.now.order self.now.board begun.now.m }
         requires valley { IsValleyPlace self.now.board valley.now }
         ensures { IsTrue result → IsNormalBarren self.now.order (self.now.board ++ begun.now.m ∷ []) }
     {
@@ -156,7 +153,7 @@ pub(crate) fn bars_own_above(begun: &Begun, asked: &Asked) -> bool
     ensures { IsTrue result → (s : SeenSearch) (around : SeenBeside) → IsWithOwn s begun.now around asked.now
         → length begun.now.m.signs < begun.now.next.own → BarsNext s begun.now Above }
 {
-    bars_above(&begun.m, asked)
+    begun.m.signs.len() == 1 && asked.evens == 1
 }
 
 /// Whether none does with this sign, which isn't even, at a right neighbour: too few signs then are even, or too much

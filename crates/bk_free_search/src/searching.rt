@@ -1,15 +1,14 @@
 //! The search through all words of an order that have no barren beginning.
 
 ghost use Rattle.std.specs.Prelude.{IsTrue, [], length, ◌++◌, ◌+◌, ◌<◌, ◌∷◌, ◌≡◌, ◌≤◌};
-ghost use Rattle.bk_word.specs.Outline.{IsLegalMove};
-ghost use Rattle.bk_word.specs.Play.{IsComplete, outline_of};
+ghost use Rattle.bk_word.specs.Play.{IsComplete};
 ghost use Rattle.bk_word.specs.Word.{Word as Moves, order_of};
 ghost use Rattle.bk_word.specs.declared.Sign.TheVariants.{Above};
 ghost use Rattle.bk_layout.specs.NormalImage.{IsNormalSought};
 ghost use Rattle.bk_play.specs.SmallSkeleton.{IsValleyPlace};
 ghost use Rattle.bk_free_search.specs.AskedSigns.{BarsNext, IsMoveBegun, IsOwnSign, IsWithOwn};
-ghost use Rattle.bk_free_search.specs.Sought.{GoesOn, GoesOnBy};
-ghost use Rattle.bk_free_search.specs.Unchanged.{IsUnchanged, KeepsMet};
+ghost use Rattle.bk_free_search.specs.Sought.{IsNextMove};
+ghost use Rattle.bk_free_search.specs.Unchanged.{MeetsAllBy, MeetsAllFrom};
 
 use crate::asking::{Asked, Beside, asked_with, open_sides, stand_beside};
 use crate::board::Board;
@@ -69,9 +68,7 @@ impl Search {
         requires least { 3 ≤ self.old.order }
         requires most { self.old.order ≤ 16 }
         requires few { order_of self.old.board ≤ self.old.order }
-        ensures all { (w : Moves) → IsNormalSought self.old.order w → GoesOn self.old.board w → S.has_met leaves.new w }
-        ensures kept { KeepsMet S.has_met S.fixed leaves.old leaves.new }
-        ensures same { self.new ≡ self.old }
+        ensures { MeetsAllFrom S.has_met S.fixed self.old.board self.old leaves.old self.new leaves.new }
     {
         let hung = self.board.skel().order();
         if hung == usize::from(self.order) {
@@ -92,9 +89,7 @@ impl Search {
         requires least { 3 ≤ self.old.order }
         requires most { self.old.order ≤ 16 }
         requires few { order_of self.old.board + 1 < self.old.order }
-        ensures all { (w : Moves) → IsNormalSought self.old.order w → GoesOn self.old.board w → S.has_met leaves.new w }
-        ensures kept { KeepsMet S.has_met S.fixed leaves.old leaves.new }
-        ensures same { self.new ≡ self.old }
+        ensures { MeetsAllFrom S.has_met S.fixed self.old.board self.old leaves.old self.new leaves.new }
     {
         let around = stand_beside(&self.board, self.order);
         if self.lacks_next(&around) {
@@ -116,10 +111,8 @@ impl Search {
     fn with_left<S: Leaves>(&mut self, begun: &mut Begun, around: &Beside, leaves: &mut S)
         requires begun { IsMoveBegun self.old begun.old around.now }
         requires none { begun.old.m.signs ≡ [] }
-        ensures all { (w : Moves) → IsNormalSought self.old.order w
-            → GoesOnBy self.old.board begun.old.m.count begun.old.m.signs w → S.has_met leaves.new w }
-        ensures kept { KeepsMet S.has_met S.fixed leaves.old leaves.new }
-        ensures same { IsUnchanged self.old begun.old self.new begun.new }
+        ensures { MeetsAllBy S.has_met S.fixed begun.old.m.signs self.old begun.old leaves.old self.new begun.new
+            leaves.new }
     {
         if around.left_wall {
             if bars_none(begun, around) {
@@ -152,10 +145,8 @@ impl Search {
         leaves: &mut S,
     )
         requires { IsWithOwn self.old begun.old around.now asked.now }
-        ensures all { (w : Moves) → IsNormalSought self.old.order w
-            → GoesOnBy self.old.board begun.old.m.count begun.old.m.signs w → S.has_met leaves.new w }
-        ensures kept { KeepsMet S.has_met S.fixed leaves.old leaves.new }
-        ensures same { IsUnchanged self.old begun.old self.new begun.new }
+        ensures { MeetsAllBy S.has_met S.fixed begun.old.m.signs self.old begun.old leaves.old self.new begun.new
+            leaves.new }
     {
         if begun.m.signs.len() == begun.next.own {
             self.with_right(begun, around, asked, leaves);
@@ -170,8 +161,8 @@ impl Search {
         self.with_sign(begun, around, &with_under, under, leaves);
     }
 
-    // Meets those whose next sign, between two of the move's own squares, is above. There are none where rule R bars it,
-    // or where too much is asked for with it.
+    // Meets those whose next sign, between two of the move's own squares, is above. There are none where rule R bars
+    // it, or where too much is asked for with it.
     #[cycle(search)]
     #[inline(always)]
     fn with_above<S: Leaves>(
@@ -183,11 +174,8 @@ impl Search {
     )
         requires with_own { IsWithOwn self.old begun.old around.now asked.now }
         requires own { length begun.old.m.signs < begun.old.next.own }
-        ensures all { (w : Moves) → IsNormalSought self.old.order w
-            → GoesOnBy self.old.board begun.old.m.count (begun.old.m.signs ++ Above ∷ []) w
-            → S.has_met leaves.new w }
-        ensures kept { KeepsMet S.has_met S.fixed leaves.old leaves.new }
-        ensures same { IsUnchanged self.old begun.old self.new begun.new }
+        ensures { MeetsAllBy S.has_met S.fixed (begun.old.m.signs ++ Above ∷ []) self.old begun.old leaves.old
+            self.new begun.new leaves.new }
     {
         if bars_own_above(begun, asked) {
             return;
@@ -214,11 +202,8 @@ impl Search {
     )
         requires own { IsOwnSign self.old begun.old around.now asked.now next.sign }
         requires barred { IsTrue next.barred → BarsNext self.old begun.old next.sign }
-        ensures all { (w : Moves) → IsNormalSought self.old.order w
-            → GoesOnBy self.old.board begun.old.m.count (begun.old.m.signs ++ next.sign ∷ []) w
-            → S.has_met leaves.new w }
-        ensures kept { KeepsMet S.has_met S.fixed leaves.old leaves.new }
-        ensures same { IsUnchanged self.old begun.old self.new begun.new }
+        ensures { MeetsAllBy S.has_met S.fixed (begun.old.m.signs ++ next.sign ∷ []) self.old begun.old leaves.old
+            self.new begun.new leaves.new }
     {
         if next.barred {
             return;
@@ -241,10 +226,8 @@ impl Search {
     )
         requires with_own { IsWithOwn self.old begun.old around.now asked.now }
         requires own { length begun.old.m.signs ≡ begun.old.next.own }
-        ensures all { (w : Moves) → IsNormalSought self.old.order w
-            → GoesOnBy self.old.board begun.old.m.count begun.old.m.signs w → S.has_met leaves.new w }
-        ensures kept { KeepsMet S.has_met S.fixed leaves.old leaves.new }
-        ensures same { IsUnchanged self.old begun.old self.new begun.new }
+        ensures { MeetsAllBy S.has_met S.fixed begun.old.m.signs self.old begun.old leaves.old self.new begun.new
+            leaves.new }
     {
         if around.right_wall {
             if asks_too_much_then(begun, around, asked) {
@@ -283,11 +266,8 @@ impl Search {
         requires begun { IsMoveBegun self.old begun.old around.now }
         requires last { length begun.old.m.signs + 1 ≡ begun.old.next.wanted }
         requires barred { IsTrue next.barred → BarsNext self.old begun.old next.sign }
-        ensures all { (w : Moves) → IsNormalSought self.old.order w
-            → GoesOnBy self.old.board begun.old.m.count (begun.old.m.signs ++ next.sign ∷ []) w
-            → S.has_met leaves.new w }
-        ensures kept { KeepsMet S.has_met S.fixed leaves.old leaves.new }
-        ensures same { IsUnchanged self.old begun.old self.new begun.new }
+        ensures { MeetsAllBy S.has_met S.fixed (begun.old.m.signs ++ next.sign ∷ []) self.old begun.old leaves.old
+            self.new begun.new leaves.new }
     {
         if next.barred {
             return;
@@ -300,15 +280,10 @@ impl Search {
     // Meets those that go on by the move, which has all its signs.
     #[cycle(search)]
     fn with_move<S: Leaves>(&mut self, begun: &Begun, valley: &ValleyPlace, leaves: &mut S)
-        requires least { 3 ≤ self.old.order }
-        requires most { self.old.order ≤ 16 }
-        requires few { order_of self.old.board + begun.now.m.count < self.old.order }
-        requires legal { IsLegalMove (outline_of self.old.board) begun.now.m }
+        requires next { IsNextMove self.old.order self.old.board begun.now.m }
         requires valley { IsValleyPlace self.old.board valley.now }
-        ensures all { (w : Moves) → IsNormalSought self.old.order w → GoesOn (self.old.board ++ begun.now.m ∷ []) w
-            → S.has_met leaves.new w }
-        ensures kept { KeepsMet S.has_met S.fixed leaves.old leaves.new }
-        ensures same { self.new ≡ self.old }
+        ensures { MeetsAllFrom S.has_met S.fixed (self.old.board ++ begun.now.m ∷ []) self.old leaves.old self.new
+            leaves.new }
     {
         if self.bars_move(begun, valley) {
             return;

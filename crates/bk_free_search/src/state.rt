@@ -11,7 +11,7 @@ ghost use Rattle.bk_free_search.specs.declared.asking.Beside.{Beside as BesideSe
 ghost use Rattle.bk_word.specs.Outline.{open_side};
 ghost use Rattle.bk_free_search.specs.Unchanged.{KeepsMet};
 
-use crate::asking::{Next, OpenSides, next_of};
+use crate::asking::{Next, OpenSides};
 use crate::board::Board;
 use crate::last_square::last_move;
 use crate::searching::Leaves;
@@ -67,8 +67,13 @@ pub(crate) fn begin(begun: &mut Begun, sides: OpenSides, count: u8, left: usize)
     ensures count { begun.new.m.count ≡ count }
     ensures signs { begun.new.m.signs ≡ begun.old.m.signs }
 {
+    let own = usize::from(count) - 1 + sides.left;
     begun.m.count = count;
-    begun.next = next_of(sides, count, left);
+    begun.next = Next {
+        wanted: own + sides.right,
+        own,
+        left,
+    };
 }
 
 /// The move with one sign more.

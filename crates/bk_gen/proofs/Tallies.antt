@@ -7,7 +7,7 @@ use Rattle.bk_gen.proofs.SampleLaws.{sample_kept}
 use Rattle.bk_report.specs.Trial.{trial_line}
 use Rattle.bk_report.specs.declared.trial.TrialCounts.{TrialCounts}
 use Rattle.bk_gen.specs.Counting.{CountsOn}
-use Rattle.bk_gen.specs.TrialLine.{IsTally, IsTrialLine, squares_below, tiling_at}
+use Rattle.bk_gen.specs.TrialLine.{IsTrialTally, IsTrialLine, squares_below, tiling_at}
 use Rattle.bk_gen.proofs.Counted.{no_more_than, one_count}
 
 squares_few : (seed n : ℕ) → squares_below seed n ≤ n * 200
@@ -22,7 +22,7 @@ pub record AreFew (n : ℕ) (counts : TrialCounts) : Type 0 where
   pub squares : counts.squares ≤ n * 200
 
 -- the counts of a tally are at most what so many trial codes can have
-pub tally_few : (seed n : ℕ) (counts : TrialCounts) → IsTally seed n counts → AreFew n counts
+pub tally_few : (seed n : ℕ) (counts : TrialCounts) → IsTrialTally seed n counts → AreFew n counts
 tally_few seed n counts tally = record {
   accepted = omega (arith, tally.all_accepted);
   perfect = no_more_than (λ k. IsPerfect (tiling_at seed k)) n counts.perfect tally.perfects;
@@ -38,14 +38,14 @@ pub record IsCounted (t : Tiling) (before after : TrialCounts) : Type 0 where
   pub squares : after.squares ≡ before.squares + order t
 
 -- a tally with the next trial code counted is a tally of one place more
-pub tally_more : (seed n : ℕ) (before after : TrialCounts) (t : Tiling) → t ≡ tiling_at seed n → IsTally seed n before → IsCounted t before after
-    → IsTally seed (n + 1) after
-tally_more seed n before after t same tally counted = subst (λ (m : ℕ). IsTally seed m after) (omega arith) more
+pub tally_more : (seed n : ℕ) (before after : TrialCounts) (t : Tiling) → t ≡ tiling_at seed n → IsTrialTally seed n before → IsCounted t before after
+    → IsTrialTally seed (n + 1) after
+tally_more seed n before after t same tally counted = subst (λ (m : ℕ). IsTrialTally seed m after) (omega arith) more
   where
     is : IsCounted (tiling_at seed n) before after
     is = subst (λ (u : Tiling). IsCounted u before after) same counted
 
-    more : IsTally seed (suc n) after
+    more : IsTrialTally seed (suc n) after
     more = record {
       all_accepted = omega (arith, tally.all_accepted, is.accepted);
       perfects = (before.perfect, tally.perfects, is.perfect);
@@ -54,7 +54,7 @@ tally_more seed n before after t same tally counted = subst (λ (m : ℕ). IsTal
     }
 
 -- a seed and a count have one tally
-one_tally : (seed n : ℕ) (c d : TrialCounts) → IsTally seed n c → IsTally seed n d → c ≡ d
+one_tally : (seed n : ℕ) (c d : TrialCounts) → IsTrialTally seed n c → IsTrialTally seed n d → c ≡ d
 one_tally seed n c d a b =
     let accepted : c.accepted ≡ d.accepted = a.all_accepted ∙ sym b.all_accepted in
     let perfects : c.perfect ≡ d.perfect = one_count (λ k. IsPerfect (tiling_at seed k)) n c.perfect d.perfect a.perfects b.perfects in

@@ -18,7 +18,7 @@ squares_below seed zero = 0
 squares_below seed (suc n) = squares_below seed n + order (tiling_at seed n)
 
 -- what is counted of the trial codes at the places below n: all of them are accepted
-pub record IsTally (seed n : ℕ) (counts : TrialCounts) : Type 0 where
+pub record IsTrialTally (seed n : ℕ) (counts : TrialCounts) : Type 0 where
   pub all_accepted : counts.accepted ≡ n
   pub perfects : HoldsAtSoMany (λ k. IsPerfect (tiling_at seed k)) n counts.perfect
   pub simples : HoldsAtSoMany (λ k. IsSimple (tiling_at seed k)) n counts.simple
@@ -27,5 +27,5 @@ pub record IsTally (seed n : ℕ) (counts : TrialCounts) : Type 0 where
 -- trial: the line about the trial codes of a seed at the places below n
 pub record IsTrialLine (seed n : ℕ) (bytes : List ℕ) : Type 0 where
   pub counts : TrialCounts
-  pub tally : IsTally seed n counts
+  pub tally : IsTrialTally seed n counts
   pub text : bytes ≡ trial_line seed n counts

@@ -31,8 +31,8 @@ impl Model for Growing {
 
 impl Growing {
     ghost use Rattle.bk_tiling.specs.CodeOrder.{in_code_order};
-    ghost use Rattle.bk_gen.specs.Attaching.{next_side, with_above, with_below, with_left, with_next, with_right};
-    ghost use Rattle.bk_gen.specs.Growing.{IsGrowing};
+    ghost use Rattle.bk_gen.specs.Attaching.{next_side, with_next};
+    ghost use Rattle.bk_gen.specs.Growing.{IsGrowing, with_behind, with_in_front};
 
     // The rectangle tiled by these squares.
     pub(crate) fn of(width: u64, height: u64, squares: &[Square]) -> Growing
@@ -74,66 +74,39 @@ impl Growing {
         requires side { next_side v turn self.old ≤ LONGEST_SIDE }
         ensures { self.new ≡ with_next v turn self.old }
     {
+        let (width, height) = (self.width, self.height);
+        let (wide, high) = (width + height, height + width);
         match (goes_up_or_down(v, turn), is_set(v, turn % 64)) {
-            (false, false) => self.attach_right(),
-            (false, true) => self.attach_left(),
-            (true, false) => self.attach_below(),
-            (true, true) => self.attach_above(),
+            (false, false) => self.put_behind(width, 0, height, wide, height),
+            (false, true) => self.put_in_front(height, height, 0, wide, height),
+            (true, false) => self.put_behind(0, height, width, width, high),
+            (true, true) => self.put_in_front(width, 0, width, width, high),
         }
     }
 
-    fn attach_right(&mut self)
+    // Puts a square behind the others, which makes a rectangle of this size.
+    fn put_behind(&mut self, x: u64, y: u64, s: u64, width: u64, height: u64)
         requires few { length self.old.squares < MOST_SQUARES }
-        requires side { self.old.height ≤ LONGEST_SIDE }
-        ensures { self.new ≡ with_right self.old }
+        requires grows { IsGrowing (with_behind (record { x = x; y = y; s = s }) width height self.old) }
+        ensures { self.new ≡ with_behind (record { x = x; y = y; s = s }) width height self.old }
     {
-        self.squares.push(Square {
-            x: self.width,
-            y: 0,
-            s: self.height,
-        });
-        self.width += self.height;
+        self.squares.push(Square { x, y, s });
+        self.width = width;
+        self.height = height;
     }
 
-    fn attach_left(&mut self)
+    // The same in the left upper corner, once the others are moved to the right or down.
+    fn put_in_front(&mut self, s: u64, right: u64, down: u64, width: u64, height: u64)
         requires few { length self.old.squares < MOST_SQUARES }
-        requires side { self.old.height ≤ LONGEST_SIDE }
-        ensures { self.new ≡ with_left self.old }
+        requires right { right ≤ LONGEST_SIDE }
+        requires down { down ≤ LONGEST_SIDE }
+        requires grows { IsGrowing (with_in_front s right down width height self.old) }
+        ensures { self.new ≡ with_in_front s right down width height self.old }
     {
-        move_all(self.squares.as_mut_slice(), self.height, 0);
-        self.squares.push(Square {
-            x: 0,
-            y: 0,
-            s: self.height,
-        });
-        self.width += self.height;
-    }
-
-    fn attach_below(&mut self)
-        requires few { length self.old.squares < MOST_SQUARES }
-        requires side { self.old.width ≤ LONGEST_SIDE }
-        ensures { self.new ≡ with_below self.old }
-    {
-        self.squares.push(Square {
-            x: 0,
-            y: self.height,
-            s: self.width,
-        });
-        self.height += self.width;
-    }
-
-    fn attach_above(&mut self)
-        requires few { length self.old.squares < MOST_SQUARES }
-        requires side { self.old.width ≤ LONGEST_SIDE }
-        ensures { self.new ≡ with_above self.old }
-    {
-        move_all(self.squares.as_mut_slice(), 0, self.width);
-        self.squares.push(Square {
-            x: 0,
-            y: 0,
-            s: self.width,
-        });
-        self.height += self.width;
+        move_all(self.squares.as_mut_slice(), right, down);
+        self.squares.push(Square { x: 0, y: 0, s });
+        self.width = width;
+        self.height = height;
     }
 
     // The tiling, with its squares in code order.

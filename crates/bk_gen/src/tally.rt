@@ -4,7 +4,7 @@ ghost use Rattle.std.specs.Prelude.{IsTrue, ◌+◌, ◌<◌, ◌^◌, ◌↔◌
 ghost use Rattle.bk_tiling.specs.Tiling.{order};
 ghost use Rattle.bk_simple.specs.Simple.{IsPerfect, IsSimple};
 ghost use Rattle.bk_gen.specs.Counting.{CountsOn};
-ghost use Rattle.bk_gen.specs.TrialLine.{IsTally};
+ghost use Rattle.bk_gen.specs.TrialLine.{IsTrialTally};
 
 use crate::laying::laid_again;
 use bk_grammar::AnswerBuffer;
@@ -14,7 +14,7 @@ use bk_tiling::Tiling;
 
 // What is counted of the trial codes of a seed at the places below the count. The buffer gets their texts.
 pub(crate) fn tally_of(seed: u64, count: u32, text: &mut AnswerBuffer) -> TrialCounts
-    ensures { IsTally seed count result }
+    ensures { IsTrialTally seed count result }
 {
     let mut counts = TrialCounts {
         accepted: 0,

@@ -219,12 +219,6 @@ pub slice_get-only_item : (xs : List ℕ) (k q x : ℕ) → length xs ≡ 1 → 
 slice_get-only_item xs zero q x one e f = some-injective x q (sym f ∙ e)
 slice_get-only_item xs (suc k) q x one e f = absurd (omega (arith, one, got_low xs (suc k) x f))
 
--- what is got at a place of a mapped list is the image of what is read
-pub slice_get-map_get_or : {A B : Type 0} (f : A → B) (xs : List A) (i : ℕ) (d : A) → i < length xs → slice_get (map f xs) i ≡ Some (f (get_or xs i d))
-slice_get-map_get_or f [] i d h = absurd (omega arith)
-slice_get-map_get_or f (x ∷ xs) zero d h = refl
-slice_get-map_get_or f (x ∷ xs) (suc i) d h = slice_get-map_get_or f xs i d (omega arith)
-
 -- the first items, with the next one
 pub take-snoc_next : {A : Type 0} (xs : List A) (i : ℕ) (x : A) → slice_get xs i ≡ Some x → take (i + 1) xs ≡ take i xs ++ x ∷ []
 take-snoc_next xs i x e = (take_at_read xs i x (slice_get_within xs i x e)).1 ∙ ap (λ y. take i xs ++ y ∷ []) (get_or_from_slice_get xs i x x e)

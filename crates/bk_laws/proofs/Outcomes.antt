@@ -1,7 +1,6 @@
 -- Values that may be missing, and results that may be errors.
-use Rattle.std.specs.Option.{ok_or}
-use Rattle.std.specs.Prelude.{Bool, IfErr, IfNone, IfOk, IfSome, IsOk, IsSomeAnd, MatchOption, OnErr, OnOk, cond, option_to_list}
-use Rattle.std.specs.Result.{IsErrAnd, is_err, result_ok}
+use Rattle.std.specs.Prelude.{Bool, IfNone, IfOk, IfSome, IsOk, IsSomeAnd, MatchOption, OnErr, OnOk, cond, option_to_list}
+use Rattle.std.specs.Result.{IsErrAnd, is_err}
 use Rattle.std.proofs.Common.{Err, None, Ok, Option, Result, Some, ap, arith, false, is_some, length, nat_lt, refl, subst, sym, true, true≢false, ℕ, ◌<◌, ◌∙◌}
 use Rattle.std.proofs.Common.{◌≡◌, ◌≤◌}
 use Rattle.std.proofs.lemmas.Bool.Decides.{nat_tests}
@@ -37,33 +36,14 @@ pub if_none-weaken : {A : Type 0} (o : Option A) (P Q : Type 0) → (P → Q) �
 if_none-weaken None P Q f p = f p
 if_none-weaken (Some a) P Q f p = p
 
--- what follows where there is no value holds where the fault stands for it
-pub if_err-of_if_none : {A E : Type 0} (o : Option A) (fault : E) (P Q : Type 0) → (P → Q) → IfNone o P → IfErr (ok_or o fault) (λ _. Q)
-if_err-of_if_none None fault P Q f p = f p
-if_err-of_if_none (Some a) fault P Q f p = tt
-
 -- what holds anyway holds where there is no value
 pub if_none-intro : {A : Type 0} (o : Option A) (P : Type 0) → P → IfNone o P
 if_none-intro None P p = p
 if_none-intro (Some a) P p = tt
 
--- a value isn't none
-pub some-is_not_none : {A : Type 0} (a : A) → Some a ≡ None → ⊥
-some-is_not_none a e = cc
-
--- where a result is no success, what holds of a fault holds
-pub if_err-apply : {A E : Type 0} (r : Result A E) (P : Type 0) → result_ok r ≡ None → IfErr r (λ _. P) → P
-if_err-apply (Ok a) P none p = absurd (some-is_not_none a none)
-if_err-apply (Err e) P none p = p
-
 -- anything holds of no value
 pub if_some-of_none : {A : Type 0} (o : Option A) (P : A → Type 0) → o ≡ None → IfSome o P
 if_some-of_none o P e = subst (λ v. IfSome v P) (sym e) tt
-
--- a success has what is ensured of it
-pub if_ok-apply : {A E : Type 0} (r : Result A E) (P : A → Type 0) (a : A) → result_ok r ≡ Some a → IfOk r P → P a
-if_ok-apply (Ok b) P a e h = let same : b ≡ a = cc in subst P same h
-if_ok-apply (Err fault) P a e h = absurd (cc)
 
 -- a value of which something holds is there, with that
 pub is_some_and-intro : {A : Type 0} (P : A → Type 0) (o : Option A) (x : A) → o ≡ Some x → P x → IsSomeAnd o P

@@ -1,8 +1,7 @@
 -- Tests that count: 1 where they pass, 0 where they fail.
 use Rattle.std.specs.Prelude.{◌/◌}
-use Rattle.std.proofs.Common.{Bool, ap, arith, cond, false, inl, inr, nat_eq, nat_le, nat_lt, not, refl, suc, true, zero, ℕ, ◌&&◌, ◌*◌, ◌+◌, ◌-◌, ◌<◌, ◌==◌}
+use Rattle.std.proofs.Common.{Bool, ap, arith, cond, false, nat_eq, nat_le, nat_lt, not, refl, suc, true, zero, ℕ, ◌&&◌, ◌*◌, ◌+◌, ◌-◌, ◌<◌, ◌==◌}
 use Rattle.std.proofs.Common.{◌≡◌, ◌≢◌, ◌≤◌, ◌⊎◌}
-use Rattle.std.proofs.lemmas.Bool.{cases_eq}
 use Rattle.std.proofs.lemmas.Bool.Decides.{nat_tests}
 
 -- a test counts at most 1
@@ -79,14 +78,6 @@ cond_count-nat_eq_same m n e = grind (arith, nat_tests)
 -- the test of two numbers that differ counts 0
 pub cond_count-nat_eq_other : (m n : ℕ) → (m ≡ n → ⊥) → ◌≡◌ {A = ℕ} (cond (nat_eq m n) 1 0) 0
 cond_count-nat_eq_other m n e = grind (arith, nat_tests)
-
--- two numbers are equal and count 1, or differ and count 0
-pub cond_count-nat_eq_cases : (a b : ℕ) → ((a ≡ b) × (cond {A = ℕ} (nat_eq a b) 1 0 ≡ 1)) ⊎ ((a ≡ b → ⊥) × (cond {A = ℕ} (nat_eq a b) 1 0 ≡ 0))
-cond_count-nat_eq_cases a b = on (cases_eq a b)
-  where
-    on : (a ≡ b) ⊎ (a ≡ b → ⊥) → ((a ≡ b) × (cond {A = ℕ} (nat_eq a b) 1 0 ≡ 1)) ⊎ ((a ≡ b → ⊥) × (cond {A = ℕ} (nat_eq a b) 1 0 ≡ 0))
-    on (inl e) = inl (e, cond_count-nat_eq_same a b e)
-    on (inr e) = inr (e, cond_count-nat_eq_other a b e)
 
 -- a number that counts where two numbers are equal counts if they are
 pub cond-of_equal : (x y c : ℕ) → x ≡ y → ◌≡◌ {A = ℕ} (cond (x == y) c 0) c

@@ -87,8 +87,8 @@ length_under (q ∷ squares) = omega (arith, length-append (runs_under squares) 
 module _ (t : Tiling) (laid : List Square) (o : Outline) (tiling : IsTiling t) (fills : FillsFromTop t laid) (is : IsOutline t.width laid o)
     (low : o.valley.level < t.height) where
   -- the valley of the outline is the leftmost valley of what is laid
-  pub found : IsLeftmostValley t.width laid (segment_of o.valley)
-  found = leftmost_in_outline t.width laid o is
+  pub valley_is_leftmost : IsLeftmostValley t.width laid (segment_of o.valley)
+  valley_is_leftmost = leftmost_in_outline t.width laid o is
 
   some_columns : o.valley.x < o.valley.end
   some_columns = (((is.runs).run).run).some
@@ -111,7 +111,7 @@ module _ (t : Tiling) (laid : List Square) (o : Outline) (tiling : IsTiling t) (
       begins q a b c = grind (arith, nat_tests)
 
       hangs_too : (q : Square) → IsOneOf q t.squares → begins_under o.valley q ≡ true → hangs_under (segment_of o.valley) q ≡ true
-      hangs_too q h e = hangs t laid (segment_of o.valley) tiling fills found low q.x q (after q e) (omega (arith, before q e)) h
+      hangs_too q h e = hangs t laid (segment_of o.valley) tiling fills valley_is_leftmost low q.x q (after q e) (omega (arith, before q e)) h
           (covers_from q.x o.valley.level q (omega arith) (omega (arith, side_of t tiling q h)) (omega (arith, level_of q e))
           (omega (arith, level_of q e, side_of t tiling q h)))
 
@@ -130,23 +130,23 @@ module _ (t : Tiling) (laid : List Square) (o : Outline) (tiling : IsTiling t) (
   ends = omega arith
 
   -- the runs beside the valley meet the runs under its squares
-  pub meets : Meet t.width (laid ++ squares_under t (segment_of o.valley)) o.left.items (o.right.items ++ runs_under (squares_under t (segment_of o.valley)))
-  meets = record {
+  pub runs_meet : Meet t.width (laid ++ squares_under t (segment_of o.valley)) o.left.items (o.right.items ++ runs_under (squares_under t (segment_of o.valley)))
+  runs_meet = record {
     column = o.valley.x;
     falls = falls_stay laid (laid ++ squares_under t (segment_of o.valley)) 0 o.left.items o.valley.x
-        (λ c h. same_depth t laid (segment_of o.valley) tiling fills found low c (inl h)) (is.runs).falls;
+        (λ c h. same_depth t laid (segment_of o.valley) tiling fills valley_is_leftmost low c (inl h)) (is.runs).falls;
     rest = under_meets (laid ++ squares_under t (segment_of o.valley)) (squares_under t (segment_of o.valley)) o.valley.x
         (o.valley.x + (o.valley.end - o.valley.x)) o.right.items t.width
-        (under_chain t laid (segment_of o.valley) tiling fills found low) run
+        (under_chain t laid (segment_of o.valley) tiling fills valley_is_leftmost low) run
         (right_stays laid (laid ++ squares_under t (segment_of o.valley)) (o.valley.x + (o.valley.end - o.valley.x)) o.right.items t.width
-        (λ c h. same_depth t laid (segment_of o.valley) tiling fills found low c (inr h))
+        (λ c h. same_depth t laid (segment_of o.valley) tiling fills valley_is_leftmost low c (inr h))
         (subst (λ (x : ℕ). RunsFromRight laid x o.right.items t.width) (sym ends) (is.runs).rest));
   }
     where
       run : (q : Square) → IsOneOf q (squares_under t (segment_of o.valley)) → IsRun (laid ++ squares_under t (segment_of o.valley)) (run_under q)
       run q h = record {
-        some = omega (arith, side_of t tiling q (in_tiling t laid (segment_of o.valley) tiling fills found low q h));
-        level = λ c lo hi. new_depth t laid (segment_of o.valley) tiling fills found low q h c lo hi;
+        some = omega (arith, side_of t tiling q (in_tiling t laid (segment_of o.valley) tiling fills valley_is_leftmost low q h));
+        level = λ c lo hi. new_depth t laid (segment_of o.valley) tiling fills valley_is_leftmost low q h c lo hi;
       }
 
   -- the levels of the runs beside the valley are the depths there

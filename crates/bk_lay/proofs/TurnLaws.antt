@@ -14,7 +14,7 @@ use Rattle.bk_word.specs.Word.{Move, Word, order_of}
 use Rattle.bk_lay.proofs.Depicting.{some_signs}
 use Rattle.bk_lay.proofs.Filling.{in_tiling, valley_is_filled}
 use Rattle.bk_lay.proofs.MeetingRuns.{leftmost_in_outline, segment_of}
-use Rattle.bk_lay.proofs.NextTurn.{few_levels, found, meets, same_bottoms, same_squares}
+use Rattle.bk_lay.proofs.NextTurn.{few_levels, valley_is_leftmost, runs_meet, same_bottoms, same_squares}
 use Rattle.bk_lay.proofs.WordPlay.{tiling_word_is_complete}
 use Rattle.bk_lay.proofs.Words.{all_full, nothing_laid, some_moves_follow}
 use Rattle.bk_lay.specs.LevelRuns.{FallingRuns, IsOutline, Meet, RunsFromRight, begins_under, bottoms_of, last_level, runs_under}
@@ -48,31 +48,41 @@ module _ (t : Tiling) (kept : IsKept t) where
 
     of_tiling : (q : Square) → IsOneOf q squares → IsOneOf q t.squares
     of_tiling q h = in_tiling t turned.laid (segment_of o.valley) kept.tiling turned.fills
-        (found t turned.laid o kept.tiling turned.fills turned.outline low) low q (subst (IsOneOf q) under h)
+        (valley_is_leftmost t turned.laid o kept.tiling turned.fills turned.outline low) low q (subst (IsOneOf q) under h)
 
     -- at most 200 squares are found under a valley
-    pub few_squares : length squares ≤ 200
+    few_squares : length squares ≤ 200
     few_squares = let few = kept.few in
         omega (arith, ap length is, length-filter (begins_under o.valley) t.squares, count_by-le-length (begins_under o.valley) t.squares)
 
     -- the right end of each is a number of the machine
-    pub right_fits : AllByRecursion (λ q. q.x + q.s < 2 ^ 64) squares
+    right_fits : AllByRecursion (λ q. q.x + q.s < 2 ^ 64) squares
     right_fits = all_from (λ q. q.x + q.s < 2 ^ 64) squares (λ q h. let w = (within_of t kept.tiling q (of_tiling q h)).right in let fits =
         kept.width_fits in omega arith)
 
     -- the bottom of each square is a number of the machine
-    pub bottom_fits : AllByRecursion (λ q. q.y + q.s < 2 ^ 64) squares
+    bottom_fits : AllByRecursion (λ q. q.y + q.s < 2 ^ 64) squares
     bottom_fits = all_from (λ q. q.y + q.s < 2 ^ 64) squares (λ q h. let w = (within_of t kept.tiling q (of_tiling q h)).bottom in let fits =
         kept.height_fits in omega arith)
 
     -- some square is found under the valley
-    pub some_squares : 0 < length squares
+    some_squares : 0 < length squares
     some_squares = omega (
       arith,
       ap length under,
       (valley_is_filled t turned.laid (segment_of o.valley) kept.tiling turned.fills
-          (found t turned.laid o kept.tiling turned.fills turned.outline low) low).0,
+          (valley_is_leftmost t turned.laid o kept.tiling turned.fills turned.outline low) low).0,
     )
+
+    -- the squares that are found are some, and few, and their ends are numbers of the machine
+    pub record AreUnderValley : Type 0 where
+      pub some : 0 < length squares
+      pub few : length squares ≤ 200
+      pub right : AllByRecursion (λ q. q.x + q.s < 2 ^ 64) squares
+      pub bottom : AllByRecursion (λ q. q.y + q.s < 2 ^ 64) squares
+
+    pub under_valley : AreUnderValley
+    under_valley = record { some = some_squares; few = few_squares; right = right_fits; bottom = bottom_fits }
 
     module _ (m : Move) (count : m.count ≡ length squares) (signs : m.signs
         ≡ signs_between (last_level o.left.items ++ bottoms_of squares ++ last_level o.right.items)) where
@@ -87,7 +97,7 @@ module _ (t : Tiling) (kept : IsKept t) where
               ∙ ap signs_between (sym (same_bottoms t turned.laid o kept.tiling turned.fills turned.outline low))
 
       goes_on : (rest : Word) → MovesFollow t (turned.laid ++ squares_under t (segment_of o.valley)) rest → MovesFollow t [] (w ++ m ∷ rest)
-      goes_on rest f = turned.follows (m ∷ rest) (segment_of o.valley, found t turned.laid o kept.tiling turned.fills turned.outline low, low, same_move, f)
+      goes_on rest f = turned.follows (m ∷ rest) (segment_of o.valley, valley_is_leftmost t turned.laid o kept.tiling turned.fills turned.outline low, low, same_move, f)
 
       -- the order of the word so far and of the move is at most that of the tiling
       pub order_fits : order_of w + m.count ≤ length t.squares
@@ -101,7 +111,7 @@ module _ (t : Tiling) (kept : IsKept t) where
           more : (rest : Word) × MovesFollow t (turned.laid ++ squares_under t (segment_of o.valley)) rest
           more = some_moves_follow t kept.tiling (turned.laid ++ squares_under t (segment_of o.valley))
               (valley_is_filled t turned.laid (segment_of o.valley) kept.tiling turned.fills
-              (found t turned.laid o kept.tiling turned.fills turned.outline low) low).1
+              (valley_is_leftmost t turned.laid o kept.tiling turned.fills turned.outline low) low).1
 
       pub can_stand : CanStand m
       can_stand = record {
@@ -136,10 +146,10 @@ module _ (t : Tiling) (kept : IsKept t) where
       next_turn p known fewer = record {
         laid = turned.laid ++ squares_under t (segment_of o.valley);
         fills = (valley_is_filled t turned.laid (segment_of o.valley) kept.tiling turned.fills
-            (found t turned.laid o kept.tiling turned.fills turned.outline low) low).1;
+            (valley_is_leftmost t turned.laid o kept.tiling turned.fills turned.outline low) low).1;
         outline = known t.width (turned.laid ++ squares_under t (segment_of o.valley))
             (subst (λ (l : List Square). Meet t.width (turned.laid ++ squares_under t (segment_of o.valley)) o.left.items
-            (o.right.items ++ runs_under l)) (sym under) (meets t turned.laid o kept.tiling turned.fills turned.outline low));
+            (o.right.items ++ runs_under l)) (sym under) (runs_meet t turned.laid o kept.tiling turned.fills turned.outline low));
         follows = λ rest f. subst (MovesFollow t []) (sym (append_assoc w (m ∷ []) rest)) (goes_on rest f);
         room = let before = turned.room in omega (arith, order_more, count);
       }
@@ -169,9 +179,9 @@ outline_of_nothing width o some left right valley = record {
     top = ap (λ (r : Run). r.level) valley
 
 -- each turn comes nearer to the tiling's order
-pub nearer : (t : Tiling) (w v : Word) (o : Outline) (m : Move) → IsTurn t w o m → v ≡ w ++ m ∷ []
+pub turn_comes_nearer : (t : Tiling) (w v : Word) (o : Outline) (m : Move) → IsTurn t w o m → v ≡ w ++ m ∷ []
     → length t.squares - order_of v < length t.squares - order_of w
-nearer t w v o m turn is = omega (
+turn_comes_nearer t w v o m turn is = omega (
   arith,
   ap order_of is,
   sum_by-append (λ (m : Move). m.count) w (m ∷ []),

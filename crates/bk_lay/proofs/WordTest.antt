@@ -1,8 +1,8 @@
 -- A test of a word against a tiling: the valleys are given, and each is tested.
 use Rattle.std.proofs.Common.{Bool, List, [], arith, nat_eq, nat_le, nat_lt, not, refl, subst, suc, true, zero, ℕ, ◌++◌, ◌+◌, ◌<◌}
-use Rattle.std.proofs.Common.{◌||◌, ◌∷◌, ◌≡◌}
+use Rattle.std.proofs.Common.{◌&&◌, ◌||◌, ◌∷◌, ◌≡◌}
 use Rattle.std.proofs.lemmas.Bool.Decides.{nat_tests}
-use Rattle.std.proofs.lemmas.Bool.{eqb-true, leb-true, ltb-true}
+use Rattle.std.proofs.lemmas.Bool.{and_parts, eqb-true, leb-true, ltb-true}
 use Rattle.bk_laws.proofs.Tests.{after_of, all_below, each_below}
 use Rattle.bk_tiling.proofs.LevelTest.{level_from_tests}
 use Rattle.bk_tiling.specs.Column.{IsLevel, depth}
@@ -78,3 +78,31 @@ abbrev pub by_tests : (width : ℕ) (laid : List Square) (v : Segment) → nat_l
     → all_below (λ c. nat_le (depth laid (suc c)) (depth laid c)) v.x ≡ true → deeper_before laid v.level v.x ≡ true
     → not (nat_lt (v.x + v.width) width) || nat_lt v.level (depth laid (v.x + v.width)) ≡ true → PassesAsValley width laid v
 by_tests width laid v a b c d e f = record { some = a; within = b; level = c; falls = d; before = e; after = f }
+
+-- whether a segment passes as the leftmost valley
+abbrev pub passes : ℕ → List Square → Segment → Bool
+passes width laid v =
+    nat_lt 0 v.width && (nat_le (v.x + v.width) width && (all_below (λ k. nat_eq (depth laid (v.x + k)) v.level) v.width
+    && (all_below (λ c. nat_le (depth laid (suc c)) (depth laid c)) v.x && (deeper_before laid v.level v.x
+    && (not (nat_lt (v.x + v.width) width) || nat_lt v.level (depth laid (v.x + v.width)))))))
+
+-- whether all valleys pass at their turns
+abbrev pub all_pass : Tiling → List Square → List Segment → Bool
+all_pass t laid [] = all_below (λ c. nat_eq (depth laid c) t.height) t.width
+all_pass t laid (v ∷ valleys) = passes t.width laid v && (nat_lt v.level t.height && all_pass t (laid ++ squares_under t v) valleys)
+
+-- then they do
+pub passing_by_test : (t : Tiling) (laid : List Square) (valleys : List Segment) → all_pass t laid valleys ≡ true → ArePassing t laid valleys
+passing_by_test t laid [] e = e
+passing_by_test t laid (v ∷ valleys) e =
+    let first = and_parts _ _ e in
+    let some = and_parts _ _ first.0 in
+    let within = and_parts _ _ some.1 in
+    let level = and_parts _ _ within.1 in
+    let falls = and_parts _ _ level.1 in
+    let ends = and_parts _ _ falls.1 in
+    let rest = and_parts _ _ first.1 in (
+      by_tests t.width laid v some.0 within.0 level.0 falls.0 ends.0 ends.1,
+      rest.0,
+      passing_by_test t (laid ++ squares_under t v) valleys rest.1,
+    )

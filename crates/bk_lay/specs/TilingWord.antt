@@ -1,4 +1,5 @@
--- The word of a tiling: its squares laid valley by valley, always under the leftmost valley.
+-- The word of a tiling: its squares laid valley by valley, always under the leftmost valley. (A code goes by the
+-- highest free stretch; a valley is only less deep than what is beside it.)
 -- Example (WordExamples): the words of the rectangles 65x47, 33x32 and 69x61, valley by valley.
 use Rattle.std.specs.Prelude.{Bool, List, [], cond, filter, length, map, nat_eq, nat_le, nat_lt, suc, zero, ℕ, ◌&&◌}
 use Rattle.std.specs.Prelude.{◌++◌, ◌+◌, ◌<◌, ◌∷◌, ◌≡◌, ◌≤◌}

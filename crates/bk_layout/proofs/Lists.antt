@@ -3,7 +3,9 @@ pub mod Ascending
 pub mod AscendingPlaces
 pub mod Counting
 pub mod Drops
+pub mod LayoutTables
 pub mod Measure
+pub mod NodeLists
 pub mod NumberedLists
 pub mod Pieces
 pub mod SameNumbers

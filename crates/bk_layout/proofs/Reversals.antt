@@ -1,8 +1,6 @@
 -- Squares reversed: a layout has, up to reversed squares, a free word that keeps rule R, and stays sound.
 pub mod BadMove
 pub mod EvenAbove
-pub mod FitsFiveExamples
-pub mod ListsOfFiveExamples
 pub mod MovesBoth
 pub mod NodesUpToReversals
 pub mod NumbersKept

@@ -1,5 +1,5 @@
 -- A layout with a square reversed fits, where that can be done. A statement alone; it is proved apart.
--- Example (FitsFiveExamples): a layout of five squares fits, and so does it with square 2 reversed.
+-- Example (ReversalExamples): a layout of five squares fits, and so does it with square 2 reversed.
 use Rattle.std.specs.Prelude.{ℕ}
 use Rattle.bk_layout.specs.Layout.{Fits, Layout}
 use Rattle.bk_layout.specs.Reversal.{CanReverse, IsUpToReversals, reversed}

@@ -2,13 +2,12 @@
 -- flow of the word's net. Statements alone; they are proved apart.
 -- Example (SignedWordExamples): of the squares 2, 1, 1 with the first reversed the signed sides are -2, 1, 1.
 use Rattle.std.specs.Prelude.{Bool, cond, map, neg_ℤ, pos, slice_index_or, ℕ, ℤ, ◌-ℤ◌}
-use Rattle.bk_tiling.specs.Tiling.{IsTiling, Tiling, order}
+use Rattle.bk_tiling.specs.Tiling.{IsTiling, Tiling, order, square_of}
 use Rattle.bk_net.specs.Diagram.{node_levels}
 use Rattle.bk_net.specs.Flow.{Flow, IsOneFlow}
 use Rattle.bk_word.specs.Play.{numbers_from}
 use Rattle.bk_word.specs.Word.{Word}
 use Rattle.bk_word_net.specs.WordNet.{net_of_word}
-use Rattle.bk_layout.specs.TilingLayout.{square_of}
 use Rattle.bk_layout.specs.SignedWord.{IsSignedWordOf}
 
 -- the side, negative where the square is turned

@@ -3,7 +3,7 @@
 -- Example (SignedWordExamples): in the rectangle 3x2 of the squares 2, 1, 1 with the first reversed, its edges are
 -- taken as 2 and 0.
 use Rattle.std.specs.Prelude.{Bool, List, Some, [], cond, slice_get, suc, zero, ℕ, ◌+◌, ◌∷◌, ◌≡◌}
-use Rattle.bk_tiling.specs.Tiling.{IsTiling, Tiling, order}
+use Rattle.bk_tiling.specs.Tiling.{IsTiling, Tiling, order, square_of}
 use Rattle.bk_net.specs.Diagram.{smith_diagram}
 use Rattle.bk_net.specs.Net.{Net}
 use Rattle.bk_word.specs.Play.{IsComplete}
@@ -14,7 +14,7 @@ use Rattle.bk_word_net.specs.WordNet.{net_of_word}
 use Rattle.bk_layout.specs.FreeWord.{IsFree}
 use Rattle.bk_layout.specs.Layout.{Fits, Layout}
 use Rattle.bk_layout.specs.LayoutLaws.{IsWordOfLayout}
-use Rattle.bk_layout.specs.TilingLayout.{layout_of, square_of}
+use Rattle.bk_layout.specs.TilingLayout.{layout_of}
 use Rattle.bk_layout.specs.LineNumbers.{square_lines}
 use Rattle.bk_layout.specs.Reversal.{IsUpToReversals}
 

@@ -5,7 +5,7 @@ use Rattle.std.proofs.Common.{[], inl, inr, refl, ◌++◌, ◌∷◌}
 use Rattle.bk_word.specs.declared.Class.{Class}
 use Rattle.bk_word.specs.declared.Class.TheVariants.{Imperfect, Perfect}
 use Rattle.bk_catalogue.proofs.Members.CatalogueExamples.{entry_is, no_perfect, only, row_entry}
-use Rattle.bk_report.specs.declared.listing.Last.TheVariants.{End, Limit}
+use Rattle.bk_report.specs.declared.listing_lines.Last.TheVariants.{End, Limit}
 use Rattle.bk_list.proofs.WholeListing.{a_whole_listing_is_the_catalogue}
 use Rattle.bk_list.specs.Listing.{AreFirst, Catalogue, IsListing, Listing}
 use Rattle.bk_list.specs.ListingLaws.{WritesCatalogue, all_after}

@@ -16,8 +16,8 @@ use Rattle.bk_catalogue.specs.Catalogue.{Entry}
 use Rattle.bk_catalogue.specs.Following.{HasNoneAfter}
 use Rattle.bk_members.specs.Walking.{IsNextMember, WalkState}
 use Rattle.bk_report.specs.Listings.{last_line}
-use Rattle.bk_report.specs.declared.listing.Last.{Last}
-use Rattle.bk_report.specs.declared.listing.Last.TheVariants.{End, Limit, Wide}
+use Rattle.bk_report.specs.declared.listing_lines.Last.{Last}
+use Rattle.bk_report.specs.declared.listing_lines.Last.TheVariants.{End, Limit, Wide}
 use Rattle.bk_list.proofs.Taking.{all_there, first_more, first_none, last_word}
 use Rattle.bk_list.specs.Listing.{AreFirst, Catalogue, EndsBy, IsBelowLimit, IsListing, Listing, line_of}
 use Rattle.bk_list.specs.ListingLaws.{cursor_after}

@@ -11,8 +11,8 @@ use Rattle.bk_word.specs.Word.{Follows, Word}
 use Rattle.bk_catalogue.proofs.TreeOfWords.TreeCounts.{at_least_adds, at_least_fewer}
 use Rattle.bk_catalogue.specs.Tree.{IsAtMostTree, IsNotAfter}
 use Rattle.bk_report.specs.Listings.{last_line}
-use Rattle.bk_report.specs.declared.listing.Last.{Last}
-use Rattle.bk_report.specs.declared.listing.Last.TheVariants.{End, Limit}
+use Rattle.bk_report.specs.declared.listing_lines.Last.{Last}
+use Rattle.bk_report.specs.declared.listing_lines.Last.TheVariants.{End, Limit}
 use Rattle.bk_list.proofs.Continuing.{after_last}
 use Rattle.bk_list.proofs.ListingSteps.{IsListed, first_then, last_line_is, listed_all, listed_limit, members_after, within_then}
 use Rattle.bk_list.proofs.Taking.{last_word}

@@ -10,8 +10,8 @@ use Rattle.bk_word.specs.declared.Sign.{Sign}
 use Rattle.bk_word.specs.declared.Sign.TheVariants.{Above, Even}
 use Rattle.bk_catalogue.proofs.Members.CatalogueExamples.{row_entry, row_word}
 use Rattle.bk_catalogue.specs.Catalogue.{Entry}
-use Rattle.bk_report.specs.declared.listing.Last.{Last}
-use Rattle.bk_report.specs.declared.listing.Last.TheVariants.{End, Limit, Wide}
+use Rattle.bk_report.specs.declared.listing_lines.Last.{Last}
+use Rattle.bk_report.specs.declared.listing_lines.Last.TheVariants.{End, Limit, Wide}
 use Rattle.bk_catalogue.specs.NextMove.{first_move}
 use Rattle.bk_catalogue.specs.Tree.{IsInTree, IsNotAfter}
 use Rattle.bk_list.proofs.ListingExamples.{imperfect_up_to, one_listed}

@@ -1,6 +1,6 @@
 -- Each listing ends in one of three ways.
 use Rattle.std.proofs.Common.{refl}
-use Rattle.bk_report.specs.declared.listing.Last.TheVariants.{End, Limit, Wide}
+use Rattle.bk_report.specs.declared.listing_lines.Last.TheVariants.{End, Limit, Wide}
 use Rattle.bk_list.specs.StoppedListing.{AtEnd, AtLimit, EachListingEndsInOneOfThreeWays}
 
 -- a listing ends at its limit, at the last member, or at a wide word

@@ -4,7 +4,7 @@ use Rattle.std.specs.declared.cmp.Ordering.{Ordering}
 use Rattle.std.specs.declared.cmp.Ordering.TheVariants.{Equal, Greater, Less}
 use Rattle.std.proofs.Common.{Contains, List, [], arith, inl, inr, refl, zero, ◌++◌, ◌∷◌, ◌≡◌, ◌⊎◌}
 use Rattle.bk_word.specs.Word.{Follows, Word, word_cmp}
-use Rattle.bk_word.proofs.FollowLaws.{turned}
+use Rattle.bk_word.proofs.FollowLaws.{greater_follows}
 use Rattle.bk_catalogue.proofs.TreeOfWords.Places.{word_same}
 use Rattle.bk_catalogue.specs.Catalogue.{Entry, IsEntry}
 use Rattle.bk_list.proofs.Continuing.{both, first_or_later}
@@ -29,7 +29,7 @@ module _ (catalogue : Catalogue) (cursor : Word) (e : Entry) (is : IsEntry catal
       → Contains (e ∷ []) f ⊎ (Follows f.word e.word × Unit {0})
   it_or_later f entry h Less c = inr (c, tt)
   it_or_later f entry h Equal c = inl (zero, omega arith, one_entry catalogue.order catalogue.class e f is entry (word_same e.word f.word c))
-  it_or_later f entry h Greater c = absurd (least f entry h (turned e.word f.word c))
+  it_or_later f entry h Greater c = absurd (least f entry h (greater_follows e.word f.word c))
 
   first_one : AreFirst catalogue cursor (e ∷ [])
   first_one = record {

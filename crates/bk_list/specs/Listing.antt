@@ -7,8 +7,8 @@ use Rattle.bk_word.specs.declared.Class.{Class}
 use Rattle.bk_catalogue.specs.Catalogue.{AreAscending, Entry, IsEntry}
 use Rattle.bk_report.specs.Answers.{line}
 use Rattle.bk_report.specs.Listings.{entry_text, last_line}
-use Rattle.bk_report.specs.declared.listing.Last.{Last}
-use Rattle.bk_report.specs.declared.listing.Last.TheVariants.{End, Limit, Wide}
+use Rattle.bk_report.specs.declared.listing_lines.Last.{Last}
+use Rattle.bk_report.specs.declared.listing_lines.Last.TheVariants.{End, Limit, Wide}
 
 -- a catalogue: its order and its class
 pub record Catalogue : Type 0 where
@@ -41,7 +41,7 @@ abbrev pub HasAll : Catalogue → Word → List Entry → Type 0
 HasAll c cursor entries = (e : Entry) → IsEntry c.order c.class e → Follows e.word cursor → Contains entries e
 
 -- how a listing of these entries ends: below its limit, where there is one, because there are no more members; or at
--- its limit. None ends at a wide word (`no_listing_ends_at_a_wide_word`)
+-- its limit, whether there are more or not. None ends at a wide word (`no_listing_ends_at_a_wide_word`)
 abbrev pub EndsBy : Listing → List Entry → Last → Type 0
 EndsBy l entries End = IsBelowLimit l.limit entries × HasAll l.catalogue l.cursor entries
 EndsBy l entries Limit = l.limit ≡ Some (length entries)

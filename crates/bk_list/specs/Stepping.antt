@@ -9,8 +9,8 @@ use Rattle.std.specs.Prelude.{◌⊎◌}
 use Rattle.bk_word.specs.Word.{Word}
 use Rattle.bk_catalogue.specs.Catalogue.{Entry}
 use Rattle.bk_report.specs.Listings.{last_line}
-use Rattle.bk_report.specs.declared.listing.Last.{Last}
-use Rattle.bk_report.specs.declared.listing.Last.TheVariants.{End, Limit, Wide}
+use Rattle.bk_report.specs.declared.listing_lines.Last.{Last}
+use Rattle.bk_report.specs.declared.listing_lines.Last.TheVariants.{End, Limit, Wide}
 use Rattle.bk_catalogue.specs.Tree.{HasAtLeast, IsAtMostTree}
 use Rattle.bk_list.specs.Listing.{AreFirst, EndsBy, IsBelowLimit, Listing, line_of}
 use Rattle.bk_list.specs.ListingLaws.{cursor_after}

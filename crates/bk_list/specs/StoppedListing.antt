@@ -8,8 +8,8 @@ use Rattle.bk_word.specs.Word.{Follows, Word}
 use Rattle.bk_skel.specs.WideWord.{IsWideWordAfter}
 use Rattle.bk_catalogue.specs.Catalogue.{Entry, IsEntry}
 use Rattle.bk_report.specs.Listings.{last_line}
-use Rattle.bk_report.specs.declared.listing.Last.{Last}
-use Rattle.bk_report.specs.declared.listing.Last.TheVariants.{End, Limit, Wide}
+use Rattle.bk_report.specs.declared.listing_lines.Last.{Last}
+use Rattle.bk_report.specs.declared.listing_lines.Last.TheVariants.{End, Limit, Wide}
 use Rattle.bk_list.specs.Listing.{AreFirst, Catalogue, HasAll, IsBelowLimit, IsListing, Listing, line_of}
 
 -- each member after the cursor, and with a word below the bound, is among the entries

@@ -7,7 +7,7 @@ use Rattle.std.specs.Io.KnownBytes.{Appends}
 use Rattle.bk_ports.specs.Causes.{AppendsPrefix}
 use Rattle.bk_word.specs.Word.{Word}
 use Rattle.bk_catalogue.specs.Catalogue.{Entry}
-use Rattle.bk_report.specs.declared.listing.Last.{Last}
+use Rattle.bk_report.specs.declared.listing_lines.Last.{Last}
 use Rattle.bk_list.specs.Listing.{AreFirst, EndsBy, IsBelowLimit, IsListing, Listing, line_of}
 use Rattle.bk_list.specs.ListingLaws.{cursor_after}
 use Rattle.bk_catalogue.specs.Following.{HasNoneAfter}

@@ -3,6 +3,7 @@
 ghost use Rattle.std.specs.Prelude.{IfOk, IsTrue, OnErr, Some, false, ◌-◌, ◌≡◌, ◌≤◌};
 ghost use Rattle.bk_ports.specs.Causes.{HasCause};
 ghost use Rattle.bk_catalogue.specs.Tree.{IsAtMostTree};
+ghost use Rattle.bk_word.specs.declared.TheConstants.{INLINE_ORDER};
 ghost use Rattle.bk_list.specs.Stepping.{AreNextSteps, IsReached, StoppedAtEntry};
 ghost use Rattle.bk_list.specs.Walked.{catalogue_of, listing_of};
 ghost use Rattle.bk_list.specs.Writing.{BeginsListing, HasEntries, IsNext, IsNextBegun};
@@ -16,7 +17,7 @@ use std::sync::ledger::Ledger;
 
 // Room for an entry and for its line.
 #[derive(Drop)]
-pub(crate) struct Room {
+pub(crate) struct EntryRoom {
     pub entry: Entry,
     pub buffer: AnswerBuffer,
 }
@@ -34,10 +35,10 @@ pub(crate) fn write_entries<M: Members, L: Ledger, O: Sink>(
     members: &mut M,
     limit: Option<u64>,
     steps: &mut Steps<L>,
-    room: &mut Room,
+    room: &mut EntryRoom,
     out: &mut O,
 ) -> Result<(Last, u64), Failed>
-    requires { (M.at members.old).order ≤ 16 }
+    requires { (M.at members.old).order ≤ INLINE_ORDER }
     ensures ended { let l = listing_of (M.at members.old) limit in
         IfOk result (λ r. (lines : HasEntries l r.0 r.1 (O.written out.old) (O.written out.new))
         × IsReached l r.0 lines.entries (M.at members.new).cursor (steps.new - steps.old)) }
@@ -73,7 +74,7 @@ fn is_reached(limit: Option<u64>, listed: u64) -> bool
 fn write_next<M: Members, L: Ledger, O: Sink>(
     members: &mut M,
     steps: &mut Steps<L>,
-    room: &mut Room,
+    room: &mut EntryRoom,
     out: &mut O,
 ) -> Result<Next, Failed>
     ensures next { let from = M.at members.old in let then = M.at members.new in
@@ -87,7 +88,7 @@ fn write_next<M: Members, L: Ledger, O: Sink>(
     ensures stopped { let from = M.at members.old in let then = M.at members.new in
         OnErr result (IsAtMostTree from.order from.cursor (Some then.cursor) (steps.new - steps.old)) }
 {
-    let Room { entry, buffer } = room;
+    let EntryRoom { entry, buffer } = room;
     if !members.advance_in(steps, entry) {
         return Ok(Next::Nothing);
     }

@@ -2,11 +2,12 @@
 
 ghost use Rattle.std.specs.Prelude.{IfOk, OnErr, ◌-◌, ◌≡◌, ◌≤◌};
 ghost use Rattle.bk_ports.specs.Causes.{HasCause};
+ghost use Rattle.bk_word.specs.declared.TheConstants.{INLINE_ORDER};
 ghost use Rattle.bk_list.specs.Stepping.{TakesSteps, TookSteps};
 ghost use Rattle.bk_list.specs.Walked.{catalogue_of, listing_of};
 ghost use Rattle.bk_list.specs.Writing.{BeginsListing, StandsBehind, WritesListing};
 
-use crate::entries::{Room, write_entries};
+use crate::entries::{EntryRoom, write_entries};
 use bk_grammar::AnswerBuffer;
 use bk_members::Members;
 use bk_play::Steps;
@@ -35,7 +36,7 @@ pub fn write_listing<M: Members, L: Ledger, O: Sink>(
     steps: &mut Steps<L>,
     out: &mut O,
 ) -> Result<Last, Failed>
-    requires most { (M.at members.old).order ≤ 16 }
+    requires most { (M.at members.old).order ≤ INLINE_ORDER }
     ensures listed { let l = listing_of (M.at members.old) limit in
         IfOk result (λ last. WritesListing l last (O.written out.old) (O.written out.new)) }
     ensures begun { let l = listing_of (M.at members.old) limit in
@@ -50,7 +51,7 @@ pub fn write_listing<M: Members, L: Ledger, O: Sink>(
         (steps.new - steps.old)) }
     ensures catalogue { catalogue_of (M.at members.new) ≡ catalogue_of (M.at members.old) }
 {
-    let mut room = Room {
+    let mut room = EntryRoom {
         entry: members.entry_room(),
         buffer: AnswerBuffer::new(),
     };

@@ -13,7 +13,7 @@ use Rattle.bk_tiling.proofs.Groups.{IsRow}
 use Rattle.bk_tiling.proofs.TilingGroups.{one_there}
 use Rattle.bk_tiling.specs.SquareGroups.{square_groups}
 use Rattle.bk_net.proofs.GroupSquares.{begins_below, get_index, group_of, in_group, square_at, top_of}
-use Rattle.bk_net.proofs.NodeBelow.{below_from, below_to, place}
+use Rattle.bk_net.proofs.NodeBelow.{below_from, below_to, has_node_below}
 use Rattle.bk_net.proofs.SmithLists.{in_total, out_at, out_total}
 use Rattle.bk_net.specs.Diagram.{node_below}
 use Rattle.bk_net.proofs.ColumnSums.{all_cols-are, cols, cols_all, cols_none, in_is_cols, in_is_none}
@@ -64,7 +64,7 @@ module _ (t : Tiling) (tiling : IsTiling t) (v : ℕ) (g : List Square) (e : sli
       counts : (q : Square) (h : IsOneOf q t.squares) → count_by (λ r. nat_eq r.y (q.y + q.s) && covers_column q.x r) g
           ≡ cond (nat_eq (node_below (square_groups t.squares) q) v) 1 0
       counts q h = ap (count_by (λ r. nat_eq r.y (q.y + q.s) && covers_column q.x r)) (sym (get_index (square_groups t.squares) v g e))
-          ∙ (place t tiling q h).counts v few
+          ∙ (has_node_below t tiling q h).counts v few
 
       each : (q : Square) → IsOneOf q t.squares → cond (nat_eq (node_below (square_groups t.squares) q) v) q.s 0
           ≡ cols (row.end - row.first.x) row.first.x (row.first.y - 1) q
@@ -128,7 +128,7 @@ module _ (t : Tiling) (tiling : IsTiling t) (v : ℕ) (g : List Square) (e : sli
           by true f = from (counted_one (λ r. nat_eq r.y (q.y + q.s) && covers_column q.x r) g (omega (
             arith,
             ap (count_by (λ r. nat_eq r.y (q.y + q.s) && covers_column q.x r)) (get_index (square_groups t.squares) v g e),
-            (place t tiling q h).counts v (slice_get_within (square_groups t.squares) v g e),
+            (has_node_below t tiling q h).counts v (slice_get_within (square_groups t.squares) v g e),
             ap (λ (b : Bool). cond {A = ℕ} b 1 0) f,
           )))
             where

@@ -8,7 +8,7 @@ use Rattle.bk_tiling.proofs.TilingLaws.{cell_once, side_of}
 use Rattle.bk_tiling.specs.Tiling.{IsOneOf, IsTiling, Tiling, covers}
 use Rattle.bk_tiling.specs.declared.Square.{Square}
 use Rattle.bk_tiling.proofs.Groups.{AllIn, IsGroup, IsRow, groups_row, row_of}
-use Rattle.bk_tiling.proofs.TilingGroups.{known, one_there}
+use Rattle.bk_tiling.proofs.TilingGroups.{known_groups, one_there}
 use Rattle.bk_tiling.specs.SquareGroups.{square_groups}
 use Rattle.bk_net.specs.Diagram.{group_level}
 
@@ -43,7 +43,7 @@ module _ (t : Tiling) (tiling : IsTiling t) where
 
   -- a group of the tiling's squares is a group among them
   pub group_of : (v : ℕ) (g : List Square) → slice_get (square_groups t.squares) v ≡ Some g → IsGroup t.squares g × AllIn t.squares g
-  group_of v g e = all-slice_get (λ g. IsGroup t.squares g × AllIn t.squares g) (square_groups t.squares) v g (known t tiling).all e
+  group_of v g e = all-slice_get (λ g. IsGroup t.squares g × AllIn t.squares g) (square_groups t.squares) v g (known_groups t tiling).all e
 
   -- so its squares are squares of the tiling
   pub in_group : (v : ℕ) (g : List Square) → slice_get (square_groups t.squares) v ≡ Some g → (q : Square) → IsOneOf q g → IsOneOf q t.squares

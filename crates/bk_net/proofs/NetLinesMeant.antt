@@ -15,7 +15,7 @@ use Rattle.bk_net.specs.declared.reader.Kind.TheVariants.{Blank, Dash, Digit, Ot
 use Rattle.bk_net.specs.declared.reader.Place.{Place}
 use Rattle.bk_net.specs.declared.reader.Place.TheVariants.{BehindDash, Between, Comment as InComment, Count, First, Second, Start}
 use Rattle.bk_net.proofs.NodeDigits.{Goes_on, number_of}
-use Rattle.bk_net.proofs.ReadingAll.{Means, line_at, kind_means, read}
+use Rattle.bk_net.proofs.ReadingAll.{Means, line_at, kind_means, net_read_from}
 
 -- further wires and the end of the line, behind n nodes and some wires
 abbrev pub WiresRest : ℕ → List (ℕ × ℕ) → NetLine → List ℕ → Type 0
@@ -197,18 +197,18 @@ ends (InComment Empty) ws l e = let same : Skip ≡ l = cc in sym same
 ends (InComment (Nodes n)) ws l e = let same : Item n ws ≡ l = cc in sym same
 
 -- what is read from a place of the reader on completes a line there
-pub read_is_rest : (bs : List ℕ) (p : Place) (ws : List (ℕ × ℕ)) (l : NetLine) → read bs p ws ≡ Some l → RestOf p ws l bs
+pub read_is_rest : (bs : List ℕ) (p : Place) (ws : List (ℕ × ℕ)) (l : NetLine) → net_read_from bs p ws ≡ Some l → RestOf p ws l bs
 read_is_rest [] p ws l e = ends p ws l e
 read_is_rest (b ∷ bs) p ws l e =
     step p (net_kind_of b) ws l b bs (kind_means b)
     (next (next_net_place p (net_kind_of b)) e (λ q. read_is_rest bs q (and_wire (ended_wire p (net_kind_of b)) ws) l))
   where
-    next : (o : Option Place) → option_and_then (λ q. read bs q (and_wire (ended_wire p (net_kind_of b)) ws)) o ≡ Some l
-        → ((q : Place) → read bs q (and_wire (ended_wire p (net_kind_of b)) ws) ≡ Some l → RestOf q (and_wire (ended_wire p (net_kind_of b)) ws) l bs)
+    next : (o : Option Place) → option_and_then (λ q. net_read_from bs q (and_wire (ended_wire p (net_kind_of b)) ws)) o ≡ Some l
+        → ((q : Place) → net_read_from bs q (and_wire (ended_wire p (net_kind_of b)) ws) ≡ Some l → RestOf q (and_wire (ended_wire p (net_kind_of b)) ws) l bs)
         → NextRest o (and_wire (ended_wire p (net_kind_of b)) ws) l bs
     next None f rest = absurd (cc)
     next (Some q) f rest = rest q f
 
 -- so what is read from the start is a network line
-pub read_is_line : (bs : List ℕ) (l : NetLine) → read bs Start [] ≡ Some l → IsNetLine l bs
+pub read_is_line : (bs : List ℕ) (l : NetLine) → net_read_from bs Start [] ≡ Some l → IsNetLine l bs
 read_is_line bs l e = read_is_rest bs Start [] l e refl

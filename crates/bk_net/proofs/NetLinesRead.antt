@@ -4,7 +4,7 @@ use Rattle.std.specs.Prelude.{List, None, Some, [], codes, nat_lt, option_map, �
 use Rattle.std.proofs.Common.{ap, append_assoc, arith, inl, inr, refl, sym, ◌∙◌}
 use Rattle.std.proofs.lemmas.Bool.{and_from, cond-true, lt-ltb}
 use Rattle.std.proofs.lemmas.List.{append-nil}
-use Rattle.bk_grammar.proofs.Reading.{Reads, split}
+use Rattle.bk_grammar.proofs.Reading.{Reads, reads_parts}
 use Rattle.bk_grammar.specs.Grammar.{Blanks, Comment, Is, LineEnd, Nothing, SomeBlanks, ◌or◌, ◌then◌}
 use Rattle.bk_net.specs.GatheredWires.{and_wire}
 use Rattle.bk_net.specs.NetLine.{IsNetLine, Item, NetLine, NodeNumber, Skip, Wire, Wires}
@@ -15,7 +15,7 @@ use Rattle.bk_net.specs.declared.reader.Kind.TheVariants.{Blank, Dash, Digit, Se
 use Rattle.bk_net.specs.declared.reader.Place.{Place}
 use Rattle.bk_net.specs.declared.reader.Place.TheVariants.{BehindDash, Between, Comment as InComment, Count, First, Second, Start}
 use Rattle.bk_net.proofs.NodeDigits.{Goes_on, number_from}
-use Rattle.bk_net.proofs.ReadingAll.{kind_blank, kind_digit, line_at, line_of, read, read_next}
+use Rattle.bk_net.proofs.ReadingAll.{kind_blank, kind_digit, line_at, line_of, net_read_from, read_next}
 
 -- ---- numbers
 
@@ -36,8 +36,8 @@ in_first n = record { goes = λ v d. refl; keeps = λ v d. refl }
 in_second : (n a : ℕ) → HasNumber (Second n a)
 in_second n a = record { goes = λ v d. refl; keeps = λ v d. refl }
 
-digits_read : (at : ℕ → Place) → HasNumber at → (ws : List (ℕ × ℕ)) (v n : ℕ) (ds x : List ℕ) → Goes_on v n ds → read (ds ++ x) (at v) ws ≡ read x (at n) ws
-digits_read at has ws v n [] x h = ap (λ (k : ℕ). read x (at k) ws) (sym h)
+digits_read : (at : ℕ → Place) → HasNumber at → (ws : List (ℕ × ℕ)) (v n : ℕ) (ds x : List ℕ) → Goes_on v n ds → net_read_from (ds ++ x) (at v) ws ≡ net_read_from x (at n) ws
+digits_read at has ws v n [] x h = ap (λ (k : ℕ). net_read_from x (at k) ws) (sym h)
 digits_read at has ws v n (c ∷ ds) x h =
     read_next (at v) (at (v * 10 + digit_value c)) (Digit (digit_value c)) ws ws c (ds ++ x) (kind_digit c h.0)
     (has.goes v (digit_value c) ∙ ap (option_map at) (longer_goes v (digit_value c) h.1 h.2)) (ap (λ o. and_wire o ws) (has.keeps v (digit_value c)))
@@ -50,10 +50,10 @@ pub record BeginsNumber (p : Place) (at : ℕ → Place) : Type 0 where
   pub within : HasNumber at
 
 number_read : (p : Place) (at : ℕ → Place) → BeginsNumber p at → (ws : List (ℕ × ℕ)) (n : ℕ) (text x : List ℕ) → Reads (NodeNumber n) text x
-    → read text p ws ≡ read x (at n) ws
+    → net_read_from text p ws ≡ net_read_from x (at n) ws
 number_read p at b ws n text x (a, h, e) =
     let k = number_from n a h in
-    ap (λ (z : List ℕ). read z p ws) (e ∙ ap (λ (z : List ℕ). z ++ x) k.is)
+    ap (λ (z : List ℕ). net_read_from z p ws) (e ∙ ap (λ (z : List ℕ). z ++ x) k.is)
     ∙ read_next p (at (digit_value k.first)) (Digit (digit_value k.first)) ws ws k.first (k.others ++ x) (kind_digit k.first k.digit)
     (b.begins (digit_value k.first)) (ap (λ o. and_wire o ws) (b.none (digit_value k.first)))
     ∙ digits_read at b.within ws (digit_value k.first) n k.others x k.goes_on
@@ -61,18 +61,18 @@ number_read p at b ws n text x (a, h, e) =
 -- ---- blanks
 
 skipped : (p : Place) (ws : List (ℕ × ℕ)) (a x : List ℕ) → next_net_place p Blank ≡ Some p → ended_wire p Blank ≡ None → Blanks a
-    → read (a ++ x) p ws ≡ read x p ws
+    → net_read_from (a ++ x) p ws ≡ net_read_from x p ws
 skipped p ws [] x next none blanks = refl
 skipped p ws (b ∷ a) x next none blanks =
     read_next p p Blank ws ws b (a ++ x) (kind_blank b blanks.0) next (ap (λ o. and_wire o ws) none) ∙ skipped p ws a x next none blanks.1
 
 blanks_read : (p : Place) (ws : List (ℕ × ℕ)) (text x : List ℕ) → next_net_place p Blank ≡ Some p → ended_wire p Blank ≡ None → Reads Blanks text x
-    → read text p ws ≡ read x p ws
-blanks_read p ws text x next none (a, h, e) = ap (λ (z : List ℕ). read z p ws) e ∙ skipped p ws a x next none h
+    → net_read_from text p ws ≡ net_read_from x p ws
+blanks_read p ws text x next none (a, h, e) = ap (λ (z : List ℕ). net_read_from z p ws) e ∙ skipped p ws a x next none h
 
 -- ---- the end of a line
 
-comment_read : (text : List ℕ) (ending : Ending) (ws : List (ℕ × ℕ)) → read text (InComment ending) ws ≡ Some (line_of ending ws)
+comment_read : (text : List ℕ) (ending : Ending) (ws : List (ℕ × ℕ)) → net_read_from text (InComment ending) ws ≡ Some (line_of ending ws)
 comment_read [] ending ws = refl
 comment_read (b ∷ bs) ending ws = comment_read bs ending ws
 
@@ -93,50 +93,50 @@ between_closes n ws = record { blank = refl; blank_wires = refl; semicolon = ref
 second_closes : (n a b : ℕ) (ws : List (ℕ × ℕ)) → Closes (Second n a b) n ws (ws ++ (a, b) ∷ [])
 second_closes n a b ws = record { blank = refl; blank_wires = refl; semicolon = refl; semicolon_wires = refl; end = refl }
 
-bare_end : (p : Place) (n : ℕ) (ws vs : List (ℕ × ℕ)) (x : List ℕ) → Closes p n ws vs → (Nothing or Comment) x → read x p ws ≡ Some (Item n vs)
-bare_end p n ws vs x c (inl e) = ap (λ (z : List ℕ). read z p ws) e ∙ c.end
+bare_end : (p : Place) (n : ℕ) (ws vs : List (ℕ × ℕ)) (x : List ℕ) → Closes p n ws vs → (Nothing or Comment) x → net_read_from x p ws ≡ Some (Item n vs)
+bare_end p n ws vs x c (inl e) = ap (λ (z : List ℕ). net_read_from z p ws) e ∙ c.end
 bare_end p n ws vs x c (inr (text, e)) =
-    ap (λ (z : List ℕ). read z p ws) e
+    ap (λ (z : List ℕ). net_read_from z p ws) e
     ∙ read_next p (InComment (Nodes n)) Semicolon ws vs 59 text refl c.semicolon c.semicolon_wires
     ∙ comment_read text (Nodes n) vs
 
-end_read : (p : Place) (n : ℕ) (ws vs : List (ℕ × ℕ)) (bs : List ℕ) → Closes p n ws vs → LineEnd bs → read bs p ws ≡ Some (Item n vs)
-end_read p n ws vs bs c ([], x, e, blanks, h) = ap (λ (z : List ℕ). read z p ws) e ∙ bare_end p n ws vs x c h
+end_read : (p : Place) (n : ℕ) (ws vs : List (ℕ × ℕ)) (bs : List ℕ) → Closes p n ws vs → LineEnd bs → net_read_from bs p ws ≡ Some (Item n vs)
+end_read p n ws vs bs c ([], x, e, blanks, h) = ap (λ (z : List ℕ). net_read_from z p ws) e ∙ bare_end p n ws vs x c h
 end_read p n ws vs bs c (b ∷ a, x, e, blanks, h) =
-    ap (λ (z : List ℕ). read z p ws) e
+    ap (λ (z : List ℕ). net_read_from z p ws) e
     ∙ read_next p (Between n) Blank ws vs b (a ++ x) (kind_blank b blanks.0) c.blank c.blank_wires
     ∙ skipped (Between n) vs a x refl refl blanks.1
     ∙ bare_end (Between n) n vs vs x (between_closes n vs) h
 
-gap_read : (p : Place) (n : ℕ) (ws vs : List (ℕ × ℕ)) (text x : List ℕ) → Closes p n ws vs → Reads SomeBlanks text x → read text p ws ≡ read x (Between n) vs
+gap_read : (p : Place) (n : ℕ) (ws vs : List (ℕ × ℕ)) (text x : List ℕ) → Closes p n ws vs → Reads SomeBlanks text x → net_read_from text p ws ≡ net_read_from x (Between n) vs
 gap_read p n ws vs text x c ([], h, e) = absurd (omega (arith, h.0))
 gap_read p n ws vs text x c (b ∷ a, h, e) =
-    ap (λ (z : List ℕ). read z p ws) e
+    ap (λ (z : List ℕ). net_read_from z p ws) e
     ∙ read_next p (Between n) Blank ws vs b (a ++ x) (kind_blank b h.1.0) c.blank c.blank_wires
     ∙ skipped (Between n) vs a x refl refl h.1.1
 
 -- ---- wires
 
-wire_read : (n a b : ℕ) (ws : List (ℕ × ℕ)) (text x : List ℕ) → Reads (Wire (a, b)) text x → read text (Between n) ws ≡ read x (Second n a b) ws
+wire_read : (n a b : ℕ) (ws : List (ℕ × ℕ)) (text x : List ℕ) → Reads (Wire (a, b)) text x → net_read_from text (Between n) ws ≡ net_read_from x (Second n a b) ws
 wire_read n a b ws text x r =
-    let first = split (NodeNumber a) (Is (codes "-") then NodeNumber b) text x r in
-    let dash = split (Is (codes "-")) (NodeNumber b) first.0 x first.2 in
+    let first = reads_parts (NodeNumber a) (Is (codes "-") then NodeNumber b) text x r in
+    let dash = reads_parts (Is (codes "-")) (NodeNumber b) first.0 x first.2 in
     number_read (Between n) (First n) (record { begins = λ d. refl; none = λ d. refl; within = in_first n }) ws a text first.0 first.1
     ∙ dash_read first.0 dash.0 dash.1
     ∙ number_read (BehindDash n a) (Second n a) (record { begins = λ d. refl; none = λ d. refl; within = in_second n a }) ws b dash.0 x dash.2
   where
-    dash_read : (text x : List ℕ) → Reads (Is (codes "-")) text x → read text (First n a) ws ≡ read x (BehindDash n a) ws
-    dash_read text x (c, h, e) = ap (λ (z : List ℕ). read z (First n a) ws) (e ∙ ap (λ (z : List ℕ). z ++ x) h)
+    dash_read : (text x : List ℕ) → Reads (Is (codes "-")) text x → net_read_from text (First n a) ws ≡ net_read_from x (BehindDash n a) ws
+    dash_read text x (c, h, e) = ap (λ (z : List ℕ). net_read_from z (First n a) ws) (e ∙ ap (λ (z : List ℕ). z ++ x) h)
         ∙ read_next (First n a) (BehindDash n a) Dash ws ws 45 x refl refl refl
 
 wires_read : (more : List (ℕ × ℕ)) (p : Place) (n : ℕ) (ws vs : List (ℕ × ℕ)) (bs rest : List ℕ) → Closes p n ws vs → Reads (Wires more) bs rest
-    → LineEnd rest → read bs p ws ≡ Some (Item n (vs ++ more))
+    → LineEnd rest → net_read_from bs p ws ≡ Some (Item n (vs ++ more))
 wires_read [] p n ws vs bs rest c (a, h, e) end =
-    ap (λ (z : List ℕ). read z p ws) (e ∙ ap (λ (z : List ℕ). z ++ rest) h) ∙ end_read p n ws vs rest c end
+    ap (λ (z : List ℕ). net_read_from z p ws) (e ∙ ap (λ (z : List ℕ). z ++ rest) h) ∙ end_read p n ws vs rest c end
     ∙ ap (λ (l : List (ℕ × ℕ)). Some (Item n l)) (sym (append-nil vs))
 wires_read ((a, b) ∷ more) p n ws vs bs rest c r end =
-    let gap = split SomeBlanks (Wire (a, b) then Wires more) bs rest r in
-    let wire = split (Wire (a, b)) (Wires more) gap.0 rest gap.2 in
+    let gap = reads_parts SomeBlanks (Wire (a, b) then Wires more) bs rest r in
+    let wire = reads_parts (Wire (a, b)) (Wires more) gap.0 rest gap.2 in
     gap_read p n ws vs bs gap.0 c gap.1
     ∙ wire_read n a b vs gap.0 wire.0 wire.1
     ∙ wires_read more (Second n a b) n vs (vs ++ (a, b) ∷ []) wire.0 rest (second_closes n a b vs) wire.2 end
@@ -144,16 +144,16 @@ wires_read ((a, b) ∷ more) p n ws vs bs rest c r end =
 
 -- ---- lines
 
-skip_read : (bs : List ℕ) → LineEnd bs → read bs Start [] ≡ Some Skip
-skip_read bs (a, x, e, blanks, h) = ap (λ (z : List ℕ). read z Start []) e ∙ skipped Start [] a x refl refl blanks ∙ rest h
+skip_read : (bs : List ℕ) → LineEnd bs → net_read_from bs Start [] ≡ Some Skip
+skip_read bs (a, x, e, blanks, h) = ap (λ (z : List ℕ). net_read_from z Start []) e ∙ skipped Start [] a x refl refl blanks ∙ rest h
   where
-    rest : (Nothing or Comment) x → read x Start [] ≡ Some Skip
-    rest (inl f) = ap (λ (z : List ℕ). read z Start []) f
-    rest (inr (text, f)) = ap (λ (z : List ℕ). read z Start []) f ∙ read_next Start (InComment Empty) Semicolon [] [] 59 text refl refl refl
+    rest : (Nothing or Comment) x → net_read_from x Start [] ≡ Some Skip
+    rest (inl f) = ap (λ (z : List ℕ). net_read_from z Start []) f
+    rest (inr (text, f)) = ap (λ (z : List ℕ). net_read_from z Start []) f ∙ read_next Start (InComment Empty) Semicolon [] [] 59 text refl refl refl
         ∙ comment_read text Empty []
 
 -- each network line is read as what it stands for
-pub line_is_read : (l : NetLine) (bs : List ℕ) → IsNetLine l bs → read bs Start [] ≡ Some l
+pub line_is_read : (l : NetLine) (bs : List ℕ) → IsNetLine l bs → net_read_from bs Start [] ≡ Some l
 line_is_read Skip bs h = skip_read bs h
 line_is_read (Item n ws) bs (a, x, e, blanks, (text, y, f, number, (wires, z, g, h, end))) =
     blanks_read Start [] bs x refl refl (a, blanks, e)

@@ -16,7 +16,7 @@ use Rattle.bk_net.specs.declared.reader.Place.{Place}
 use Rattle.bk_net.specs.declared.reader.Place.TheVariants.{Start}
 use Rattle.bk_net.proofs.NetLinesMeant.{read_is_line}
 use Rattle.bk_net.proofs.NetStopping.{Leads, read_whole, stops_at, stops_at_end}
-use Rattle.bk_net.proofs.ReadingAll.{line_at, line_of, read, read_next}
+use Rattle.bk_net.proofs.ReadingAll.{line_at, line_of, net_read_from, read_next}
 
 -- the bytes read so far lead to this place with these wires, of which the first are kept
 pub record Progress (front : List ℕ) (p : Place) (kept : List (ℕ × ℕ)) (many : Bool) : Type 0 where
@@ -38,8 +38,8 @@ progress_more bs i p q kept next_kept many next_many within progress next keeps 
     let wires = and_wire (ended_wire p (net_kind_of b)) progress.all in record {
       all = wires;
       leads = λ x.
-          ap (λ front. read (front ++ x) Start []) (take_more bs i 0 within)
-          ∙ ap (λ z. read z Start []) (append_assoc (take i bs) (b ∷ []) x)
+          ap (λ front. net_read_from (front ++ x) Start []) (take_more bs i 0 within)
+          ∙ ap (λ z. net_read_from z Start []) (append_assoc (take i bs) (b ∷ []) x)
           ∙ progress.leads (b ∷ x)
           ∙ read_next p q (net_kind_of b) progress.all wires b x refl next refl;
       keeps = keeps progress.all progress.keeps;

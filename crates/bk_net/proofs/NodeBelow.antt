@@ -71,9 +71,9 @@ module _ (t : Tiling) (tiling : IsTiling t) where
       )
 
   -- so it finds at most one group, and the place of this group is the node below
-  pub place : (q : Square) → IsOneOf q t.squares
+  pub has_node_below : (q : Square) → IsOneOf q t.squares
       → HasGroup (λ r. nat_eq r.y (q.y + q.s) && covers_column q.x r) (square_groups t.squares) (node_below (square_groups t.squares) q)
-  place q h = has_group (λ r. nat_eq r.y (q.y + q.s) && covers_column q.x r) (square_groups t.squares)
+  has_node_below q h = has_group (λ r. nat_eq r.y (q.y + q.s) && covers_column q.x r) (square_groups t.squares)
       (omega (arith, ap (count_by (λ r. nat_eq r.y (q.y + q.s) && covers_column q.x r)) (row_is t tiling), tests_once q h))
 
   -- it is the bottom, or a group whose level is the square's bottom
@@ -83,7 +83,7 @@ module _ (t : Tiling) (tiling : IsTiling t) where
 
   -- the node below a square is the bottom where the square ends there, and else a group at the level where it ends
   pub stands_on : (q : Square) → IsOneOf q t.squares → StandsOn q
-  stands_on q h = record { is = cases (place q h).found }
+  stands_on q h = record { is = cases (has_node_below q h).found }
     where
       group : (g : List Square) → slice_get (square_groups t.squares) (node_below (square_groups t.squares) q) ≡ Some g
           → 0 < count_by (λ r. nat_eq r.y (q.y + q.s) && covers_column q.x r)

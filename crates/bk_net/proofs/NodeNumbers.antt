@@ -3,7 +3,7 @@
 use Rattle.std.specs.List.Sorted.{IsPartitionPoint}
 use Rattle.std.specs.Prelude.{slice_index}
 use Rattle.std.proofs.Common.{Bool, List, [], ap, arith, cond, count_by, false, inl, inr, length, nat_eq, slice_index_or, subst, sym}
-use Rattle.std.proofs.Common.{take, true, ℕ, ◌&&◌, ◌++◌, ◌+◌, ◌-◌, ◌<◌, ◌∙◌, ◌∷◌, ◌≡◌, ◌≢◌, ◌≤◌, ◌⊎◌}
+use Rattle.std.proofs.Common.{take, true, ℕ, ◌&&◌, ◌++◌, ◌+◌, ◌-◌, ◌<◌, ◌^◌, ◌∙◌, ◌∷◌, ◌≡◌, ◌≢◌, ◌≤◌, ◌⊎◌}
 use Rattle.std.proofs.lemmas.Bool.{both_ways, cases_Bool, cases_lt}
 use Rattle.std.proofs.lemmas.Bool.Decides.{nat_tests}
 use Rattle.std.proofs.lemmas.List.{take_more}
@@ -16,17 +16,22 @@ use Rattle.bk_tiling.proofs.TilingGroups.{one_there}
 use Rattle.bk_tiling.proofs.TilingLaws.{side_of, within_of}
 use Rattle.bk_tiling.specs.CodeOrder.{comes_before}
 use Rattle.bk_tiling.specs.Column.{covers_column}
+use Rattle.bk_tiling.specs.KeptTiling.{IsKept}
 use Rattle.bk_tiling.specs.SquareGroups.{square_groups}
 use Rattle.bk_tiling.specs.Tiling.{IsOneOf, IsTiling, Tiling, covers}
 use Rattle.bk_tiling.specs.declared.Square.{Square}
 use Rattle.bk_net.proofs.GroupSquares.{begins_below, row_is, square_at}
-use Rattle.bk_net.proofs.NodeBelow.{below_from, place}
+use Rattle.bk_net.proofs.NodeBelow.{below_from, has_node_below}
 use Rattle.bk_net.proofs.SidesFlow.{the_one_flow}
 use Rattle.bk_net.proofs.SmithLists.{HasGroup, count_at}
 use Rattle.bk_net.specs.Diagram.{node_below, smith_diagram}
 use Rattle.bk_net.specs.GroupNumbers.{group_numbers, is_no_later}
 use Rattle.bk_net.proofs.SquareNumbers.{wires_by, wires_by-groups, wires_by-at, wires_by-length, numbers-length, HasNumber}
 use Rattle.bk_net.proofs.SquareNumbers.{has_number, no_later_to, no_later_from}
+
+-- the lower edge of a square of a kept tiling fits 64 bits
+pub lower_edge_fits : (t : Tiling) → IsKept t → (q : Square) → IsOneOf q t.squares → q.y + q.s < 2 ^ 64
+lower_edge_fits t kept q one = omega (arith, (within_of t kept.tiling q one).bottom, kept.height_fits)
 
 -- ---- the node below a square
 
@@ -40,7 +45,7 @@ under_level q r e = grind (arith, nat_tests)
 module _ (t : Tiling) (tiling : IsTiling t) (q : Square) (one : IsOneOf q t.squares) where
   -- at the bottom of the tiling there is none
   pub at_bottom : q.y + q.s ≡ t.height → length (square_groups t.squares) ≡ node_below (square_groups t.squares) q
-  at_bottom low = cases (place t tiling q one).found
+  at_bottom low = cases (has_node_below t tiling q one).found
     where
       none : count_by (under q) (row_of (square_groups t.squares)) ≡ 0
       none = ap (count_by (under q)) (row_is t tiling)
@@ -125,7 +130,7 @@ module _ (t : Tiling) (tiling : IsTiling t) (q : Square) (one : IsOneOf q t.squa
           h = has_number 0 (square_groups t.squares) m q (omega (arith, ap length (row_is t tiling)))
 
           g : HasGroup (under q) (square_groups t.squares) (node_below (square_groups t.squares) q)
-          g = place t tiling q one
+          g = has_node_below t tiling q one
 
           its_group : IsOneOf below.0 (slice_index_or (square_groups t.squares) h.place [])
           its_group = subst (λ (r : Square). IsOneOf r (slice_index_or (square_groups t.squares) h.place []))

@@ -29,17 +29,17 @@ line_at None wires = None
 line_at (Some e) wires = Some (line_of e wires)
 
 -- what is read from a place on
-abbrev pub read : List ℕ → Place → List (ℕ × ℕ) → Option NetLine
-read [] p wires = line_at (net_ending_at p) (and_wire (last_wire p) wires)
-read (b ∷ bs) p wires = option_and_then (λ q. read bs q (and_wire (ended_wire p (net_kind_of b)) wires)) (next_net_place p (net_kind_of b))
+abbrev pub net_read_from : List ℕ → Place → List (ℕ × ℕ) → Option NetLine
+net_read_from [] p wires = line_at (net_ending_at p) (and_wire (last_wire p) wires)
+net_read_from (b ∷ bs) p wires = option_and_then (λ q. net_read_from bs q (and_wire (ended_wire p (net_kind_of b)) wires)) (next_net_place p (net_kind_of b))
 
 -- a further byte of a known kind
 pub read_next : (p q : Place) (k : Kind) (ws vs : List (ℕ × ℕ)) (b : ℕ) (bs : List ℕ) → net_kind_of b ≡ k → next_net_place p k ≡ Some q
-    → and_wire (ended_wire p k) ws ≡ vs → read (b ∷ bs) p ws ≡ read bs q vs
+    → and_wire (ended_wire p k) ws ≡ vs → net_read_from (b ∷ bs) p ws ≡ net_read_from bs q vs
 read_next p q k ws vs b bs kind next wires =
-    ap (λ k. option_and_then (λ q. read bs q (and_wire (ended_wire p k) ws)) (next_net_place p k)) kind
-    ∙ ap (option_and_then (λ q. read bs q (and_wire (ended_wire p k) ws))) next
-    ∙ ap (read bs q) wires
+    ap (λ k. option_and_then (λ q. net_read_from bs q (and_wire (ended_wire p k) ws)) (next_net_place p k)) kind
+    ∙ ap (option_and_then (λ q. net_read_from bs q (and_wire (ended_wire p k) ws))) next
+    ∙ ap (net_read_from bs q) wires
 
 -- what is known of a byte of each kind
 abbrev pub Means : Kind → ℕ → Type 0

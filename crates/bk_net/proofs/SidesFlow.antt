@@ -12,10 +12,10 @@ use Rattle.bk_laws.proofs.ListPlaces.{get_some}
 use Rattle.bk_tiling.proofs.TilingLaws.{side_of, wide_enough}
 use Rattle.bk_tiling.specs.Tiling.{IsTiling, Tiling}
 use Rattle.bk_tiling.specs.declared.Square.{Square}
-use Rattle.bk_tiling.proofs.TilingGroups.{known}
+use Rattle.bk_tiling.proofs.TilingGroups.{known_groups}
 use Rattle.bk_tiling.specs.SquareGroups.{square_groups}
 use Rattle.bk_net.proofs.GroupSquares.{first_in, group_of, in_group, level_is}
-use Rattle.bk_net.proofs.NodeBelow.{place, stands_on}
+use Rattle.bk_net.proofs.NodeBelow.{has_node_below, stands_on}
 use Rattle.bk_net.proofs.GroupEdges.{below_height, first_one}
 use Rattle.bk_net.proofs.GroupColumns.{into_is_none, into_is_width, out_is_width}
 use Rattle.bk_net.proofs.OneFlowLaws.{ends_from_net, one_flow}
@@ -37,8 +37,8 @@ module _ (t : Tiling) (tiling : IsTiling t) where
       arith,
       ints,
       outflow_of_sides t tiling 0,
-      out_is_width t tiling 0 (known t tiling).group (top_group t tiling),
-      into_is_none t tiling 0 (known t tiling).group (top_group t tiling) (top_corner t tiling).1,
+      out_is_width t tiling 0 (known_groups t tiling).group (top_group t tiling),
+      into_is_none t tiling 0 (known_groups t tiling).group (top_group t tiling) (top_corner t tiling).1,
       (top_corner t tiling).0,
       top_end t tiling,
     );
@@ -60,7 +60,7 @@ module _ (t : Tiling) (tiling : IsTiling t) where
           )
 
   some_groups : 0 < length (square_groups t.squares)
-  some_groups = omega (arith, ap length (known t tiling).is)
+  some_groups = omega (arith, ap length (known_groups t tiling).is)
 
   net : IsNet (smith_diagram t)
   net = record { some = omega (arith, some_groups); ends = All-from_recursion _ (smith_diagram t).wires wires }
@@ -71,7 +71,7 @@ module _ (t : Tiling) (tiling : IsTiling t) where
           (node_below (square_groups t.squares)) 0 (square_groups t.squares)
           (λ k g e q h. (
             omega (arith, slice_get_within (square_groups t.squares) k g e),
-            omega (arith, (place t tiling q (in_group t tiling k g e q h)).most),
+            omega (arith, (has_node_below t tiling q (in_group t tiling k g e q h)).most),
             λ same. let at : k ≡ node_below (square_groups t.squares) q = omega (arith, same) in
                 absurd (omega (
                   arith,
@@ -108,7 +108,7 @@ module _ (t : Tiling) (tiling : IsTiling t) where
               (wire_in (node_below (square_groups t.squares)) 0 (square_groups t.squares) v g (group_of t tiling v g e).0.row.first e
               (first_in t tiling g (group_of t tiling v g e).0.row)))
               (rest (node_below (square_groups t.squares) (group_of t tiling v g e).0.row.first)
-              (omega (arith, (place t tiling (group_of t tiling v g e).0.row.first (first_one t tiling v g e)).most))
+              (omega (arith, (has_node_below t tiling (group_of t tiling v g e).0.row.first (first_one t tiling v g e)).most))
               (λ h f. on h f (stands_on t tiling (group_of t tiling v g e).0.row.first (first_one t tiling v g e)).is))
             where
               q : Square

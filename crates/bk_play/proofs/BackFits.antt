@@ -14,7 +14,7 @@ use Rattle.bk_word_net.proofs.Outlines.Shape.{Filled, filled_parts, valley_in}
 use Rattle.bk_play.proofs.SkelFacts.{Counted, counted}
 use Rattle.bk_play.proofs.TurnParts.{closed_is, first_is, sides_are, start_is}
 use Rattle.bk_word_net.proofs.Outlines.ValleyCut.{AtValley}
-use Rattle.bk_play.specs.Skeleton.{Shows, first_touched, open_sides_of_record, sizes_after, turn_at}
+use Rattle.bk_play.specs.Skeleton.{GiveWay, Shows, first_touched, open_sides_of_record, sizes_after, turn_at}
 use Rattle.bk_play.specs.Valley.{IsKeptSkeleton}
 use Rattle.bk_play.specs.declared.turns.MoveRecord.{MoveRecord}
 
@@ -71,22 +71,6 @@ module _ (front : Word) (m : Move) (kept : IsKeptSkeleton front) (legal : IsLega
     sizes_after_many (max turn.left 1) (max turn.right 1) m.signs,
   )
 
-  -- the segments that came in the place of those touched are there
-  pub sizes_in : (sizes : List ℕ) → sizes ≡ sizes_of (after_move (outline_of front) m) → first_touched turn + (turn.parted + 1) ≤ length sizes
-  sizes_in sizes e = omega (arith, start_is (outline_of front) c.shaped m from v f, long_sizes sizes e)
-
-  -- with those touched in their place the segments are few
-  pub sizes_few : (sizes : List ℕ) → sizes ≡ sizes_of (after_move (outline_of front) m)
-      → length sizes - (turn.parted + 1) + (open_sides_of_record turn + 1) ≤ 200
-  sizes_few sizes e = omega (
-    arith,
-    sides_are (outline_of front) c.shaped m from v f,
-    long_sizes sizes e,
-    many_segments (outline_of front) v,
-    length-map (outline_of front).segments (length {A = ℕ}),
-    c.few,
-  )
-
   long_signs : (signs : List Sign) → signs ≡ (after_move (outline_of front) m).signs → length signs ≡ length v.before + (turn.parted + length v.after)
   long_signs signs e = ap length (e ∙ signs_are (outline_of front) c.shaped m legal from) ∙ omega (
     arith,
@@ -97,20 +81,25 @@ module _ (front : Word) (m : Move) (kept : IsKeptSkeleton front) (legal : IsLega
     v.after_many,
   )
 
-  -- the signs that the move left are there
-  pub signs_in : (signs : List Sign) → signs ≡ (after_move (outline_of front) m).signs → first_touched turn + turn.parted ≤ length signs
-  signs_in signs e = omega (arith, start_is (outline_of front) c.shaped m from v f, long_signs signs e)
+  -- the segments that came in the place of those touched are there, and with those in their place the segments are few
+  pub gives_back : (sizes : List ℕ) (signs : List Sign) → sizes ≡ sizes_of (after_move (outline_of front) m)
+      → signs ≡ (after_move (outline_of front) m).signs
+      → GiveWay 200 (first_touched turn) turn.parted (open_sides_of_record turn) sizes signs
+  gives_back sizes signs e g = record {
+    sizes_within = omega (arith, start, long_sizes sizes e);
+    signs_within = omega (arith, start, long_signs signs g);
+    sizes_fit = omega (arith, sides, long_sizes sizes e, many, c.few);
+    signs_fit = omega (arith, sides, long_signs signs g, many, c.few);
+  }
+    where
+      start : first_touched turn ≡ length v.before
+      start = start_is (outline_of front) c.shaped m from v f
 
-  -- with those before it in their place the signs are few
-  pub signs_few : (signs : List Sign) → signs ≡ (after_move (outline_of front) m).signs → length signs - turn.parted + open_sides_of_record turn ≤ 200
-  signs_few signs e = omega (
-    arith,
-    sides_are (outline_of front) c.shaped m from v f,
-    long_signs signs e,
-    many_segments (outline_of front) v,
-    length-map (outline_of front).segments (length {A = ℕ}),
-    c.few,
-  )
+      sides : open_sides_of_record turn ≡ length v.left + length v.right
+      sides = sides_are (outline_of front) c.shaped m from v f
+
+      many : length (sizes_of (outline_of front)) ≡ length v.before + (open_sides_of_record turn + 1 + length v.after)
+      many = length-map (outline_of front).segments (length {A = ℕ}) ∙ omega (arith, many_segments (outline_of front) v, sides)
 
   -- the squares that stand after the move, without the new ones and with those closed, are those that stood before
   pub ends_few : (ends : List ℕ) → ends ≡ concat (after_move (outline_of front) m).segments → length ends - m.count + turn.closed ≤ 200

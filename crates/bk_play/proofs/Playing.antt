@@ -7,7 +7,7 @@ use Rattle.bk_word.specs.declared.Sign.{Sign}
 use Rattle.bk_play.proofs.SkelFacts.{Counted, Touches, counted, lists_after, stored_move, touches}
 use Rattle.bk_word.proofs.PlayLaws.{moves_many}
 use Rattle.bk_play.proofs.StoredMoves.{signs_many, stored_word, turns_many}
-use Rattle.bk_play.specs.Skeleton.{IsStoredSkeleton, SkeletonLists, first_touched, moves_stored, open_sides_of_record, turn_at}
+use Rattle.bk_play.specs.Skeleton.{GiveWay, IsStoredSkeleton, SkeletonLists, first_touched, moves_stored, open_sides_of_record, turn_at}
 use Rattle.bk_play.specs.declared.turns.MoveRecord.{MoveRecord}
 
 -- the move is legal, at most `most` squares hang after it, and what it needs of the lists is there
@@ -22,10 +22,7 @@ pub record Playing (most : ℕ) (w : Word) (m : Move) (lists : SkeletonLists) (t
   pub ends_fit : length lists.ends - turn.closed + m.count ≤ most
   pub sizes_few : length lists.sizes ≤ most
   pub signs_few : length lists.signs ≤ most
-  pub sizes_within : first_touched turn + (open_sides_of_record turn + 1) ≤ length lists.sizes
-  pub signs_within : first_touched turn + open_sides_of_record turn ≤ length lists.signs
-  pub sizes_fit : length lists.sizes - (open_sides_of_record turn + 1) + (turn.parted + 1) ≤ most
-  pub signs_fit : length lists.signs - open_sides_of_record turn + turn.parted ≤ most
+  pub gives : GiveWay most (first_touched turn) (open_sides_of_record turn) turn.parted lists.sizes lists.signs
   pub small : turn.left + length m.signs + turn.right ≤ most + 1
   pub played_fit : length lists.played + length m.signs ≤ 2 * most
   pub turns_fit : length lists.turns < most
@@ -45,10 +42,7 @@ playing_at most h w m lists turn s legal few e = record {
   ends_fit = omega (arith, c.all, few);
   sizes_few = omega (arith, c.filled, few, legal.some);
   signs_few = omega (arith, c.filled, c.many, few, legal.some);
-  sizes_within = t.sizes_within;
-  signs_within = t.signs_within;
-  sizes_fit = t.sizes_fit;
-  signs_fit = t.signs_fit;
+  gives = t.gives;
   small = omega (arith, t.beside, t.few_signs, c.all, few);
   played_fit = omega (arith, ap length s.played_are, signs_many start w (s.kept).legal, t.few_signs, legal.some, few);
   turns_fit = omega (arith, ap length s.turns_are, turns_many start 0 w, moves_many start w (s.kept).legal, legal.some, few);

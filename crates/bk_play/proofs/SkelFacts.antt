@@ -1,7 +1,7 @@
 -- What is known of what a skeleton stores.
 use Rattle.std.specs.List.{concat, splice}
 use Rattle.std.proofs.Common.{List, [], ap, arith, count_by, filter, inl, inr, length, map, max, replicate, slice_range, subst, sum, sym, ℕ, ◌++◌}
-use Rattle.std.proofs.Common.{◌+◌, ◌-◌, ◌∙◌, ◌∷◌, ◌≡◌, ◌≤◌, ◌⊎◌}
+use Rattle.std.proofs.Common.{◌+◌, ◌∙◌, ◌∷◌, ◌≡◌, ◌≤◌, ◌⊎◌}
 use Rattle.std.proofs.lemmas.List.Sums.{length-filter}
 use Rattle.std.proofs.lemmas.List.{length-append, length-map, length-replicate}
 use Rattle.bk_laws.proofs.Sums.{sum-map_length}
@@ -19,7 +19,7 @@ use Rattle.bk_word.proofs.PlayLaws.{after-snoc, few_signs, legal-snoc}
 use Rattle.bk_play.proofs.StoredMoves.{signs-snoc, turns-snoc}
 use Rattle.bk_play.proofs.TurnParts.{closed_is, first_is, left_is, right_is, sides_are, start_is}
 use Rattle.bk_word_net.proofs.Outlines.ValleyCut.{AtValley}
-use Rattle.bk_play.specs.Skeleton.{IsStoredSkeleton, Shows, SkeletonLists, first_touched, open_sides_of_record, signs_of, sizes_after, turn_at}
+use Rattle.bk_play.specs.Skeleton.{GiveWay, IsStoredSkeleton, Shows, SkeletonLists, first_touched, open_sides_of_record, signs_of, sizes_after, turn_at}
 use Rattle.bk_play.specs.Valley.{IsKeptSkeleton}
 use Rattle.bk_play.specs.declared.turns.MoveRecord.{MoveRecord}
 
@@ -70,10 +70,7 @@ counted w ends sizes signs closed kept s = record {
 -- the numbers of what a legal move touches, where at most so many squares hang after it
 pub record Touches (most : ℕ) (w : Word) (m : Move) (ends sizes : List ℕ) (signs : List Sign) (closed : List ℕ) (turn : MoveRecord) : Type 0 where
   pub first : turn.first + turn.closed ≤ length ends
-  pub sizes_within : first_touched turn + (open_sides_of_record turn + 1) ≤ length sizes
-  pub signs_within : first_touched turn + open_sides_of_record turn ≤ length signs
-  pub sizes_fit : length sizes - (open_sides_of_record turn + 1) + (turn.parted + 1) ≤ most
-  pub signs_fit : length signs - open_sides_of_record turn + turn.parted ≤ most
+  pub gives : GiveWay most (first_touched turn) (open_sides_of_record turn) turn.parted sizes signs
   pub beside : turn.left + turn.closed + turn.right ≤ length ends
   pub few_signs : length m.signs ≤ m.count + 1
 
@@ -84,16 +81,19 @@ pub touches : (most : ℕ) (w : Word) (m : Move) (ends sizes : List ℕ) (signs 
     → Touches most w m ends sizes signs closed (turn_at (sizes_of (outline_of w)) (outline_of w).signs m from)
 touches most w m ends sizes signs closed from kept s legal room = record {
   first = omega (arith, first_is (outline_of w) c.shaped m from v f, closed_is (outline_of w) c.shaped m from v f, squares);
-  sizes_within = omega (arith, start_is (outline_of w) c.shaped m from v f, sides_are (outline_of w) c.shaped m from v f, many_segments (outline_of w) v, long);
-  signs_within = omega (
-    arith,
-    start_is (outline_of w) c.shaped m from v f,
-    sides_are (outline_of w) c.shaped m from v f,
-    many_signs (outline_of w) v,
-    ap length s.signs_are,
-  );
-  sizes_fit = omega (arith, sides_are (outline_of w) c.shaped m from v f, many_segments (outline_of w) v, long, after_long, after_few);
-  signs_fit = omega (arith, sides_are (outline_of w) c.shaped m from v f, many_signs (outline_of w) v, ap length s.signs_are, after_long, after_few);
+  gives = record {
+    sizes_within =
+        omega (arith, start_is (outline_of w) c.shaped m from v f, sides_are (outline_of w) c.shaped m from v f, many_segments (outline_of w) v, long);
+    signs_within = omega (
+      arith,
+      start_is (outline_of w) c.shaped m from v f,
+      sides_are (outline_of w) c.shaped m from v f,
+      many_signs (outline_of w) v,
+      ap length s.signs_are,
+    );
+    sizes_fit = omega (arith, sides_are (outline_of w) c.shaped m from v f, many_segments (outline_of w) v, long, after_long, after_few);
+    signs_fit = omega (arith, sides_are (outline_of w) c.shaped m from v f, many_signs (outline_of w) v, ap length s.signs_are, after_long, after_few);
+  };
   beside = omega (
     arith,
     left_is (outline_of w) c.shaped m from v f,

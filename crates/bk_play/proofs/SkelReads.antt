@@ -1,18 +1,17 @@
 -- What is read of a skeleton: its segments and its moves.
-use Rattle.std.proofs.Common.{List, Some, [], ap, arith, get_or, length, map, refl, slice_get, slice_index, slice_index_or, slice_range}
-use Rattle.std.proofs.Common.{subst, suc, sum, sym, take, zero, ℕ, ◌++◌, ◌+◌, ◌<◌, ◌∙◌, ◌∷◌, ◌≡◌, ◌≤◌}
+use Rattle.std.proofs.Common.{List, [], ap, arith, get_or, length, map, refl, slice_index, slice_index_or, slice_range}
+use Rattle.std.proofs.Common.{suc, sum, sym, take, zero, ℕ, ◌++◌, ◌+◌, ◌<◌, ◌∙◌, ◌∷◌, ◌≡◌, ◌≤◌}
 use Rattle.std.proofs.lemmas.List.{length-append, length-map}
-use Rattle.bk_laws.proofs.ListPlaces.{slice_get-map_get_or}
 use Rattle.bk_laws.proofs.Sums.{sum-take_suc}
 use Rattle.bk_word.proofs.StoredBytes.{order_more}
-use Rattle.bk_word.specs.Outline.{Outline, start, valley_place}
+use Rattle.bk_word.specs.Outline.{Outline, valley_place}
 use Rattle.bk_word.specs.Play.{AreLegalFrom, after_move}
 use Rattle.bk_word.specs.Word.{Word, order_of}
 use Rattle.bk_word.specs.declared.Sign.{Sign}
 use Rattle.bk_play.proofs.EndNodes.{CutAt, cut_at, here_is}
 use Rattle.bk_play.proofs.SkelFacts.{Counted, counted}
 use Rattle.bk_word.proofs.PlayLaws.{few_signs}
-use Rattle.bk_play.specs.Skeleton.{IsStoredSkeleton, SkeletonLists, Shows, move_of, moves_stored, signs_of, turns_from}
+use Rattle.bk_play.specs.Skeleton.{IsStoredSkeleton, SkeletonLists, Shows, signs_of, turns_from}
 use Rattle.bk_play.specs.declared.turns.MoveRecord.{MoveRecord}
 
 -- what is stored has as many items as its word has squares and segments
@@ -64,21 +63,6 @@ turn_spans o from (m ∷ w) legal few (suc i) d h = let r =
       within = omega (arith, r.within, length-append m.signs (signs_of w));
       few = r.few;
     }
-
--- the signs of each move stand among those stored
-pub span_in : {w : Word} {lists : SkeletonLists}
-    → IsStoredSkeleton w lists → (i : ℕ) (d : MoveRecord) → i < length w → Spans (get_or lists.turns i d) (length lists.played)
-span_in {w = w} {lists = lists} s i d h = subst (λ (l : List MoveRecord). Spans (get_or l i d) (length lists.played)) (sym s.turns_are)
-    (subst (λ (n : ℕ). Spans (get_or (turns_from start 0 w) i d) n) (omega (arith, ap length s.played_are))
-    (turn_spans start 0 w (s.kept).legal (s.kept).few i d h))
-
--- the move at a place, as it is read
-pub move_read : (w : Word) (turns : List MoveRecord) (played read : List Sign) (i : ℕ) (d : MoveRecord) → moves_stored turns played ≡ w → i < length w
-    → read ≡ slice_range played (get_or turns i d).from (get_or turns i d).to
-    → slice_get w i ≡ Some (record { count = (get_or turns i d).count; signs = read })
-move_read w turns played read i d whole h e = ap (λ (l : Word). slice_get l i) (sym whole)
-    ∙ slice_get-map_get_or (move_of played) turns i d (omega (arith, ap length whole, length-map turns (move_of played)))
-    ∙ (λ j. Some (record { count = (get_or turns i d).count; signs = sym e j }))
 
 -- where the squares of a segment end, as it is read
 pub reads_segment : (sizes once again : List ℕ) (signs : List Sign) (place first size : ℕ) → sizes ≡ again → once ≡ again

@@ -1,6 +1,6 @@
 -- How 2u.2eu.1e is stored, the word of the 8 by 5 rectangle of the sides 5, 3, 2, 1 and 1: its valleys, segments,
 -- and records of moves.
-use Rattle.std.proofs.Common.{Some, [], ap, false, refl, slice_get, take, true, ◌∷◌, ◌≡◌}
+use Rattle.std.proofs.Common.{Some, [], ap, arith, false, refl, slice_get, take, true, ◌∷◌, ◌≡◌}
 use Rattle.bk_word.proofs.WordExamples.{staircase}
 use Rattle.bk_word.specs.Outline.{sizes_of, start}
 use Rattle.bk_word.specs.Play.{outline_of}
@@ -81,12 +81,20 @@ joined = refl
 joined_both : joined_sizes 2 3 (Even ∷ Under ∷ Even ∷ []) ≡ 3 ∷ 4 ∷ []
 joined_both = refl
 
--- the valley of the third move has square 4 alone, with squares 1 and 3 before it
+-- the valley of the third move has square 4 alone, with squares 1 and 3 before it; its sign is the fourth of all
 says_where : SaysWhere staircase 2 turn_3
-says_where = record { count = λ m e. same m e; first = refl; closed = refl }
+says_where = record {
+  count = λ m e. ap (λ (n : Move). n.count) (third m e);
+  first = refl;
+  closed = refl;
+  order = omega arith;
+  few = omega arith;
+  within = omega arith;
+  signs = λ m e. ap (λ (n : Move). n.signs) (third m e);
+}
   where
-    same : (m : Move) → slice_get staircase 2 ≡ Some m → turn_3.count ≡ m.count
-    same m e = let third : record { count = 1; signs = Even ∷ [] } ≡ m = cc in ap (λ (n : Move). n.count) third
+    third : (m : Move) → slice_get staircase 2 ≡ Some m → record { count = 1; signs = Even ∷ [] } ≡ m
+    third m e = cc
 
 -- the flat lists after two moves: the open squares, the segments' sizes, the sign between them, and the closed square
 shown : Shows (outline_of (take 2 staircase)) (1 ∷ 3 ∷ 4 ∷ []) (2 ∷ 1 ∷ []) (Under ∷ []) (2 ∷ [])

@@ -11,12 +11,12 @@ use Rattle.bk_play.proofs.SkelFacts.{ShowsIn}
 use Rattle.bk_word_net.proofs.Outlines.Shape.{Shaped, shaped_moves, shaped_start}
 use Rattle.bk_play.proofs.StoredMoves.{Ends, last_move, signs-snoc, turns-snoc}
 use Rattle.bk_word.proofs.PlayLaws.{after-snoc, legal-last, legal_front}
-use Rattle.bk_play.specs.Skeleton.{IsStoredSkeleton, SkeletonLists, first_touched, moves_stored, open_sides_of_record, signs_before, signs_of}
+use Rattle.bk_play.specs.Skeleton.{GiveWay, IsStoredSkeleton, SkeletonLists, first_touched, moves_stored, open_sides_of_record, signs_before, signs_of}
 use Rattle.bk_play.specs.Skeleton.{sizes_before, turn_at}
 use Rattle.bk_play.specs.Skeleton.{turns_from}
 use Rattle.bk_play.specs.Valley.{IsKeptSkeleton}
 use Rattle.bk_play.specs.declared.turns.MoveRecord.{MoveRecord}
-use Rattle.bk_play.proofs.BackFits.{closed_in, ends_in, sizes_in, sizes_few, signs_in, signs_few, ends_few}
+use Rattle.bk_play.proofs.BackFits.{closed_in, ends_few, ends_in, gives_back}
 
 -- the lists with the last move taken back, of this record; before it there were these records
 abbrev pub lists_before : SkeletonLists → List MoveRecord → MoveRecord → SkeletonLists
@@ -38,10 +38,7 @@ pub record TakesBack (w : Word) (lists : SkeletonLists) (rest : List MoveRecord)
   pub closed_within : turn.closed ≤ length lists.closed
   pub ends_within : turn.first + turn.count ≤ length lists.ends
   pub ends_fit : length lists.ends - turn.count + turn.closed ≤ 200
-  pub sizes_within : first_touched turn + (turn.parted + 1) ≤ length lists.sizes
-  pub signs_within : first_touched turn + turn.parted ≤ length lists.signs
-  pub sizes_fit : length lists.sizes - (turn.parted + 1) + (open_sides_of_record turn + 1) ≤ 200
-  pub signs_fit : length lists.signs - turn.parted + open_sides_of_record turn ≤ 200
+  pub gives : GiveWay 200 (first_touched turn) turn.parted (open_sides_of_record turn) lists.sizes lists.signs
 
 -- the last move taken back
 pub takes_back : (w : Word) (lists : SkeletonLists) (rest : List MoveRecord) (turn : MoveRecord)
@@ -68,14 +65,8 @@ takes_back w lists rest turn s cut some = back (last_move w some)
           (ends_in r.front r.last kept legal few (0 + length (signs_of r.front)) lists.ends shows.ends_are);
       ends_fit = subst (λ (t : MoveRecord). length lists.ends - t.count + t.closed ≤ 200) (sym turn_is)
           (ends_few r.front r.last kept legal few (0 + length (signs_of r.front)) lists.ends shows.ends_are);
-      sizes_within = subst (λ (t : MoveRecord). first_touched t + (t.parted + 1) ≤ length lists.sizes) (sym turn_is)
-          (sizes_in r.front r.last kept legal few (0 + length (signs_of r.front)) lists.sizes shows.sizes_are);
-      signs_within = subst (λ (t : MoveRecord). first_touched t + t.parted ≤ length lists.signs) (sym turn_is)
-          (signs_in r.front r.last kept legal few (0 + length (signs_of r.front)) lists.signs shows.signs_are);
-      sizes_fit = subst (λ (t : MoveRecord). length lists.sizes - (t.parted + 1) + (open_sides_of_record t + 1) ≤ 200) (sym turn_is)
-          (sizes_few r.front r.last kept legal few (0 + length (signs_of r.front)) lists.sizes shows.sizes_are);
-      signs_fit = subst (λ (t : MoveRecord). length lists.signs - t.parted + open_sides_of_record t ≤ 200) (sym turn_is)
-          (signs_few r.front r.last kept legal few (0 + length (signs_of r.front)) lists.signs shows.signs_are);
+      gives = subst (λ (t : MoveRecord). GiveWay 200 (first_touched t) t.parted (open_sides_of_record t) lists.sizes lists.signs) (sym turn_is)
+          (gives_back r.front r.last kept legal few (0 + length (signs_of r.front)) lists.sizes lists.signs shows.sizes_are shows.signs_are);
     }
       where
         whole_kept : IsKeptSkeleton (r.front ++ r.last ∷ [])

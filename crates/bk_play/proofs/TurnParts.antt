@@ -16,7 +16,6 @@ use Rattle.bk_word_net.proofs.Outlines.OutlineParts.{left_one, many_signs, none_
 use Rattle.bk_word_net.proofs.Outlines.Shape.{AllFilled, Filled, Shaped}
 use Rattle.bk_word_net.proofs.Outlines.ValleyCut.{AtValley, Beside}
 use Rattle.bk_play.specs.Skeleton.{first_touched, open_sides_of_record, signs_before, sizes_before, turn_at}
-use Rattle.bk_play.specs.declared.turns.MoveRecord.{MoveRecord}
 
 -- a segment beside a valley, or none: how many there are, by how many squares they have
 pub one_beside : (l : List (List ℕ)) → length l ≤ 1 → AllFilled l → min (length (concat l)) 1 ≡ length l
@@ -64,10 +63,6 @@ two_signs left right left_signs right_signs a b filled full =
     cases (inr (l, e, f)) (inr (r, g, h)) = (λ i. slice_range (Under ∷ Above ∷ []) (1 - length (e i)) (1 + length (g i))) ∙ (λ i. sym f i ++ sym h i)
 
 module _ (o : Outline) (shaped : Shaped o) (m : Move) (from : ℕ) (v : AtValley o) (f : Filled o v) where
-  -- the record of the move at this valley
-  abbrev pub turn : MoveRecord
-  turn = turn_at (sizes_of o) o.signs m from
-
   fronts : o.segments ≡ (v.before ++ v.left) ++ (v.valley ∷ (v.right ++ v.after))
   fronts = v.segments ∙ sym (append_assoc v.before v.left (v.valley ∷ (v.right ++ v.after)))
 

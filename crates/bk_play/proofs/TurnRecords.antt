@@ -1,27 +1,25 @@
 -- The record of a move, found by its place among all.
 use Rattle.std.proofs.Common.{List, Some, [], ap, arith, drop, length, slice_get, slice_index_or, slice_range, subst, suc}
 use Rattle.std.proofs.Common.{sym, take, zero, ℕ, ◌+◌, ◌-◌, ◌<◌, ◌∙◌, ◌∷◌, ◌≡◌, ◌≤◌}
-use Rattle.std.proofs.lemmas.List.{length-append, length-map}
+use Rattle.std.proofs.lemmas.List.{length-drop, length-map, length-take-le}
 use Rattle.bk_laws.proofs.Sums.{sum-take_map_length}
 use Rattle.bk_laws.proofs.ListItems.{slice_index-map_length}
 use Rattle.bk_word.specs.Outline.{Outline, start, valley_of, valley_place}
 use Rattle.bk_word.specs.Play.{after_move, after_moves}
 use Rattle.bk_word.specs.Word.{Move, Word}
 use Rattle.bk_word.specs.declared.Sign.{Sign}
-use Rattle.bk_play.proofs.StoredMoves.{signs-cons}
+use Rattle.bk_play.proofs.SkelReads.{Spans, turn_spans}
+use Rattle.bk_play.proofs.StoredMoves.{stored_word, turns_many}
 use Rattle.bk_word_net.specs.LaidOutline.{front_of}
-use Rattle.bk_play.specs.Skeleton.{move_of, moves_stored, signs_of, turns_from}
+use Rattle.bk_play.specs.Skeleton.{IsStoredSkeleton, SkeletonLists, move_of, moves_stored, signs_of, turns_from}
 use Rattle.bk_play.specs.TurnRecord.{SaysWhere}
+use Rattle.bk_play.specs.Valley.{IsKeptSkeleton}
 use Rattle.bk_play.specs.declared.turns.MoveRecord.{MoveRecord}
 
--- a record of nothing
-abbrev pub no_turn : MoveRecord
-no_turn = record { place = 0; first = 0; left = 0; closed = 0; right = 0; count = 0; parted = 0; from = 0; to = 0 }
-
 -- the record of a move stands among the records as they are read
-pub place_there : (turns seen : List MoveRecord) (played : List Sign) (now : Word) (i : ℕ) → moves_stored turns played ≡ now → seen ≡ turns
+pub place_there : (played : List Sign) {turns seen : List MoveRecord} {now : Word} {i : ℕ} → moves_stored turns played ≡ now → seen ≡ turns
     → i < length now → i < length seen
-place_there turns seen played now i shown read h = omega (arith, h, ap length shown, length-map turns (move_of played), ap length read)
+place_there played {turns} shown read h = omega (arith, h, ap length shown, length-map turns (move_of played), ap length read)
 
 record At (o : Outline) (w : Word) (i : ℕ) (turn : MoveRecord) : Type 0 where
   count : (m : Move) → slice_get w i ≡ Some m → turn.count ≡ m.count
@@ -42,17 +40,8 @@ turn_there o from (n ∷ w) zero d h = record {
 turn_there o from (n ∷ w) (suc i) d h = let r = turn_there (after_move o n) (from + length n.signs) w i d (omega arith) in
     record { count = r.count; first = r.first; closed = r.closed }
 
--- the record of a move says how many squares it hangs and where its valley stood
-pub says_where : (v w : Word) (turns seen : List MoveRecord) (i : ℕ) (d : MoveRecord) → v ≡ w → turns ≡ turns_from start 0 v → seen ≡ turns
-    → i < length w → SaysWhere w i (slice_index_or seen i d)
-says_where v w turns seen i d a e f h = subst (λ (l : List MoveRecord). SaysWhere w i (slice_index_or l i d))
-    (sym (f ∙ e ∙ ap (turns_from start 0) a)) (from (turn_there start 0 w i d h))
-  where
-    from : At start w i (slice_index_or (turns_from start 0 w) i d) → SaysWhere w i (slice_index_or (turns_from start 0 w) i d)
-    from r = record { count = r.count; first = r.first; closed = r.closed }
-
 -- the signs of a move, cut out of all signs by its record
-pub signs_cut : (played : List Sign) (turns : List MoveRecord) (i : ℕ) (d : MoveRecord) (m : Move) → i < length turns
+signs_cut : (played : List Sign) (turns : List MoveRecord) (i : ℕ) (d : MoveRecord) (m : Move) → i < length turns
     → slice_get (moves_stored turns played) i ≡ Some m → slice_range played (slice_index_or turns i d).from (slice_index_or turns i d).to ≡ m.signs
 signs_cut played [] i d m h e = absurd (omega arith)
 signs_cut played (t ∷ turns) zero d m h e = ap (λ (k : Move). k.signs) same
@@ -61,37 +50,37 @@ signs_cut played (t ∷ turns) zero d m h e = ap (λ (k : Move). k.signs) same
     same = cc
 signs_cut played (t ∷ turns) (suc i) d m h e = signs_cut played turns i d m (omega arith) e
 
-record Within (from end : ℕ) (turn : MoveRecord) : Type 0 where
-  after : from ≤ turn.from
-  order : turn.from ≤ turn.to
-  before : turn.to ≤ end
+-- the record of a move says how many squares it hangs, where its valley stood, and which signs are its own
+pub says_where : {v w : Word} {lists : SkeletonLists} {seen : List MoveRecord} → IsStoredSkeleton v lists → v ≡ w → seen ≡ lists.turns
+    → (i : ℕ) (d : MoveRecord) → i < length w → SaysWhere w i (slice_index_or seen i d)
+says_where {w = w} s a f i d h = subst (λ (l : List MoveRecord). SaysWhere w i (slice_index_or l i d))
+    (sym (f ∙ s.turns_are ∙ ap (turns_from start 0) a)) (record {
+      count = r.count;
+      first = r.first;
+      closed = r.closed;
+      order = spans.order;
+      few = spans.few;
+      within = omega (arith, spans.within);
+      signs = λ m e. signs_cut (signs_of w) (turns_from start 0 w) i d m (omega (arith, h, turns_many start 0 w))
+          (ap (λ (u : Word). slice_get u i) (stored_word w) ∙ e);
+    })
+  where
+    r : At start w i (slice_index_or (turns_from start 0 w) i d)
+    r = turn_there start 0 w i d h
 
-within_there : (o : Outline) (from : ℕ) (w : Word) (i : ℕ) (d : MoveRecord) → i < length w
-    → Within from (from + length (signs_of w)) (slice_index_or (turns_from o from w) i d)
-within_there o from [] i d h = absurd (omega arith)
-within_there o from (n ∷ w) zero d h = record {
-  after = omega arith;
-  order = omega arith;
-  before =
-      omega (arith, length-append n.signs (signs_of w), ap length (signs-cons n w));
-}
-within_there o from (n ∷ w) (suc i) d h = let r = within_there (after_move o n) (from + length n.signs) w i d (omega arith) in
-    record { after = omega (arith, r.after); order = r.order; before = omega (arith, r.before, length-append n.signs (signs_of w), ap length (signs-cons n w)) }
+    kept : IsKeptSkeleton w
+    kept = subst IsKeptSkeleton a s.kept
 
--- the signs that it names stand among those played
-pub signs_within : (v w : Word) (turns seen : List MoveRecord) (played : List Sign) (i : ℕ) (d : MoveRecord) → v ≡ w → turns ≡ turns_from start 0 v
-    → seen ≡ turns → played ≡ signs_of v → i < length w
-    → ((slice_index_or seen i d).from ≤ (slice_index_or seen i d).to) × ((slice_index_or seen i d).to ≤ length played)
-signs_within v w turns seen played i d a e f g h =
-    subst (λ (l : List MoveRecord). ((slice_index_or l i d).from ≤ (slice_index_or l i d).to) × ((slice_index_or l i d).to ≤ length played))
-    (sym (f ∙ e ∙ ap (turns_from start 0) a))
-    (let r = within_there start 0 w i d h in (r.order, omega (arith, r.before, ap length g, ap (λ (u : Word). length (signs_of u)) a)))
+    spans : Spans (slice_index_or (turns_from start 0 w) i d) (0 + length (signs_of w))
+    spans = turn_spans start 0 w kept.legal kept.few i d h
 
--- the signs that a record names stand among those played, as the code has them
-pub signs_seen : (v w : Word) (turns seen : List MoveRecord) (played shown : List Sign) (i : ℕ) (d : MoveRecord) (from to : ℕ) (m : Move)
-    → moves_stored turns played ≡ w → seen ≡ turns → shown ≡ played → i < length turns
-    → from ≡ (slice_index_or seen i d).from → to ≡ (slice_index_or seen i d).to → slice_get w i ≡ Some m → take (to - from) (drop from shown) ≡ m.signs
-signs_seen v w turns seen played shown i d from to m a f g h b e at =
-    (λ j. take ((e ∙ ap (λ (l : List MoveRecord). (slice_index_or l i d).to) f) j - (b ∙ ap (λ (l : List MoveRecord). (slice_index_or l i d).from) f) j)
-    (drop ((b ∙ ap (λ (l : List MoveRecord). (slice_index_or l i d).from) f) j) (g j)))
-    ∙ signs_cut played turns i d m h (ap (λ (u : Word). slice_get u i) a ∙ at)
+-- a move has few signs
+pub signs_few : {w : Word} {i : ℕ} {turn : MoveRecord} (m : Move) → SaysWhere w i turn → slice_get w i ≡ Some m → length m.signs ≤ 201
+signs_few {w} {i} {turn} m says e = omega (
+  arith,
+  says.order,
+  says.few,
+  says.within,
+  ap (length {A = Sign}) (says.signs m e),
+  length-take-le (turn.to - turn.from) (drop turn.from (signs_of w)) (omega (arith, says.within, length-drop turn.from (signs_of w))),
+)

@@ -2,7 +2,7 @@
 use Rattle.std.proofs.Common.{List, [], ap, arith, drop, length, nat_eq, slice_index, slice_index_or, slice_range, suc, sum, sym, take, ℕ, ◌+◌, ◌-◌}
 use Rattle.std.proofs.Common.{◌<◌, ◌∙◌, ◌≡◌, ◌≤◌}
 use Rattle.bk_laws.proofs.Sums.{sum-take_le}
-use Rattle.bk_word.specs.Outline.{valley_of, valley_place}
+use Rattle.bk_word.specs.Outline.{Outline, valley_of, valley_place}
 use Rattle.bk_word.specs.Play.{outline_of}
 use Rattle.bk_word.specs.Word.{Word}
 use Rattle.bk_word.specs.declared.Sign.{Sign}
@@ -57,15 +57,7 @@ valley_cut {w = w} {lists = lists} s looked again squares between place first si
     many = is ∙ ap (λ (l : List ℕ). slice_index l place) f
 
 -- the leftmost valley, as it is read
-pub valley_read : {w : Word} {lists : SkeletonLists}
-    → IsStoredSkeleton w lists
-    → (place many : ℕ) (squares : List ℕ) → place ≡ valley_place lists.signs → many ≡ length lists.signs → squares ≡ valley_of (outline_of w)
-    → (record { place = place; left_wall = nat_eq place 0; right_wall = nat_eq place many; squares = squares }) ≡ leftmost_valley (outline_of w)
-valley_read {w = w} s place many squares at all own =
-    λ i. record { place = is i; left_wall = nat_eq (is i) 0; right_wall = nat_eq (is i) (count i); squares = own i }
-  where
-    is : place ≡ valley_place (outline_of w).signs
-    is = at ∙ ap valley_place (s.shows).signs_are
-
-    count : many ≡ length (outline_of w).signs
-    count = all ∙ ap length (s.shows).signs_are
+pub valley_read : (o : Outline) (place many : ℕ) (squares : List ℕ) → place ≡ valley_place o.signs → many ≡ length o.signs → squares ≡ valley_of o
+    → (record { place = place; left_wall = nat_eq place 0; right_wall = nat_eq place many; squares = squares }) ≡ leftmost_valley o
+valley_read o place many squares at all own =
+    λ i. record { place = at i; left_wall = nat_eq (at i) 0; right_wall = nat_eq (at i) (all i); squares = own i }

@@ -3,7 +3,7 @@
 -- one.
 use Rattle.std.specs.List.{concat}
 use Rattle.std.specs.Prelude.{List, [], cond, count_by, flat_map, length, map, max, min, nat_eq, slice_index}
-use Rattle.std.specs.Prelude.{slice_range, sum, take, ℕ, ◌+◌, ◌-◌, ◌∷◌, ◌≡◌}
+use Rattle.std.specs.Prelude.{slice_range, sum, take, ℕ, ◌+◌, ◌-◌, ◌∷◌, ◌≡◌, ◌≤◌}
 use Rattle.bk_word.specs.Outline.{Outline, sizes_of, start, valley_place}
 use Rattle.bk_word.specs.Play.{after_move, outline_of, parts}
 use Rattle.bk_word.specs.Word.{Move, Word}
@@ -56,6 +56,14 @@ sizes_before turn = slice_range (turn.left ∷ turn.closed ∷ turn.right ∷ []
 
 abbrev pub signs_before : MoveRecord → List Sign
 signs_before turn = slice_range (Under ∷ Above ∷ []) (1 - min turn.left 1) (1 + min turn.right 1)
+
+-- from a segment on, one more than so many sizes, and the signs between them, give way to one more than so many others:
+-- those are there, and these have room
+pub record GiveWay (most start old new : ℕ) (sizes : List ℕ) (signs : List Sign) : Type 0 where
+  pub sizes_within : start + (old + 1) ≤ length sizes
+  pub signs_within : start + old ≤ length signs
+  pub sizes_fit : length sizes - (old + 1) + (new + 1) ≤ most
+  pub signs_fit : length signs - old + new ≤ most
 
 -- the size of the next segment while segments are joined: one new square, or the last segment
 abbrev pub next_size : ℕ → List Sign → ℕ

@@ -1,7 +1,7 @@
 //! The net of a word, from the records of its moves.
 
 ghost use Rattle.std.specs.List.{concat, list_any};
-ghost use Rattle.std.specs.Prelude.{List, cond, length, map, nat_eq, replicate, slice_index, sum, ℕ, ◌+◌, ◌++◌, ◌<◌};
+ghost use Rattle.std.specs.Prelude.{List, cond, length, map, nat_eq, slice_index, sum, ℕ, ◌+◌, ◌++◌, ◌<◌};
 ghost use Rattle.std.specs.Prelude.{◌≡◌, ◌≤◌};
 ghost use Rattle.bk_word_net.specs.WordNet.{end_of};
 ghost use Rattle.bk_play.specs.Wiring.{AreNumbers, AreWires, closed_of, hung_and_closed, move_wires_from};
@@ -20,7 +20,7 @@ pub(crate) fn end_nodes(turns: &[MoveRecord], closed: &[u8]) -> [u8; LARGEST_ORD
     ensures nodes { (lists : List (List ℕ)) → closed.now ≡ concat lists → closed_of turns.now ≡ map length lists
         → (k : ℕ) → k < 200 → slice_index result k ≡ end_of lists (k + 1) }
 {
-    let mut ended = all_at(turns.len() as u8);
+    let mut ended = [turns.len() as u8; LARGEST_ORDER];
     let mut node = turns.len();
     let mut end = closed.len();
     'nodes: while node > 0 {
@@ -30,13 +30,6 @@ pub(crate) fn end_nodes(turns: &[MoveRecord], closed: &[u8]) -> [u8; LARGEST_ORD
         end = start;
     }
     ended
-}
-
-// Each square at one node.
-fn all_at(node: u8) -> [u8; LARGEST_ORDER]
-    ensures { result ≡ replicate 200 node }
-{
-    [node; LARGEST_ORDER]
 }
 
 // Notes for these squares that they end at a node.

@@ -4,8 +4,8 @@
 ghost use Rattle.std.specs.List.{splice};
 ghost use Rattle.std.specs.Prelude.{cond, count_by, filter, length, ◌+◌, ◌-◌, ◌<◌, ◌≡◌, ◌≤◌};
 ghost use Rattle.bk_word.specs.Play.{parts};
-ghost use Rattle.bk_play.specs.Skeleton.{first_touched, joined_sizes, open_sides_of_record, signs_before, sizes_after};
-ghost use Rattle.bk_play.specs.Skeleton.{sizes_before};
+ghost use Rattle.bk_play.specs.Skeleton.{GiveWay, first_touched, joined_sizes, open_sides_of_record, signs_before};
+ghost use Rattle.bk_play.specs.Skeleton.{sizes_after, sizes_before};
 
 use crate::splicing::{make_room, splice};
 use crate::turns::MoveRecord;
@@ -20,10 +20,8 @@ pub(crate) fn apply_signs(
     moved: &[Sign],
 )
     requires parted { turn.now.parted ≡ count_by parts moved.now }
-    requires sizes_within { first_touched turn.now + (open_sides_of_record turn.now + 1) ≤ length sizes.old.items }
-    requires signs_within { first_touched turn.now + open_sides_of_record turn.now ≤ length signs.old.items }
-    requires sizes_fit { length sizes.old.items - (open_sides_of_record turn.now + 1) + (turn.now.parted + 1) ≤ 200 }
-    requires signs_fit { length signs.old.items - open_sides_of_record turn.now + turn.now.parted ≤ 200 }
+    requires room { GiveWay 200 (first_touched turn.now) (open_sides_of_record turn.now) turn.now.parted
+        sizes.old.items signs.old.items }
     requires small { turn.now.left + length moved.now + turn.now.right ≤ 253 }
     ensures sizes { sizes.new.items ≡ splice sizes.old.items (first_touched turn.now)
         (first_touched turn.now + (open_sides_of_record turn.now + 1)) (sizes_after turn.now moved.now) }
@@ -50,10 +48,8 @@ pub(crate) fn undo_signs(
     signs: &mut ArrayVec<Sign, LARGEST_ORDER>,
     turn: &MoveRecord,
 )
-    requires sizes_within { first_touched turn.now + (turn.now.parted + 1) ≤ length sizes.old.items }
-    requires signs_within { first_touched turn.now + turn.now.parted ≤ length signs.old.items }
-    requires sizes_fit { length sizes.old.items - (turn.now.parted + 1) + (open_sides_of_record turn.now + 1) ≤ 200 }
-    requires signs_fit { length signs.old.items - turn.now.parted + open_sides_of_record turn.now ≤ 200 }
+    requires { GiveWay 200 (first_touched turn.now) turn.now.parted (open_sides_of_record turn.now)
+        sizes.old.items signs.old.items }
     ensures sizes { sizes.new.items ≡ splice sizes.old.items (first_touched turn.now)
         (first_touched turn.now + (turn.now.parted + 1)) (sizes_before turn.now) }
     ensures signs { signs.new.items ≡ splice signs.old.items (first_touched turn.now)

@@ -9,6 +9,7 @@ ghost use Rattle.std.specs.List.{concat, splice};
 ghost use Rattle.std.specs.Prelude.{IsTrue, Some, [], length, slice_get, slice_range, take, ◌+◌, ◌++◌, ◌-◌, ◌<◌, ◌∷◌};
 ghost use Rattle.std.specs.Prelude.{◌≡◌, ◌≤◌, ◌↔◌};
 ghost use Rattle.bk_word.specs.Outline.{IsLegalMove, has_left_wall, has_right_wall, open_side, sizes_of, valley_of};
+ghost use Rattle.bk_word.specs.Outline.{valley_place};
 ghost use Rattle.bk_word.specs.Play.{IsComplete, numbers_from, outline_of};
 ghost use Rattle.bk_word.specs.Word.{Move as SeenMove, order_of};
 ghost use Rattle.bk_play.specs.Valley.{IsKeptSkeleton, leftmost_valley};
@@ -67,21 +68,14 @@ pub struct Skel {
 
 impl Model for Skel {
     ghost use Rattle.bk_word.specs.Word.{Word as Moves};
-    ghost use Rattle.bk_play.specs.Skeleton.{IsStoredSkeleton, moves_stored};
+    ghost use Rattle.bk_play.specs.Skeleton.{IsStoredSkeleton};
+    ghost use Rattle.bk_play.specs.StoredLists.{lists_of, moves_in};
 
     ghost Value = { Moves };
 
-    ghost view = { λ s. moves_stored s.turns.items s.played.items };
+    ghost view = { λ s. moves_in (lists_of s) };
 
-    ghost invariant = { λ s. IsStoredSkeleton (moves_stored s.turns.items s.played.items)
-        (record {
-          ends = s.ends.items;
-          sizes = s.sizes.items;
-          signs = s.signs.items;
-          closed = s.closed.items;
-          turns = s.turns.items;
-          played = s.played.items;
-        }) };
+    ghost invariant = { λ s. IsStoredSkeleton (moves_in (lists_of s)) (lists_of s) };
 }
 
 impl Skel {
@@ -105,13 +99,7 @@ impl Skel {
     pub fn clear(&mut self)
         ensures { self.new ≡ [] }
     {
-        self.ends.clear();
-        self.sizes.clear();
-        self.sizes.push(0);
-        self.signs.clear();
-        self.closed.clear();
-        self.turns.clear();
-        self.played.clear();
+        *self = Skel::new();
     }
 
     /// Whether the move may be played: it hangs a square, and has a sign between each two of its squares and one more
@@ -179,12 +167,9 @@ impl Skel {
     pub fn valley(&self) -> Valley
         ensures { result ≡ leftmost_valley (outline_of self.now) }
     {
-        let (place, first) = leftmost(&self.sizes, &self.signs);
+        let (place, found) = self.valley_at();
         let mut squares = ArrayVec::new();
-        append(
-            &mut squares,
-            &self.ends[first..first + usize::from(self.sizes[place])],
-        );
+        append(&mut squares, found);
         Valley {
             place,
             left_wall: place == 0,
@@ -197,8 +182,21 @@ impl Skel {
     pub fn valley_squares(&self) -> &[u8]
         ensures { result.now ≡ valley_of (outline_of self.now) }
     {
+        let (_, squares) = self.valley_at();
+        squares
+    }
+
+    // How many open segments stand at the left of the leftmost valley, and the numbers of its squares.
+    fn valley_at(&self) -> (usize, &[u8])
+        ensures place { result.0 ≡ valley_place (outline_of self.now).signs }
+        ensures squares { result.1.now ≡ valley_of (outline_of self.now) }
+        ensures few { length result.1.now ≤ 200 }
+    {
         let (place, first) = leftmost(&self.sizes, &self.signs);
-        &self.ends[first..first + usize::from(self.sizes[place])]
+        (
+            place,
+            &self.ends[first..first + usize::from(self.sizes[place])],
+        )
     }
 
     /// Whether the leftmost valley has a wall at its left, and at its right.
@@ -206,7 +204,7 @@ impl Skel {
         ensures left { result.0 ≡ has_left_wall (outline_of self.now) }
         ensures right { result.1 ≡ has_right_wall (outline_of self.now) }
     {
-        let (place, _) = leftmost(&self.sizes, &self.signs);
+        let (place, _) = self.valley_at();
         (place == 0, place == self.signs.len())
     }
 
@@ -214,8 +212,7 @@ impl Skel {
     pub fn valley_len(&self) -> usize
         ensures { result ≡ length (valley_of (outline_of self.now)) }
     {
-        let (place, _) = leftmost(&self.sizes, &self.signs);
-        usize::from(self.sizes[place])
+        self.valley_squares().len()
     }
 
     /// The numbers of the open squares, segment by segment from left to right. Squares are numbered from 1 in the order
@@ -270,13 +267,9 @@ impl Skel {
         requires { i < length self.now }
         ensures { slice_get self.now i ≡ Some m.new }
     {
-        let turn = self.turns[i];
-        m.count = turn.count;
+        m.count = self.turn(i).count;
         m.signs.clear();
-        append(
-            &mut m.signs,
-            &self.played[usize::from(turn.from)..usize::from(turn.to)],
-        );
+        append(&mut m.signs, self.signs_at(i));
     }
 
     /// How many squares the move at place i, from 0, hangs.
@@ -292,7 +285,7 @@ impl Skel {
         requires { i < length self.now }
         ensures { (m : SeenMove) → slice_get self.now i ≡ Some m → result.now ≡ m.signs }
     {
-        let turn = self.turns[i];
+        let turn = self.turn(i);
         &self.played[usize::from(turn.from)..usize::from(turn.to)]
     }
 

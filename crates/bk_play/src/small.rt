@@ -10,8 +10,8 @@ ghost use Rattle.bk_word.specs.Outline.{IsLegalMove, has_left_wall, has_right_wa
 ghost use Rattle.bk_word.specs.Play.{IsComplete, numbers_from, outline_of, parts};
 ghost use Rattle.bk_word.specs.Word.{order_of};
 ghost use Rattle.bk_word_net.specs.WordNet.{net_of_word};
-ghost use Rattle.bk_play.specs.Skeleton.{first_touched, joined_sizes, open_sides_of_record, sizes_after, turn_at};
-ghost use Rattle.bk_play.specs.Skeleton.{with_parted};
+ghost use Rattle.bk_play.specs.Skeleton.{GiveWay, first_touched, joined_sizes, open_sides_of_record, sizes_after};
+ghost use Rattle.bk_play.specs.Skeleton.{turn_at, with_parted};
 ghost use Rattle.bk_play.specs.SmallSkeleton.{IsOutlineOf, IsValleyPlace, StandsAt};
 ghost use Rattle.bk_play.specs.Valley.{IsKeptSkeleton};
 
@@ -93,22 +93,13 @@ pub struct SmallSkel {
 impl Model for SmallSkel {
     ghost use Rattle.bk_word.specs.Word.{Word as Moves};
     ghost use Rattle.bk_play.specs.SmallSkeleton.{IsStoredSmall};
-    ghost use Rattle.bk_play.specs.Skeleton.{moves_stored};
+    ghost use Rattle.bk_play.specs.StoredLists.{moves_in, small_lists_of};
 
     ghost Value = { Moves };
 
-    ghost view = { λ s. moves_stored s.turns.items s.played.items };
+    ghost view = { λ s. moves_in (small_lists_of s) };
 
-    ghost invariant = { λ s. IsStoredSmall (moves_stored s.turns.items s.played.items)
-        (record {
-          ends = s.open.ends.items;
-          sizes = s.open.sizes.items;
-          signs = s.open.signs.items;
-          closed = s.closed.items;
-          turns = s.turns.items;
-          played = s.played.items;
-        })
-        s.open.place s.open.first };
+    ghost invariant = { λ s. IsStoredSmall (moves_in (small_lists_of s)) (small_lists_of s) s.open.place s.open.first };
 }
 
 impl SmallSkel {
@@ -373,13 +364,10 @@ fn part_and_join(
     turn: &MoveRecord,
     moved: &[Sign],
 ) -> u8
-    requires sizes_within { first_touched turn.now + (open_sides_of_record turn.now + 1) ≤ length sizes.old.items }
-    requires signs_within { first_touched turn.now + open_sides_of_record turn.now ≤ length signs.old.items }
+    requires room { GiveWay 16 (first_touched turn.now) (open_sides_of_record turn.now) (count_by parts moved.now)
+        sizes.old.items signs.old.items }
     requires sizes_few { length sizes.old.items ≤ 16 }
     requires signs_few { length signs.old.items ≤ 16 }
-    requires sizes_fit { length sizes.old.items - (open_sides_of_record turn.now + 1) +
-        (count_by parts moved.now + 1) ≤ 16 }
-    requires signs_fit { length signs.old.items - open_sides_of_record turn.now + count_by parts moved.now ≤ 16 }
     requires small { turn.now.left + length moved.now + turn.now.right ≤ 253 }
     ensures sizes { sizes.new.items ≡ splice sizes.old.items (first_touched turn.now)
         (first_touched turn.now + (open_sides_of_record turn.now + 1)) (sizes_after turn.now moved.now) }

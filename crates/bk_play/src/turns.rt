@@ -1,6 +1,6 @@
 //! The record of a move, by which it is taken back.
 
-ghost use Rattle.std.specs.Prelude.{List, cond, count_by, length, nat_eq, slice_index, sum, take, ◌+◌, ◌-◌, ◌<◌, ◌≡◌};
+ghost use Rattle.std.specs.Prelude.{List, cond, count_by, false, length, slice_index, sum, take, ◌+◌, ◌<◌, ◌≡◌};
 ghost use Rattle.std.specs.Prelude.{◌≤◌};
 ghost use Rattle.bk_word.specs.Outline.{valley_place};
 ghost use Rattle.bk_word.specs.Play.{parts};
@@ -102,9 +102,9 @@ pub(crate) fn turn_at_valley(
     MoveRecord {
         place: place as u8,
         first: first as u8,
-        left: left_of(sizes, place),
+        left: beside(sizes, place == 0, place.saturating_sub(1)),
         closed: sizes[place],
-        right: right_of(sizes, place, signs.len()),
+        right: beside(sizes, place == signs.len(), place + 1),
         count,
         parted: 0,
         from: from as u16,
@@ -131,26 +131,21 @@ pub(crate) fn leftmost(sizes: &[u8], signs: &[Sign]) -> (usize, usize)
     (signs.len(), first)
 }
 
-// How many squares the segment left of a valley has, or 0 at the wall.
-fn left_of(sizes: &[u8], place: usize) -> u8
-    requires { place < length sizes.now }
-    ensures { result ≡ cond (nat_eq place 0) 0 (slice_index sizes.now (place - 1)) }
+// How many squares the segment at a place beside a valley has, or 0 at the wall.
+fn beside(sizes: &[u8], wall: bool, place: usize) -> u8
+    requires { wall ≡ false → place < length sizes.now }
+    ensures { result ≡ cond wall 0 (slice_index sizes.now place) }
 {
-    if place == 0 { 0 } else { sizes[place - 1] }
-}
-
-// How many squares the segment right of a valley has, or 0 at the wall: the last segment has this place.
-fn right_of(sizes: &[u8], place: usize, last: usize) -> u8
-    requires last { length sizes.now ≡ last + 1 }
-    requires within { place ≤ last }
-    ensures { result ≡ cond (nat_eq place last) 0 (slice_index sizes.now (place + 1)) }
-{
-    if place == last { 0 } else { sizes[place + 1] }
+    if wall { 0 } else { sizes[place] }
 }
 
 // How many of the signs stay between two segments.
 fn parting(moved: &[Sign]) -> usize
     ensures { result ≡ count_by parts moved.now }
 {
-    moved.iter().filter(|sign| sign.parts()).count()
+    let mut parted = 0;
+    for sign in moved {
+        parted += usize::from(sign.parts());
+    }
+    parted
 }

@@ -3,7 +3,7 @@ use Rattle.std.proofs.Common.{◌≡◌, ℕ, ◌+◌, ◌≤◌, ◌++◌, ◌�
 use Rattle.std.proofs.lemmas.Grind.{flat_map-append}
 use Rattle.std.proofs.lemmas.List.{append_cancel_right, append-nil}
 use Rattle.bk_ports.specs.CallLaws.{AfterAFailedCallTheOtherStreamIsLeft, EachLineIsAnsweredBeforeTheNextRead}
-use Rattle.bk_ports.specs.Calls.{Call, EndsAsSaid, GiveAllBytes, GoesOn, Program, bytes_given, bytes_written, ends, failed_reads}
+use Rattle.bk_ports.specs.Calls.{Call, EndsAsSaid, GiveAllBytes, MakesCalls, Program, bytes_given, bytes_written, ends, failed_reads}
 use Rattle.bk_ports.specs.Calls.{failed_writes, faults_by, gave, gave_nothing, given_by, kept, reads, streams_by, took, writes, written_by}
 use Rattle.bk_ports.specs.Ending.{EndsWith, Output}
 use Rattle.bk_ports.specs.Faults.{CountsTell}
@@ -36,8 +36,8 @@ failed_writes_append (kept bytes ∷ a) b =
     one_more (failed_writes (a ++ b)) (failed_writes a) (failed_writes b) e
 
 -- calls after calls
-goes_on_further : (p q r : Program) (a b : List Call) → GoesOn p a q → GoesOn q b r → GoesOn p (a ++ b) r
-goes_on_further p q r [] b first then = subst (λ (x : Program). GoesOn x b r) first then
+goes_on_further : (p q r : Program) (a b : List Call) → MakesCalls p a q → MakesCalls q b r → MakesCalls p (a ++ b) r
+goes_on_further p q r [] b first then = subst (λ (x : Program). MakesCalls x b r) first then
 goes_on_further (ends ended) q r (c ∷ a) b first then = absurd first
 goes_on_further (reads room on otherwise) q r (gave bytes ∷ a) b first then =
     (first.0, goes_on_further (on bytes) q r a b first.1 then)
@@ -85,7 +85,7 @@ module _ (output : Output) (program : Program) (said : EndsAsSaid output program
     write_same = flat_map-append written_by calls (gave_nothing ∷ []) ∙ append-nil (bytes_written calls)
 
   -- no run is left with a failed read and a failed write
-  no_end : (next : Program) (calls : List Call) → GoesOn program calls next → GiveAllBytes calls rest → 1 ≤ failed_reads calls → 1 ≤ failed_writes calls → ⊥
+  no_end : (next : Program) (calls : List Call) → MakesCalls program calls next → GiveAllBytes calls rest → 1 ≤ failed_reads calls → 1 ≤ failed_writes calls → ⊥
   no_end (ends ended) calls on all r w = not_both ended (failed_reads calls) (failed_writes calls) (said calls rest ended on all).1 r w
   no_end (reads room go otherwise) calls on all r w =
       let more = calls ++ gave_nothing ∷ [] in
@@ -101,7 +101,7 @@ module _ (output : Output) (program : Program) (said : EndsAsSaid output program
       (give_all_further calls (kept [] ∷ []) rest all tt refl) (omega (arith, er, r)) (omega (arith, ew, w))
 
   -- where a read failed, the run doesn't write any more
-  no_write_more : (piece : List ℕ) (go otherwise : Program) (calls : List Call) → GoesOn program calls (writes piece go otherwise)
+  no_write_more : (piece : List ℕ) (go otherwise : Program) (calls : List Call) → MakesCalls program calls (writes piece go otherwise)
       → GiveAllBytes calls rest → 1 ≤ failed_reads calls → ⊥
   no_write_more piece go otherwise calls on all r =
       let more = calls ++ kept [] ∷ [] in
@@ -111,7 +111,7 @@ module _ (output : Output) (program : Program) (said : EndsAsSaid output program
       (give_all_further calls (kept [] ∷ []) rest all tt refl) (omega (arith, er, r)) (omega (arith, ew))
 
   -- where a write failed, the run doesn't read any more
-  no_read_more : (room : ℕ) (go : List ℕ → Program) (otherwise : Program) (calls : List Call) → GoesOn program calls (reads room go otherwise)
+  no_read_more : (room : ℕ) (go : List ℕ → Program) (otherwise : Program) (calls : List Call) → MakesCalls program calls (reads room go otherwise)
       → GiveAllBytes calls rest → 1 ≤ failed_writes calls → ⊥
   no_read_more room go otherwise calls on all w =
       let more = calls ++ gave_nothing ∷ [] in
@@ -147,7 +147,7 @@ module _ (output : Output) (program : Program) (said : EndsAsSaid output program
       )
 
   -- where a read failed, what is written for the lines whose line feed was taken stands there
-  stands_after : (next : Program) (calls : List Call) → GoesOn program calls next → GiveAllBytes calls rest → 1 ≤ failed_reads calls → Stands calls
+  stands_after : (next : Program) (calls : List Call) → MakesCalls program calls next → GiveAllBytes calls rest → 1 ≤ failed_reads calls → Stands calls
   stands_after (ends ended) calls on all r =
       let s = said calls rest ended on all in ended_there ended calls s.0 s.1 r
   stands_after (reads room go otherwise) calls on all r =

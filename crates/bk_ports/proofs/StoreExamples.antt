@@ -2,7 +2,7 @@
 use Rattle.std.proofs.Common.{◌≡◌, ℕ, List, [], ◌∷◌, Some, None, Ok, Err, refl}
 use Rattle.std.specs.Prelude.{codes}
 use Rattle.bk_ports.specs.Causes.{counted}
-use Rattle.bk_ports.specs.Told.{count_after, told_of}
+use Rattle.bk_ports.specs.ToldCalls.{count_after, told_of}
 use Rattle.bk_ports.specs.Stores.{Supply, given_count, after_read, limit_of, Store, kept_count, after_write}
 
 -- a count rises, and stays at the last value of a `u64`

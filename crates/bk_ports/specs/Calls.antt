@@ -27,14 +27,14 @@ pub data Call : Type 0 where
   kept : List ℕ → Call
 
 -- the program may make these calls, which go so, and then goes on as another
-abbrev pub GoesOn : Program → List Call → Program → Type 0
-GoesOn program [] next = next ≡ program
-GoesOn (reads room on otherwise) (gave bytes ∷ calls) next = (length bytes ≤ room) × GoesOn (on bytes) calls next
-GoesOn (reads room on otherwise) (gave_nothing ∷ calls) next = GoesOn otherwise calls next
-GoesOn (writes piece on otherwise) (took bytes ∷ calls) next = (bytes ≡ piece) × GoesOn on calls next
-GoesOn (writes piece on otherwise) (kept bytes ∷ calls) next = ((n : ℕ) × (bytes ≡ take n piece))
-    × GoesOn otherwise calls next
-GoesOn _ (call ∷ calls) next = ⊥
+abbrev pub MakesCalls : Program → List Call → Program → Type 0
+MakesCalls program [] next = next ≡ program
+MakesCalls (reads room on otherwise) (gave bytes ∷ calls) next = (length bytes ≤ room) × MakesCalls (on bytes) calls next
+MakesCalls (reads room on otherwise) (gave_nothing ∷ calls) next = MakesCalls otherwise calls next
+MakesCalls (writes piece on otherwise) (took bytes ∷ calls) next = (bytes ≡ piece) × MakesCalls on calls next
+MakesCalls (writes piece on otherwise) (kept bytes ∷ calls) next = ((n : ℕ) × (bytes ≡ take n piece))
+    × MakesCalls otherwise calls next
+MakesCalls _ (call ∷ calls) next = ⊥
 
 -- the bytes that a call took from the source
 abbrev pub given_by : Call → List ℕ
@@ -97,5 +97,5 @@ faults_by calls =
 -- each run of the program ends as `enter_lines` and `answer_lines` do, whatever its calls give, and whichever of them
 -- fail
 abbrev pub EndsAsSaid : Output → Program → Type 0
-EndsAsSaid output program = (calls : List Call) (rest : List ℕ) (ended : Ended) → GoesOn program calls (ends ended)
+EndsAsSaid output program = (calls : List Call) (rest : List ℕ) (ended : Ended) → MakesCalls program calls (ends ended)
     → GiveAllBytes calls rest → EndsWith output (streams_by calls rest) ended × CountsTell ended (faults_by calls)

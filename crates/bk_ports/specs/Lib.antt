@@ -1,6 +1,7 @@
 -- What the crate says of reads and writes.
 pub mod Causes
-pub mod Told
+pub mod Stores
+pub mod ToldCalls
 -- And of lines.
 pub mod Answered
 pub mod CallLaws
@@ -12,6 +13,4 @@ pub mod Faults
 pub mod Lines
 pub mod ReadSize
 pub mod Reply
--- How its code keeps it.
-pub mod Stores
 pub mod WrittenAnswer

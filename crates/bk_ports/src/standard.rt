@@ -3,7 +3,7 @@
 ghost use Rattle.std.specs.Prelude.{◌≡◌, ℕ, ◌+◌, ◌-◌, ◌<◌, ◌≤◌, length, IfOk, OnOk, OnErr};
 ghost use Rattle.std.specs.Io.KnownBytes.{Appends, ReadConsumes};
 ghost use Rattle.bk_ports.specs.Causes.{counted, HasCause, AppendsPrefix};
-ghost use Rattle.bk_ports.specs.Told.{count_after, told_of};
+ghost use Rattle.bk_ports.specs.ToldCalls.{count_after, told_of};
 
 use crate::flushed::{Flushed, flush};
 use crate::{Failed, Sink, Source};

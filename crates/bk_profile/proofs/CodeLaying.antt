@@ -161,8 +161,8 @@ module _ (t : Tiling) (tiling : IsTiling t) (laid group back : List Square) (is 
               reaches (omega (arith, (over_from g.row.end g.row.first.y z e).top, later (subst (λ (l : List Square). IsOneOf z (l ++ back)) g.row.is k)))
 
   -- the gap before a group of the tiling is the stretch under which the group stands
-  pub gap : IsGap t.width laid (record { x = g.row.first.x; width = g.row.end - g.row.first.x; level = g.row.first.y })
-  gap = record {
+  pub gap_before_group : IsGap t.width laid (record { x = g.row.first.x; width = g.row.end - g.row.first.x; level = g.row.first.y })
+  gap_before_group = record {
     flat = record {
       some = omega (arith, some_width);
       within = omega (arith, some_width, end_within);
@@ -175,8 +175,8 @@ module _ (t : Tiling) (tiling : IsTiling t) (laid group back : List Square) (is 
   }
 
   -- the sides of a group of the tiling fill the stretch under which it stands
-  pub fits : sum (laid_sides group) ≡ g.row.end - g.row.first.x
-  fits = omega (arith, sum_is_total (laid_sides group), chain_total group g.row.first.x g.row.end g.row.chain)
+  pub group_fills_gap : sum (laid_sides group) ≡ g.row.end - g.row.first.x
+  group_fills_gap = omega (arith, sum_is_total (laid_sides group), chain_total group g.row.first.x g.row.end g.row.chain)
 
   -- the sides of a group of the tiling, laid into the gap, are its squares
   pub group_is : laid ++ laid_group g.row.first.x g.row.first.y (laid_sides group) ≡ laid ++ group
@@ -187,8 +187,8 @@ lays : (t : Tiling) → IsTiling t → (groups : List (List Square)) (laid : Lis
 lays t tiling [] laid is all = sym (append-nil laid) ∙ sym is
 lays t tiling (g ∷ groups) laid is all = (
   record { x = all.0.0.row.first.x; width = all.0.0.row.end - all.0.0.row.first.x; level = all.0.0.row.first.y },
-  gap t tiling laid g (row_of groups) is all.0.0,
-  fits t tiling laid g (row_of groups) is all.0.0,
+  gap_before_group t tiling laid g (row_of groups) is all.0.0,
+  group_fills_gap t tiling laid g (row_of groups) is all.0.0,
   subst (λ (l : List Square). LaysTo t.width l (map (map (λ q. q.s)) groups) t.squares) (sym (group_is t tiling laid g (row_of groups) is all.0.0))
       (lays t tiling groups (laid ++ g) (is ∙ sym (append_assoc laid g (row_of groups))) all.1),
 )

@@ -37,18 +37,6 @@ pub record Dividing (width : ℕ) (sides : List ℕ) (number : ℕ) (p : Laid) (
   pub good : AllByRecursion IsSideGroup code
   pub goes_on : (more : Code) → Divides width p.squares rest more → Divides width [] sides (code ++ more)
 
--- the next group, of another sum than the gap's width, misfits the gap
-pub misfits_next : (p : Laid) (sides : List ℕ) (gap : Segment) (n total : ℕ) → IsGap p.width p.squares gap → take n sides ≡ next_group gap.width sides
-    → total ≡ sum (take n sides) → (total ≡ gap.width → ⊥) → MisfitsNextGroup p sides gap.width total
-misfits_next p sides gap n total is next whole unequal = record {
-  gap = gap;
-  is_gap = is;
-  misfits = record { gap = gap; is_gap = is; width = refl; total_is = sym total_is; misfit = λ e. unequal (total_is ∙ e) };
-}
-  where
-    total_is : total ≡ sum (next_group gap.width sides)
-    total_is = whole ∙ ap (λ (l : List ℕ). sum l) next
-
 module _ (width : ℕ) (sides : List ℕ) (number : ℕ) (p : Laid) (rest : List ℕ) (turn : Dividing width sides number p rest) (few : length sides ≤ 200)
     (good : AllByRecursion IsSide sides) where
   count : length p.squares + length rest ≡ length sides

@@ -16,7 +16,7 @@ use Rattle.bk_tiling.specs.SquareGroups.{laid_group}
 use Rattle.bk_tiling.specs.Tiling.{IsOneOf, IsTiling, IsWithin}
 use Rattle.bk_tiling.specs.declared.Segment.{Segment}
 use Rattle.bk_tiling.specs.declared.Square.{Square}
-use Rattle.bk_code.proofs.GroupSteps.{before, groups_cons, groups_some, side_groups}
+use Rattle.bk_code.proofs.GroupSteps.{with_side_before, groups_cons, groups_some, side_groups}
 use Rattle.bk_code.specs.Code.{Code}
 use Rattle.bk_profile.proofs.Storing.{depth_in_filled_gap}
 use Rattle.bk_profile.specs.Gap.{FitsGap, IsGap, LaysTo, laid_with_group}
@@ -45,11 +45,11 @@ group_alone x y [] some = absurd (omega arith)
 group_alone x y (s ∷ []) some = refl
 group_alone x y (s ∷ t ∷ sides) some =
     groups_cons (record { x = x; y = y; s = s }) (record { x = x + s; y = y; s = t }) (laid_group (x + s + t) y sides)
-    ∙ ap (λ (b : Bool). before b s (side_groups (laid_group (x + s) y (t ∷ sides))))
+    ∙ ap (λ (b : Bool). with_side_before b s (side_groups (laid_group (x + s) y (t ∷ sides))))
     (beside_from (record { x = x; y = y; s = s }) (record { x = x + s; y = y; s = t }) refl refl)
-    ∙ ap (before true s) (group_alone (x + s) y (t ∷ sides) (omega arith))
+    ∙ ap (with_side_before true s) (group_alone (x + s) y (t ∷ sides) (omega arith))
 
-before_more : (b : Bool) (s : ℕ) (code : Code) (group : List ℕ) → 0 < length code → before b s (code ++ group ∷ []) ≡ before b s code ++ group ∷ []
+before_more : (b : Bool) (s : ℕ) (code : Code) (group : List ℕ) → 0 < length code → with_side_before b s (code ++ group ∷ []) ≡ with_side_before b s code ++ group ∷ []
 before_more b s [] group some = absurd (omega arith)
 before_more true s (first ∷ code) group some = refl
 before_more false s (first ∷ code) group some = refl
@@ -61,8 +61,8 @@ groups_append [] x y sides some cut = group_alone x y sides some
 groups_append (q ∷ []) x y [] some cut = absurd (omega arith)
 groups_append (q ∷ []) x y (s ∷ sides) some cut =
     groups_cons q (record { x = x; y = y; s = s }) (laid_group (x + s) y sides)
-    ∙ ap (λ (b : Bool). before b q.s (side_groups (laid_group x y (s ∷ sides)))) (apart (cases_Bool (stands_beside q (record { x = x; y = y; s = s }))))
-    ∙ ap (before false q.s) (group_alone x y (s ∷ sides) (omega arith))
+    ∙ ap (λ (b : Bool). with_side_before b q.s (side_groups (laid_group x y (s ∷ sides)))) (apart (cases_Bool (stands_beside q (record { x = x; y = y; s = s }))))
+    ∙ ap (with_side_before false q.s) (group_alone x y (s ∷ sides) (omega arith))
   where
     apart : (stands_beside q (record { x = x; y = y; s = s }) ≡ true) ⊎ (stands_beside q (record { x = x; y = y; s = s }) ≡ false)
         → stands_beside q (record { x = x; y = y; s = s }) ≡ false
@@ -70,7 +70,7 @@ groups_append (q ∷ []) x y (s ∷ sides) some cut =
     apart (inr e) = e
 groups_append (p ∷ r ∷ laid) x y sides some cut =
     groups_cons p r (laid ++ laid_group x y sides)
-    ∙ ap (before (stands_beside p r) p.s) (groups_append (r ∷ laid) x y sides some cut)
+    ∙ ap (with_side_before (stands_beside p r) p.s) (groups_append (r ∷ laid) x y sides some cut)
     ∙ before_more (stands_beside p r) p.s (side_groups (r ∷ laid)) sides (groups_some r laid)
     ∙ ap (λ (code : Code). code ++ sides ∷ []) (sym (groups_cons p r laid))
 

@@ -30,7 +30,7 @@ some_runs p [] stored = absurd (omega (arith, (stored.outline).whole, (stored.pr
 some_runs p (r ∷ runs) stored = omega arith
 
 -- the stored runs have less than 2^63 columns
-narrow_runs : (p : Laid) (runs : List Run) → IsStoredProfile p runs → width_of runs < 9223372036854775808
+pub narrow_runs : (p : Laid) (runs : List Run) → IsStoredProfile p runs → width_of runs < 9223372036854775808
 narrow_runs p runs stored = omega (arith, (stored.outline).whole, (stored.profile).narrow)
 
 -- what is read off the runs of a stored profile

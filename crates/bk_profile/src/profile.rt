@@ -135,18 +135,9 @@ impl Profile {
         ensures ok { IfOk result (λ taken. LaysNextGroup self.old sides.now taken self.new) }
         ensures err { IfErr result (λ fault. MisfitsNextGroup self.old sides.now fault.gap fault.sum) }
     {
-        let runs = lowest_runs(&self.outline);
-        let gap = runs.segment;
-        let (count, sum) = next_group(gap.width, sides);
-        if sum != gap.width {
-            return Err(GapFault {
-                gap: gap.width,
-                sum,
-            });
-        }
-        let group = &sides[..count];
-        hang(&mut self.outline, runs.first, runs.end, gap.level, group);
-        push_group(&mut self.laid, gap, group);
+        let gap = self.gap();
+        let count = next_group(gap.width, sides);
+        self.lay(&sides[..count])?;
         Ok(count)
     }
 
@@ -191,23 +182,22 @@ impl Profile {
 }
 
 // The next group of a flat list: how many sides it has, the least number of them whose sum reaches the width of the
-// gap, or all; and their sum.
-fn next_group(gap: u64, sides: &[u64]) -> (usize, u64)
+// gap, or all.
+fn next_group(gap: u64, sides: &[u64]) -> usize
     requires gap { 0 < gap }
     requires some { 0 < length sides.now }
     requires few { length sides.now ≤ MOST_SQUARES }
     requires sides { AllByRecursion IsSide sides.now }
-    ensures group { take result.0 sides.now ≡ next_group gap sides.now }
-    ensures total { result.1 ≡ sum (take result.0 sides.now) }
-    ensures some { 0 < result.0 }
-    ensures within { result.0 ≤ length sides.now }
+    ensures group { take result sides.now ≡ next_group gap sides.now }
+    ensures some { 0 < result }
+    ensures within { result ≤ length sides.now }
 {
     let mut sum = 0;
     for i in 0..sides.len() {
         sum += sides[i];
         if sum >= gap {
-            return (i + 1, sum);
+            return i + 1;
         }
     }
-    (sides.len(), sum)
+    sides.len()
 }

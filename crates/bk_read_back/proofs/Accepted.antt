@@ -11,8 +11,8 @@ use Rattle.bk_catalogue.proofs.TreeOfWords.WordCounts.{few_entries}
 use Rattle.bk_catalogue.specs.Catalogue.{Entry, IsEntry}
 use Rattle.bk_report.specs.Answers.{IsCheckLine}
 use Rattle.bk_report.specs.Listings.{entry_text}
-use Rattle.bk_report.specs.declared.listing.Last.{Last}
-use Rattle.bk_report.specs.declared.listing.Last.TheVariants.{End, Limit, Wide}
+use Rattle.bk_report.specs.declared.listing_lines.Last.{Last}
+use Rattle.bk_report.specs.declared.listing_lines.Last.TheVariants.{End, Limit, Wide}
 use Rattle.bk_ports.specs.Lines.{lines_of}
 use Rattle.bk_ports.specs.Reply.{AreReplies, Reply, some_refused, text_of}
 use Rattle.bk_answer.proofs.OneAnswer.{cause_of, command_cause, not_refused, one_answer, skip_not_stated}

@@ -9,18 +9,18 @@ use Rattle.bk_net.specs.Flow.{IsFlow, outflow}
 use Rattle.bk_net.specs.Net.{Net}
 
 -- each number k times as large
-abbrev pub times : ℕ → List ℤ → List ℤ
-times k zs = map (λ z. pos k *ℤ z) zs
+abbrev pub all_times : ℕ → List ℤ → List ℤ
+all_times k zs = map (λ z. pos k *ℤ z) zs
 
 -- a positive factor of a list is cancelled
-list_back : (k : ℕ) (xs ys : List ℤ) → 0 < k → times k xs ≡ times k ys → xs ≡ ys
+list_back : (k : ℕ) (xs ys : List ℤ) → 0 < k → all_times k xs ≡ all_times k ys → xs ≡ ys
 list_back k [] [] some e = refl
 list_back k [] (y ∷ ys) some e = absurd cc
 list_back k (x ∷ xs) [] some e = absurd cc
 list_back k (x ∷ xs) (y ∷ ys) some e =
     λ i. cancel_left k x y some (head_same _ _ _ _ e) i ∷ list_back k xs ys some (tail_same _ _ _ _ e) i
 
-potential_times : (k : ℕ) (ps : List ℤ) (v : ℕ) → slice_index_or (times k ps) v (pos 0) ≡ pos k *ℤ slice_index_or ps v (pos 0)
+potential_times : (k : ℕ) (ps : List ℤ) (v : ℕ) → slice_index_or (all_times k ps) v (pos 0) ≡ pos k *ℤ slice_index_or ps v (pos 0)
 potential_times k [] v = sym (mul-zero (pos k))
 potential_times k (p ∷ ps) zero = refl
 potential_times k (p ∷ ps) (suc v) = potential_times k ps v
@@ -28,7 +28,7 @@ potential_times k (p ∷ ps) (suc v) = potential_times k ps v
 abbrev drops : List ℤ → List (ℕ × ℕ) → List ℤ
 drops ps ws = map (λ w. slice_index_or ps w.0 (pos 0) -ℤ slice_index_or ps w.1 (pos 0)) ws
 
-drops_times : (k : ℕ) (ps : List ℤ) (ws : List (ℕ × ℕ)) → drops (times k ps) ws ≡ times k (drops ps ws)
+drops_times : (k : ℕ) (ps : List ℤ) (ws : List (ℕ × ℕ)) → drops (all_times k ps) ws ≡ all_times k (drops ps ws)
 drops_times k ps [] = refl
 drops_times k ps (w ∷ ws) =
     let first = (λ i. potential_times k ps w.0 i -ℤ potential_times k ps w.1 i)
@@ -55,7 +55,7 @@ out_times z (w ∷ ws) (c ∷ cs) v = omega (
 
 -- a flow of multiples of k, divided by k
 pub divided_flow : (net : Net) (k : ℕ) (total : ℤ) (ps cs : List ℤ) → 0 < k
-    → IsFlow net (record { total = pos k *ℤ total; potentials = times k ps; currents = times k cs })
+    → IsFlow net (record { total = pos k *ℤ total; potentials = all_times k ps; currents = all_times k cs })
     → IsFlow net (record { total = total; potentials = ps; currents = cs })
 divided_flow net k total ps cs some flow = record {
   nodes = sym (length-map ps (λ z. pos k *ℤ z)) ∙ flow.nodes;

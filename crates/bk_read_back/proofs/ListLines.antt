@@ -9,8 +9,8 @@ use Rattle.bk_word.specs.declared.Class.{Class}
 use Rattle.bk_word.specs.declared.Class.TheVariants.{Imperfect, Perfect, Simple}
 use Rattle.bk_report.specs.Listings.{class_words, last_name}
 use Rattle.bk_report.specs.Answers.{spaced}
-use Rattle.bk_report.specs.declared.listing.Last.{Last}
-use Rattle.bk_report.specs.declared.listing.Last.TheVariants.{End, Limit, Wide}
+use Rattle.bk_report.specs.declared.listing_lines.Last.{Last}
+use Rattle.bk_report.specs.declared.listing_lines.Last.TheVariants.{End, Limit, Wide}
 use Rattle.bk_ports.proofs.Cuts.{HasNoFeed, closed-append, closed-none, open-append, open-none}
 use Rattle.bk_ports.specs.Lines.{closed_lines, line_at_end, lines_of, open_line}
 use Rattle.bk_answer.specs.Item.{HasItem}

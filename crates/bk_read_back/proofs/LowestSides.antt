@@ -24,7 +24,7 @@ use Rattle.bk_net.proofs.OneFlowLaws.{ends_from_net, one_flow}
 use Rattle.bk_net.proofs.SidesFlow.{sides_are_the_one_flow}
 use Rattle.bk_net.specs.Diagram.{group_level, node_levels, smith_diagram}
 use Rattle.bk_net.specs.Flow.{Flow, IsFlow, IsPrimitiveFlow}
-use Rattle.bk_read_back.proofs.DividedFlows.{divided_flow, times}
+use Rattle.bk_read_back.proofs.DividedFlows.{divided_flow, all_times}
 use Rattle.bk_read_back.proofs.SmallMembers.{primitive_sides}
 use Prim.Native.Nat.{◌∣◌}
 
@@ -42,7 +42,7 @@ levels_divided g ((q ∷ group) ∷ groups) all = (all.0, levels_divided g group
 
 -- heights over levels that a number divides, divided by it
 heights_times : (g high : ℕ) (levels : List ℕ) → AllByRecursion (λ l. g ∣ l) levels
-    → map (λ l. pos (g * high) -ℤ pos l) levels ≡ times g (map (λ l. pos high -ℤ pos (l / g)) levels)
+    → map (λ l. pos (g * high) -ℤ pos l) levels ≡ all_times g (map (λ l. pos high -ℤ pos (l / g)) levels)
 heights_times g high [] all = refl
 heights_times g high (l ∷ levels) all =
     let level : pos l ≡ pos g *ℤ pos (l / g) = ap pos (sym (mul-div_cancel' g all.0)) ∙ sym (pos-*ℤ-pos g (l / g)) in
@@ -50,7 +50,7 @@ heights_times g high (l ∷ levels) all =
     λ i. first i ∷ heights_times g high levels all.1 i
 
 -- the sides of enlarged squares
-sides_times : (g : ℕ) (squares : List Square) → map (λ q. pos q.s) (map (enlarged_square g) squares) ≡ times g (map (λ q. pos q.s) squares)
+sides_times : (g : ℕ) (squares : List Square) → map (λ q. pos q.s) (map (enlarged_square g) squares) ≡ all_times g (map (λ q. pos q.s) squares)
 sides_times g [] = refl
 sides_times g (q ∷ squares) = λ i. sym (pos-*ℤ-pos g q.s) i ∷ sides_times g squares i
 
@@ -80,10 +80,10 @@ module _ (t : Tiling) (tiling : IsTiling t) where
       let again = whole_again t tiling in
       let total : pos t.width ≡ pos divisor *ℤ pos lowest.width =
       ap (λ (u : Tiling). pos u.width) again ∙ sym (pos-*ℤ-pos divisor lowest.width) in
-      let potentials : map (λ l. pos t.height -ℤ pos l) (node_levels t) ≡ times divisor lowest_flow.potentials =
+      let potentials : map (λ l. pos t.height -ℤ pos l) (node_levels t) ≡ all_times divisor lowest_flow.potentials =
       ap (λ (h : ℕ). map (λ l. pos h -ℤ pos l) (node_levels t)) (ap (λ (u : Tiling). u.height) again)
       ∙ heights_times divisor lowest.height (node_levels t) levels in
-      let currents : map (λ q. pos q.s) t.squares ≡ times divisor lowest_flow.currents =
+      let currents : map (λ q. pos q.s) t.squares ≡ all_times divisor lowest_flow.currents =
       ap (λ (u : Tiling). map (λ q. pos q.s) u.squares) again ∙ sides_times divisor lowest.squares in
       divided_flow (smith_diagram t) divisor lowest_flow.total lowest_flow.potentials lowest_flow.currents (some_divisor t tiling)
       (subst (IsFlow (smith_diagram t))

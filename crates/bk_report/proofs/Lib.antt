@@ -1,5 +1,6 @@
 pub mod AnswerExamples
 pub mod Spaces
+pub mod TemplateLaws
 pub mod Verdicts
 pub mod ListingPieces
 pub mod EntriesRead

@@ -5,8 +5,8 @@ use Rattle.bk_tiling.proofs.ExampleTilings.{rectangle_33x32}
 use Rattle.bk_word.proofs.WordExamples.{word_33x32}
 use Rattle.bk_report.specs.ListLines.{alike_line, foreign_line, group_line, member_line, missing_line, pair_line, pairs_line, refused_line}
 use Rattle.bk_report.specs.ListLines.{counts_in, faults, repeats_line, verified_line}
-use Rattle.bk_report.specs.declared.listing.Last.TheVariants.{End, Wide}
-use Rattle.bk_report.specs.declared.lists.ReportCounts.{ReportCounts}
+use Rattle.bk_report.specs.declared.listing_lines.Last.TheVariants.{End, Wide}
+use Rattle.bk_report.specs.declared.list_reports.ReportCounts.{ReportCounts}
 use Rattle.bk_report.specs.declared.refusal.Refused.TheVariants.{Gap, More}
 
 pub refused : refused_line 4 (Gap 2 15 16) ≡ codes "line 4 no gap 2 15 16" ++ 10 ∷ []

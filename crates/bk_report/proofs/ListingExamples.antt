@@ -9,7 +9,7 @@ use Rattle.bk_word.proofs.WordExamples.{word_33x32}
 use Rattle.bk_word.specs.declared.Class.TheVariants.{Imperfect, Perfect}
 use Rattle.bk_report.specs.Answers.{line}
 use Rattle.bk_report.specs.Listings.{entry_text, last_line, word_line}
-use Rattle.bk_report.specs.declared.listing.Last.TheVariants.{End, Limit, Wide}
+use Rattle.bk_report.specs.declared.listing_lines.Last.TheVariants.{End, Limit, Wide}
 
 pub the_word : word_line word_33x32 ≡ codes "2u.2aa.2ue.2eue.1e" ++ 10 ∷ []
 unfolding digits

@@ -7,22 +7,21 @@ use Rattle.bk_report.specs.Answers.{line, spaced}
 
 -- the pieces of an entry are its front, number, size and code, then its word behind a semicolon
 pub entry_pieces : (front number size code word : List ℕ)
-    → ((((front ++ number) ++ 32 ∷ []) ++ spaced (size ∷ code ∷ [])) ++ codes " ; ") ++ word
+    → (((front ++ (number ++ codes " ")) ++ spaced (size ∷ code ∷ [])) ++ codes " ; ") ++ word
     ≡ front ++ spaced (number ∷ size ∷ code ∷ codes ";" ∷ word ∷ [])
 entry_pieces front number size code word = simp append_assoc
 
 -- the pieces of a listing's last line are its name, order, class, number of entries and wide words
 pub last_pieces : (name order listed : List ℕ) (class wide : List (List ℕ))
-    → (((((((codes "; " ++ name) ++ codes " order ") ++ order) ++ flat_map (λ l. 32 ∷ l) class) ++ codes " listed ") ++ listed)
+    → (((((codes "; " ++ name) ++ (codes " order " ++ order)) ++ flat_map (λ l. 32 ∷ l) class) ++ (codes " listed " ++ listed))
     ++ flat_map (λ l. 32 ∷ l) wide) ++ 10 ∷ []
     ≡ line ((codes ";" ∷ name ∷ codes "order" ∷ order ∷ []) ++ (class ++ (codes "listed" ∷ listed ∷ wide)))
 last_pieces name order listed class wide =
-    to_the_right name order (flat_map (λ l. 32 ∷ l) class) listed (flat_map (λ l. 32 ∷ l) wide)
-    ∙ ap (λ (l : List ℕ). (codes ";" ++ ((32 ∷ name) ++ ((32 ∷ codes "order") ++ ((32 ∷ order) ++ l)))) ++ 10 ∷ [])
+    ap (λ (l : List ℕ). l ++ 10 ∷ [])
+    (in_turn (codes "; " ++ name) (codes " order " ++ order) (flat_map (λ l. 32 ∷ l) class) (codes " listed " ++ listed) (flat_map (λ l. 32 ∷ l) wide)
+    ∙ ap (λ (l : List ℕ). codes ";" ++ ((32 ∷ name) ++ ((32 ∷ codes "order") ++ ((32 ∷ order) ++ l))))
     (sym (flat_map-append (λ (l : List ℕ). 32 ∷ l) class (codes "listed" ∷ listed ∷ wide)))
-    ∙ ap (λ (l : List ℕ). l ++ 10 ∷ []) (blanks_before (codes ";") (name ∷ codes "order" ∷ order ∷ class ++ (codes "listed" ∷ listed ∷ wide)))
+    ∙ blanks_before (codes ";") (name ∷ codes "order" ∷ order ∷ class ++ (codes "listed" ∷ listed ∷ wide)))
   where
-    to_the_right : (name order class listed wide : List ℕ)
-        → (((((((codes "; " ++ name) ++ codes " order ") ++ order) ++ class) ++ codes " listed ") ++ listed) ++ wide) ++ 10 ∷ []
-        ≡ (codes ";" ++ ((32 ∷ name) ++ ((32 ∷ codes "order") ++ ((32 ∷ order) ++ (class ++ ((32 ∷ codes "listed") ++ ((32 ∷ listed) ++ wide))))))) ++ 10 ∷ []
-    to_the_right name order class listed wide = simp append_assoc
+    in_turn : (a b c d e : List ℕ) → (((a ++ b) ++ c) ++ d) ++ e ≡ a ++ (b ++ (c ++ (d ++ e)))
+    in_turn a b c d e = simp append_assoc

@@ -9,31 +9,29 @@ use Rattle.bk_report.specs.Answers.{line, spaced}
 
 -- the pieces of an answer of check, one after another
 pub verdict_pieces : (front number size perfect simple : List ℕ)
-    → ((((((((front ++ codes "ok ") ++ number) ++ 32 ∷ []) ++ size) ++ 32 ∷ []) ++ perfect) ++ 32 ∷ []) ++ simple) ++ 10 ∷ []
+    → ((((((front ++ (codes "ok " ++ (number ++ codes " "))) ++ size) ++ 32 ∷ []) ++ perfect) ++ 32 ∷ []) ++ simple) ++ 10 ∷ []
     ≡ front ++ line (codes "ok" ∷ number ∷ size ∷ perfect ∷ simple ∷ [])
 verdict_pieces front number size perfect simple = simp append_assoc
 
 -- the pieces of a rectangle that some of the squares form, one after another
 pub compound_pieces : (front x y size : List ℕ)
-    → (((((front ++ codes "compound ") ++ x) ++ codes ",") ++ y) ++ 32 ∷ []) ++ size ≡ front ++ spaced (codes "compound" ∷ (x ++ codes "," ++ y) ∷ size ∷ [])
+    → (front ++ (codes "compound " ++ (x ++ (codes "," ++ (y ++ codes " "))))) ++ size ≡ front ++ spaced (codes "compound" ∷ (x ++ codes "," ++ y) ∷ size ∷ [])
 compound_pieces front x y size = simp append_assoc
 
 -- the pieces of a size and a code, one after another
 pub tiling_words : (front size code : List ℕ) → ((front ++ size) ++ 32 ∷ []) ++ code ≡ front ++ spaced (size ∷ code ∷ [])
 tiling_words front size code = simp append_assoc
 
--- the pieces of a line about trial codes, one after another
-pub trial_pieces : (seed count ok perfect simple squares : List ℕ)
-    → ((((((((((((([] ++ codes "trial seed ") ++ seed) ++ codes " count ") ++ count) ++ codes " ok ") ++ ok) ++ codes " perfect ") ++ perfect)
-    ++ codes " simple ") ++ simple) ++ codes " squares ") ++ squares) ++ 10 ∷ [])
-    ≡ line (codes "trial" ∷ codes "seed" ∷ seed ∷ codes "count" ∷ count ∷ codes "ok" ∷ ok ∷ codes "perfect" ∷ perfect ∷ codes "simple" ∷ simple
-    ∷ codes "squares" ∷ squares ∷ [])
-trial_pieces seed count ok perfect simple squares = simp append_assoc
-
 -- pieces with a blank before each
 pub blanks_before : (piece : List ℕ) (pieces : List (List ℕ)) → piece ++ flat_map (λ l. 32 ∷ l) pieces ≡ spaced (piece ∷ pieces)
 blanks_before piece [] = append-nil piece
 blanks_before piece (next ∷ pieces) = ap (λ (l : List ℕ). piece ++ 32 ∷ l) (blanks_before next pieces)
+
+-- pieces with a blank between each two, and more with a blank before each
+pub more_pieces : (piece : List ℕ) (pieces more : List (List ℕ)) → spaced (piece ∷ pieces) ++ flat_map (λ l. 32 ∷ l) more ≡ spaced (piece ∷ pieces ++ more)
+more_pieces piece [] more = blanks_before piece more
+more_pieces piece (next ∷ pieces) more =
+    append_assoc piece (32 ∷ spaced (next ∷ pieces)) (flat_map (λ l. 32 ∷ l) more) ∙ ap (λ (l : List ℕ). piece ++ 32 ∷ l) (more_pieces next pieces more)
 
 -- a number and pieces, `;`, and a number and pieces again: the pieces of a Smith diagram, one after another
 pub net_pieces : {A B : Type 0} (f : A → List ℕ) (g : B → List ℕ) (nodes width : List ℕ) (xs : List A) (ys : List B)

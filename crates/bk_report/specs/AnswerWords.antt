@@ -2,7 +2,7 @@
 -- Example (AnswerExamples): `ok` begins the answer `ok 9 33x32 perfect simple`, and stands in the line of a trial, too.
 use Rattle.std.specs.Prelude.{List, codes, ℕ}
 
--- an item is accepted, and how many trial codes are
+-- an item is accepted: the first word of such an answer; and how many trial codes are
 abbrev pub ok_word : List ℕ
 ok_word = codes "ok"
 

@@ -6,4 +6,5 @@ pub mod EntryLaws
 pub mod ListLines
 pub mod Listings
 pub mod Refusals
+pub mod Templates
 pub mod Trial

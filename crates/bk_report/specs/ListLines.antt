@@ -10,8 +10,8 @@ use Rattle.bk_report.specs.AnswerWords.{foreign_word, items_word, missing_word, 
 use Rattle.bk_report.specs.Answers.{line}
 use Rattle.bk_report.specs.Listings.{entry_text, last_name, wide_words}
 use Rattle.bk_report.specs.Refusals.{refusal_text}
-use Rattle.bk_report.specs.declared.listing.Last.{Last}
-use Rattle.bk_report.specs.declared.lists.ReportCounts.{ReportCounts}
+use Rattle.bk_report.specs.declared.listing_lines.Last.{Last}
+use Rattle.bk_report.specs.declared.list_reports.ReportCounts.{ReportCounts}
 use Rattle.bk_report.specs.declared.refusal.Refused.{Refused}
 
 -- what is said of the line of a number

@@ -10,8 +10,8 @@ use Rattle.bk_word.specs.declared.Class.{Class}
 use Rattle.bk_word.specs.declared.Class.TheVariants.{Imperfect, Perfect, Simple}
 use Rattle.bk_report.specs.AnswerWords.{imperfect_word, order_word, semicolon, simple_word, wide_word}
 use Rattle.bk_report.specs.Answers.{line, spaced}
-use Rattle.bk_report.specs.declared.listing.Last.{Last}
-use Rattle.bk_report.specs.declared.listing.Last.TheVariants.{End, Limit, Wide}
+use Rattle.bk_report.specs.declared.listing_lines.Last.{Last}
+use Rattle.bk_report.specs.declared.listing_lines.Last.TheVariants.{End, Limit, Wide}
 
 -- word: the text of the word
 abbrev pub word_line : Word → List ℕ

@@ -7,7 +7,7 @@ ghost use Rattle.bk_simple.specs.Border.{rectangle_of};
 ghost use Rattle.bk_text.specs.CodeText.{code_text, size_text};
 ghost use Rattle.bk_report.specs.Answers.{IsCheckLine, perfect_text, simple_text, spaced, tiling_line, verdict_line};
 
-use crate::trial::push_named;
+use crate::template::push_filled;
 use bk_code::{Code, code_of};
 use bk_grammar::{AnswerBuffer, push_bytes};
 use bk_simple::{SubRect, part, repeated};
@@ -66,8 +66,7 @@ fn push_verdicts(
     requires { array_vec_len out.old ≤ 7000 }
     ensures { out.new.items ≡ out.old.items ++ verdict_line tiling.now repeated (option_map rectangle_of part) }
 {
-    push_named(b"ok ", tiling.order() as u64, out);
-    out.push(b' ');
+    push_filled(b"ok # ", &[tiling.order() as u64], out);
     write_size(tiling.width(), tiling.height(), out);
     out.push(b' ');
     push_perfect(repeated, out);
@@ -84,7 +83,7 @@ fn push_perfect(repeated: Option<u64>, out: &mut AnswerBuffer)
 {
     match repeated {
         None => push_bytes(b"perfect", out),
-        Some(side) => push_named(b"imperfect ", side, out),
+        Some(side) => push_filled(b"imperfect #", &[side], out),
     }
 }
 
@@ -97,9 +96,7 @@ fn push_simple(part: Option<SubRect>, out: &mut AnswerBuffer)
     match part {
         None => push_bytes(b"simple", out),
         Some(r) => {
-            push_named(b"compound ", r.x, out);
-            push_named(b",", r.y, out);
-            out.push(b' ');
+            push_filled(b"compound #,# ", &[r.x, r.y], out);
             write_size(r.width, r.height, out);
         }
     }

@@ -1,12 +1,12 @@
 //! Why an item is refused, and the texts that say so.
 
-ghost use Rattle.std.specs.Prelude.{◌≡◌, ◌≤◌, ◌++◌, ◌+◌};
+ghost use Rattle.std.specs.Prelude.{length, ◌≡◌, ◌≤◌, ◌++◌, ◌+◌};
 ghost use Rattle.arrayvec.specs.ArrayVec.{array_vec_len};
 ghost use Rattle.bk_report.specs.Refusals.{refusal_line, refusal_text};
+ghost use Rattle.bk_report.specs.Templates.{filled};
 
-use crate::trial::push_named;
-use bk_grammar::{AnswerBuffer, push_bytes};
-use bk_text::write_size;
+use crate::template::push_filled;
+use bk_grammar::AnswerBuffer;
 
 /// Why an item is refused. The names and their order are this project's own.
 #[derive(Clone, Copy)]
@@ -60,32 +60,31 @@ pub(crate) fn push_refusal(refused: &Refused, out: &mut AnswerBuffer)
     ensures text { out.new.items ≡ out.old.items ++ refusal_text refused.now }
     ensures short { array_vec_len out.new ≤ array_vec_len out.old + 120 }
 {
+    let (text, numbers) = template_of(refused);
+    push_filled(text, &numbers, out);
+}
+
+// The text of a refusal with a mark for each number, and the numbers.
+fn template_of(refused: &Refused) -> (&'static [u8], [u64; 3])
+    ensures text { filled result.0.now result.1 ≡ refusal_text refused.now }
+    ensures short { length result.0.now ≤ 20 }
+{
     match *refused {
-        Refused::Long => push_bytes(b"no long", out),
-        Refused::Text { at } => push_named(b"no text ", at as u64, out),
-        Refused::Many => push_bytes(b"no many", out),
-        Refused::Order { sides } => push_named(b"no order ", sides as u64, out),
-        Refused::Gap { group, gap, sum } => {
-            push_named(b"no gap ", group as u64, out);
-            push_named(b" ", gap, out);
-            push_named(b" ", sum, out);
-        }
-        Refused::Open { least, greatest } => {
-            push_named(b"no open ", least, out);
-            push_named(b" ", greatest, out);
-        }
-        Refused::Size { width, height } => {
-            push_bytes(b"no size ", out);
-            write_size(width, height, out);
-        }
-        Refused::Large => push_bytes(b"no large", out),
-        Refused::Nodes { count } => push_named(b"no nodes ", count, out),
-        Refused::Wire { place } => push_named(b"no wire ", place as u64, out),
-        Refused::Loose { node } => push_named(b"no loose ", u64::from(node), out),
-        Refused::Wide => push_bytes(b"wide", out),
-        Refused::Nothing => push_bytes(b"none", out),
-        Refused::Illegal { place } => push_named(b"illegal ", place as u64, out),
-        Refused::Unfinished => push_bytes(b"unfinished", out),
-        Refused::More => push_bytes(b"no more", out),
+        Refused::Long => (b"no long", [0, 0, 0]),
+        Refused::Text { at } => (b"no text #", [at as u64, 0, 0]),
+        Refused::Many => (b"no many", [0, 0, 0]),
+        Refused::Order { sides } => (b"no order #", [sides as u64, 0, 0]),
+        Refused::Gap { group, gap, sum } => (b"no gap # # #", [group as u64, gap, sum]),
+        Refused::Open { least, greatest } => (b"no open # #", [least, greatest, 0]),
+        Refused::Size { width, height } => (b"no size #x#", [width, height, 0]),
+        Refused::Large => (b"no large", [0, 0, 0]),
+        Refused::Nodes { count } => (b"no nodes #", [count, 0, 0]),
+        Refused::Wire { place } => (b"no wire #", [place as u64, 0, 0]),
+        Refused::Loose { node } => (b"no loose #", [u64::from(node), 0, 0]),
+        Refused::Wide => (b"wide", [0, 0, 0]),
+        Refused::Nothing => (b"none", [0, 0, 0]),
+        Refused::Illegal { place } => (b"illegal #", [place as u64, 0, 0]),
+        Refused::Unfinished => (b"unfinished", [0, 0, 0]),
+        Refused::More => (b"no more", [0, 0, 0]),
     }
 }

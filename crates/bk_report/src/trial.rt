@@ -1,10 +1,10 @@
 //! The text of a line about trial codes.
 
-ghost use Rattle.std.specs.Prelude.{decimal, length, ◌+◌, ◌++◌, ◌≡◌, ◌≤◌};
-ghost use Rattle.arrayvec.specs.ArrayVec.{array_vec_len};
+ghost use Rattle.std.specs.Prelude.{◌≡◌};
 ghost use Rattle.bk_report.specs.Trial.{trial_line};
 
-use bk_grammar::{AnswerBuffer, push_bytes, push_number};
+use crate::template::push_filled;
+use bk_grammar::AnswerBuffer;
 
 /// What is counted of trial codes.
 #[derive(Clone, Copy)]
@@ -34,22 +34,10 @@ pub fn write_trial(
         ≡ trial_line seed count (record { accepted = ok; perfect = perfect; simple = simple; squares = squares }) }
 {
     out.clear();
-    push_named(b"trial seed ", seed, out);
-    push_named(b" count ", u64::from(count), out);
-    push_named(b" ok ", ok, out);
-    push_named(b" perfect ", perfect, out);
-    push_named(b" simple ", simple, out);
-    push_named(b" squares ", squares, out);
-    out.push(b'\n');
-}
-
-// Appends a name and a number.
-pub(crate) fn push_named(name: &[u8], number: u64, out: &mut AnswerBuffer)
-    requires name { length name.now ≤ 20 }
-    requires room { array_vec_len out.old ≤ 8000 }
-    ensures text { out.new.items ≡ (out.old.items ++ name.now) ++ decimal number }
-    ensures short { array_vec_len out.new ≤ array_vec_len out.old + 40 }
-{
-    push_bytes(name, out);
-    push_number(number, out);
+    let numbers = [seed, u64::from(count), ok, perfect, simple, squares];
+    push_filled(
+        b"trial seed # count # ok # perfect # simple # squares #\n",
+        &numbers,
+        out,
+    );
 }

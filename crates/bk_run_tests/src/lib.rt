@@ -2,12 +2,4 @@
 #![tactic(auto)]
 
 #[cfg(test)]
-mod lines_rows;
-#[cfg(test)]
-mod ports_rows;
-#[cfg(test)]
-mod report_rows;
-#[cfg(test)]
-mod trial_rows;
-#[cfg(test)]
-mod walk_rows;
+mod rows;

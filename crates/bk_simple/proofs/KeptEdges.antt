@@ -1,5 +1,5 @@
 -- What a kept tiling's squares and their places fit into: numbers of 64 bits.
-use Rattle.std.specs.Prelude.{length, ◌+◌, ◌<◌, ◌≡◌, ℕ, ◌^◌}
+use Rattle.std.specs.Prelude.{length, ◌+◌, ◌<◌, ◌≡◌, ℕ}
 use Rattle.std.specs.List.{All}
 use Rattle.std.proofs.Common.{arith, Fits, w64, ◌*◌}
 use Rattle.bk_tiling.specs.KeptTiling.{IsKept}

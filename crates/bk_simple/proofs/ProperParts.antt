@@ -1,14 +1,12 @@
 -- Where a perfect tiling has a part, it has one that is wider and higher than the square at its top left corner.
-use Rattle.std.specs.Prelude.{Bool, List, [], cond, count_by, false, get_or, length, suc, true, zero, ℕ, ◌+◌, ◌-◌, ◌<◌, ◌∷◌, ◌≡◌, ◌≤◌, ◌||◌, ◌⊎◌}
+use Rattle.std.specs.Prelude.{Bool, List, [], cond, count_by, false, get_or, length, suc, true, zero, ℕ, ◌+◌, ◌-◌, ◌<◌, ◌∷◌, ◌≡◌, ◌≢◌, ◌≤◌, ◌||◌, ◌⊎◌}
 use Rattle.std.proofs.Common.{ap, arith, inl, inr, subst, sym}
-use Rattle.std.proofs.lemmas.Bool.{cases_Bool, cases_eq, cases_lt, false_from_ne_true, le-leb, or_cases, or_left, or_right, true_from_ne_false}
-use Rattle.std.proofs.lemmas.List.Sums.{AllPass-from_list_all, list_all-from_AllPass, sum_by-cons}
+use Rattle.std.proofs.lemmas.Bool.{cases_eq, cases_lt, false_from_ne_true, le-leb, or_cases, or_left, or_right, true_from_ne_false}
+use Rattle.std.proofs.lemmas.List.Sums.{AllPass-from_list_all, count_by-le-length, list_all-from_AllPass, sum_by-cons}
 use Rattle.std.proofs.lemmas.List.{get_or_default}
 use Rattle.bk_laws.proofs.Counts.{count_two}
-use Rattle.bk_tiling.proofs.Cells.{counted_one, covers_from, over_from, IsOver}
-use Rattle.bk_tiling.proofs.Places.{at_place}
-use Rattle.bk_tiling.proofs.TilingLaws.{cell_once}
-use Rattle.bk_tiling.specs.Tiling.{IsOneOf, IsTiling, IsWithin, Rectangle, Tiling, covers}
+use Rattle.bk_tiling.proofs.Cells.{covers_from, over_from, IsOver}
+use Rattle.bk_tiling.specs.Tiling.{IsTiling, IsWithin, Rectangle, Tiling, covers}
 use Rattle.bk_tiling.specs.declared.Square.{Square}
 use Rattle.bk_simple.specs.Border.{IsUncut, is_inside, is_outside}
 use Rattle.bk_simple.specs.Simple.{IsPart, IsPerfect, IsSimple, bottom_right, top_left}
@@ -16,7 +14,7 @@ use Rattle.bk_simple.specs.LargeParts.{HasNoLargePart}
 use Rattle.bk_simple.proofs.CornerOrder.{corners_apart}
 use Rattle.bk_simple.proofs.PartCorners.{covers_first}
 use Rattle.bk_simple.proofs.Parts.{between_corners, bottom_right_below, no_square_across_part, top_left_below, uncut_part}
-use Rattle.bk_simple.proofs.UncutParts.{Meets, inside_from, inside_means, one_over, outside_means, part_from_count, side_at, within_at}
+use Rattle.bk_simple.proofs.UncutParts.{IsAt, Meets, inside_from, inside_means, one_over, outside_means, part_from_count, side_at, square_over, within_at}
 
 -- not all are counted where one isn't
 pub counts_not_all : (p : Square → Bool) (squares : List Square) (k : ℕ) (d : Square) → k < length squares → p (get_or squares k d) ≡ false
@@ -24,28 +22,17 @@ pub counts_not_all : (p : Square → Bool) (squares : List Square) (k : ℕ) (d 
 counts_not_all p [] k d few e = absurd (omega arith)
 counts_not_all p (q ∷ squares) zero d few e =
     let here : ◌≡◌ {A = ℕ} (cond (p q) 1 0) 0 = ap (λ b. cond {A = ℕ} b 1 0) e in
-    omega (arith, here, sum_by-cons (λ y. cond {A = ℕ} (p y) 1 0) q squares, at_most p squares)
+    omega (arith, here, sum_by-cons (λ y. cond {A = ℕ} (p y) 1 0) q squares, count_by-le-length p squares)
+counts_not_all p (q ∷ squares) (suc k) d few e = omega (
+  arith,
+  at_most_one (p q),
+  sum_by-cons (λ y. cond {A = ℕ} (p y) 1 0) q squares,
+  counts_not_all p squares k d (omega (arith, few)) e,
+)
   where
-    at_most : (p : Square → Bool) (squares : List Square) → count_by p squares ≤ length squares
-    at_most p [] = omega arith
-    at_most p (q ∷ squares) = step (cases_Bool (p q)) (at_most p squares)
-      where
-        step : (p q ≡ true) ⊎ (p q ≡ false) → count_by p squares ≤ length squares → count_by p (q ∷ squares) ≤ length (q ∷ squares)
-        step (inl e) rest =
-            let one : ◌≡◌ {A = ℕ} (cond (p q) 1 0) 1 = ap (λ b. cond {A = ℕ} b 1 0) e in
-            omega (arith, one, rest, sum_by-cons (λ y. cond {A = ℕ} (p y) 1 0) q squares)
-        step (inr e) rest =
-            let none : ◌≡◌ {A = ℕ} (cond (p q) 1 0) 0 = ap (λ b. cond {A = ℕ} b 1 0) e in
-            omega (arith, none, rest, sum_by-cons (λ y. cond {A = ℕ} (p y) 1 0) q squares)
-counts_not_all p (q ∷ squares) (suc k) d few e = step (cases_Bool (p q)) (counts_not_all p squares k d (omega arith) e)
-  where
-    step : (p q ≡ true) ⊎ (p q ≡ false) → count_by p squares < length squares → count_by p (q ∷ squares) < length (q ∷ squares)
-    step (inl e) rest =
-        let one : ◌≡◌ {A = ℕ} (cond (p q) 1 0) 1 = ap (λ b. cond {A = ℕ} b 1 0) e in
-        omega (arith, one, rest, sum_by-cons (λ y. cond {A = ℕ} (p y) 1 0) q squares)
-    step (inr e) rest =
-        let none : ◌≡◌ {A = ℕ} (cond (p q) 1 0) 0 = ap (λ b. cond {A = ℕ} b 1 0) e in
-        omega (arith, none, rest, sum_by-cons (λ y. cond {A = ℕ} (p y) 1 0) q squares)
+    at_most_one : (b : Bool) → cond {A = ℕ} b 1 0 ≤ 1
+    at_most_one true = omega arith
+    at_most_one false = omega arith
 
 module _ (t : Tiling) (tiling : IsTiling t) where
   abbrev none : Square
@@ -53,21 +40,6 @@ module _ (t : Tiling) (tiling : IsTiling t) where
 
   abbrev at : ℕ → Square
   at k = get_or t.squares k none
-
-  -- the square over a cell
-  pub record IsAt (c j : ℕ) : Type 0 where
-    pub place : ℕ
-    pub below : place < length t.squares
-    pub over : covers c j (at place) ≡ true
-
-  -- each cell of the rectangle lies in a square
-  pub square_over : (c j : ℕ) → c < t.width → j < t.height → IsAt c j
-  square_over c j wide high = from (counted_one (covers c j) t.squares (omega (arith, cell_once t tiling c j wide high)))
-    where
-      from : (q : Square) × IsOneOf q t.squares × (covers c j q ≡ true) → IsAt c j
-      from (q, one, over) =
-          let found = at_place t.squares q one in
-          record { place = found.0; below = found.1; over = subst (λ (s : Square). covers c j s ≡ true) (sym (found.2 none)) over }
 
   -- a square of a tiling that meets a part lies in it
   pub lies_within : (r : Rectangle) → IsPart t r → (k : ℕ) → k < length t.squares → Meets r (at k) → IsWithin r (at k)
@@ -243,101 +215,108 @@ module _ (t : Tiling) (tiling : IsTiling t) where
         apart_from last low (λ e. omega (arith, e, corners_apart t r tiling part)) w
         (omega (arith, w.right, side, own.left, wide)) (omega (arith, w.bottom, side, own.top, high))
 
+    -- a square of the part over a cell that the first one isn't over
+    record IsOther (c j : ℕ) : Type 0 where
+      pub place : ℕ
+      pub below : place < length t.squares
+      pub over : IsOver c j (at place)
+      pub within : IsWithin r (at place)
+      pub apart : place ≡ top_left t r → ⊥
+
+    other_over : (c j : ℕ) → r.x ≤ c → c < r.x + r.width → r.y ≤ j → j < r.y + r.height → (p.x + p.s ≤ c) ⊎ (p.y + p.s ≤ j) → IsOther c j
+    other_over c j left right top bottom past =
+        let found : IsAt t tiling none c j = square_over t tiling none c j (omega (arith, right, b.right)) (omega (arith, bottom, b.bottom)) in
+        let over : IsOver c j (at found.place) = over_from c j (at found.place) found.over in
+        record {
+          place = found.place;
+          below = found.below;
+          over = over;
+          within = over_within r part c j found.place found.below found.over left right top bottom;
+          apart = λ e. not_over (subst (λ (k : ℕ). IsOver c j (at k)) e over) past;
+        }
+      where
+        not_over : IsOver c j p → (p.x + p.s ≤ c) ⊎ (p.y + p.s ≤ j) → ⊥
+        not_over o (inl h) = omega (arith, o.right, h)
+        not_over o (inr h) = omega (arith, o.bottom, h)
+
+    -- what is left without the first is a part, where two cells of it aren't of one square
+    two_squares_left : (u : Rectangle) → Rests r u → (c j d k : ℕ) (first : IsOther c j) (last : IsOther d k)
+        → (IsOver d k (at first.place) → (at first.place).s ≢ p.s → ⊥) → IsPart t u
+    two_squares_left u rests c j d k first last not_one =
+        rest_is_part r u part rests first.place last.place two first.below last.below (rests.others first.place first.below first.apart first.within)
+        (rests.others last.place last.below last.apart last.within)
+      where
+        two : first.place ≡ last.place → ⊥
+        two e = not_one (subst (λ (i : ℕ). IsOver d k (at i)) (sym e) last.over)
+            (sides_differ perfect first.place (top_left t r) first.below own.below first.apart)
+
     -- where it is as wide, the rest below it is a part
     abbrev under : Rectangle
     under = record { x = r.x; y = r.y + p.s; width = r.width; height = r.height - p.s }
 
+    under_rests : p.s ≡ r.width → p.s < r.height → Rests r under
+    under_rests wide high = record {
+      left = omega arith;
+      top = omega arith;
+      right = omega arith;
+      bottom = omega (arith, high);
+      wide = b.wide;
+      high = omega (arith, high);
+      apart = outside_from under p (inr (inl (omega (arith, own.top))));
+      others = λ k few other w. inside_from under (at k) (record {
+        left = w.left;
+        right = w.right;
+        top = elim (cases_lt (at k).y (r.y + p.s)) [
+          | inl h ↦ absurd (apart_from k few other w
+              (omega (arith, w.right, side_at t tiling k none few, own.left, wide)) (omega (arith, h, own.top)))
+          | inr h ↦ h
+        ];
+        bottom = omega (arith, w.bottom, high);
+      });
+    }
+
     under_is_part : p.s ≡ r.width → p.s < r.height → IsPart t under
     under_is_part wide high =
-        let first : IsAt r.x (r.y + p.s) = square_over r.x (r.y + p.s) (omega (arith, b.right, b.wide)) (omega (arith, b.bottom, high)) in
-        let c : IsOver r.x (r.y + p.s) (at first.place) = over_from r.x (r.y + p.s) (at first.place) first.over in
-        let w : IsWithin r (at first.place) = over_within r part r.x (r.y + p.s) first.place first.below first.over (omega arith) (omega (arith, b.wide))
-        (omega arith) (omega (arith, high)) in
-        let other : first.place ≡ top_left t r → ⊥ =
-        λ e. let o : r.y + p.s < p.y + p.s = subst (λ (k : ℕ). r.y + p.s < (at k).y + (at k).s) e c.bottom in omega (arith, o, own.top) in
-        let shorter : (at first.place).s ≡ p.s → ⊥ = sides_differ perfect first.place (top_left t r) first.below own.below other in
-        let last : IsAt (r.x + r.width - 1) (r.y + p.s) =
-        square_over (r.x + r.width - 1) (r.y + p.s) (omega (arith, b.right, b.wide)) (omega (arith, b.bottom, high)) in
-        let d : IsOver (r.x + r.width - 1) (r.y + p.s) (at last.place) = over_from (r.x + r.width - 1) (r.y + p.s) (at last.place) last.over in
-        let v : IsWithin r (at last.place) = over_within r part (r.x + r.width - 1) (r.y + p.s) last.place last.below last.over (omega (arith, b.wide))
-        (omega (arith, b.wide)) (omega arith) (omega (arith, high)) in
-        let also : last.place ≡ top_left t r → ⊥ =
-        λ e. let o : r.y + p.s < p.y + p.s = subst (λ (k : ℕ). r.y + p.s < (at k).y + (at k).s) e d.bottom in omega (arith, o, own.top) in
-        let two : first.place ≡ last.place → ⊥ =
-        λ e. let o : r.x + r.width - 1 < (at first.place).x + (at first.place).s =
-        subst (λ (k : ℕ). r.x + r.width - 1 < (at k).x + (at k).s) (sym e) d.right in
-        omega (arith, o, c.left, w.left, w.right, shorter, wide, b.wide) in
-        rest_is_part r under part rests first.place last.place two first.below last.below (rests.others first.place first.below other w)
-        (rests.others last.place last.below also v)
-      where
-        rests : Rests r under
-        rests = record {
-          left = omega arith;
-          top = omega arith;
-          right = omega arith;
-          bottom = omega (arith, high);
-          wide = b.wide;
-          high = omega (arith, high);
-          apart = outside_from under p (inr (inl (omega (arith, own.top))));
-          others = λ k few other w. inside_from under (at k) (record {
-            left = w.left;
-            right = w.right;
-            top = elim (cases_lt (at k).y (r.y + p.s)) [
-              | inl h ↦ absurd (apart_from k few other w
-                  (omega (arith, w.right, side_at t tiling k none few, own.left, wide)) (omega (arith, h, own.top)))
-              | inr h ↦ h
-            ];
-            bottom = omega (arith, w.bottom, high);
-          });
-        }
+        let first : IsOther r.x (r.y + p.s) = other_over r.x (r.y + p.s) (omega arith) (omega (arith, b.wide)) (omega arith) (omega (arith, high))
+        (inr (omega (arith, own.top))) in
+        let last : IsOther (r.x + r.width - 1) (r.y + p.s) = other_over (r.x + r.width - 1) (r.y + p.s) (omega (arith, b.wide)) (omega (arith, b.wide))
+        (omega arith) (omega (arith, high)) (inr (omega (arith, own.top))) in
+        two_squares_left under (under_rests wide high) _ _ _ _ first last
+        (λ o shorter. omega (arith, o.right, first.over.left, first.within.left, first.within.right, shorter, wide, b.wide))
 
     -- where it is as high, the rest beside it is a part
     abbrev beside : Rectangle
     beside = record { x = r.x + p.s; y = r.y; width = r.width - p.s; height = r.height }
 
+    beside_rests : p.s ≡ r.height → p.s < r.width → Rests r beside
+    beside_rests high wide = record {
+      left = omega arith;
+      top = omega arith;
+      right = omega (arith, wide);
+      bottom = omega arith;
+      wide = omega (arith, wide);
+      high = b.high;
+      apart = outside_from beside p (inl (inl (omega (arith, own.left))));
+      others = λ k few other w. inside_from beside (at k) (record {
+        left = elim (cases_lt (at k).x (r.x + p.s)) [
+          | inl h ↦ absurd (apart_from k few other w
+              (omega (arith, h, own.left)) (omega (arith, w.bottom, side_at t tiling k none few, own.top, high)))
+          | inr h ↦ h
+        ];
+        right = omega (arith, w.right, wide);
+        top = w.top;
+        bottom = w.bottom;
+      });
+    }
+
     beside_is_part : p.s ≡ r.height → p.s < r.width → IsPart t beside
     beside_is_part high wide =
-        let first : IsAt (r.x + p.s) r.y = square_over (r.x + p.s) r.y (omega (arith, b.right, wide)) (omega (arith, b.bottom, b.high)) in
-        let c : IsOver (r.x + p.s) r.y (at first.place) = over_from (r.x + p.s) r.y (at first.place) first.over in
-        let w : IsWithin r (at first.place) = over_within r part (r.x + p.s) r.y first.place first.below first.over (omega arith) (omega (arith, wide))
-        (omega arith) (omega (arith, b.high)) in
-        let other : first.place ≡ top_left t r → ⊥ =
-        λ e. let o : r.x + p.s < p.x + p.s = subst (λ (k : ℕ). r.x + p.s < (at k).x + (at k).s) e c.right in omega (arith, o, own.left) in
-        let shorter : (at first.place).s ≡ p.s → ⊥ = sides_differ perfect first.place (top_left t r) first.below own.below other in
-        let last : IsAt (r.x + p.s) (r.y + r.height - 1) =
-        square_over (r.x + p.s) (r.y + r.height - 1) (omega (arith, b.right, wide)) (omega (arith, b.bottom, b.high)) in
-        let d : IsOver (r.x + p.s) (r.y + r.height - 1) (at last.place) = over_from (r.x + p.s) (r.y + r.height - 1) (at last.place) last.over in
-        let v : IsWithin r (at last.place) = over_within r part (r.x + p.s) (r.y + r.height - 1) last.place last.below last.over (omega arith)
-        (omega (arith, wide)) (omega (arith, b.high)) (omega (arith, b.high)) in
-        let also : last.place ≡ top_left t r → ⊥ =
-        λ e. let o : r.x + p.s < p.x + p.s = subst (λ (k : ℕ). r.x + p.s < (at k).x + (at k).s) e d.right in omega (arith, o, own.left) in
-        let two : first.place ≡ last.place → ⊥ =
-        λ e. let o : r.y + r.height - 1 < (at first.place).y + (at first.place).s =
-        subst (λ (k : ℕ). r.y + r.height - 1 < (at k).y + (at k).s) (sym e) d.bottom in
-        omega (arith, o, c.top, w.top, w.bottom, shorter, high, b.high) in
-        rest_is_part r beside part rests first.place last.place two first.below last.below (rests.others first.place first.below other w)
-        (rests.others last.place last.below also v)
-      where
-        rests : Rests r beside
-        rests = record {
-          left = omega arith;
-          top = omega arith;
-          right = omega (arith, wide);
-          bottom = omega arith;
-          wide = omega (arith, wide);
-          high = b.high;
-          apart = outside_from beside p (inl (inl (omega (arith, own.left))));
-          others = λ k few other w. inside_from beside (at k) (record {
-            left = elim (cases_lt (at k).x (r.x + p.s)) [
-              | inl h ↦ absurd (apart_from k few other w
-                  (omega (arith, h, own.left)) (omega (arith, w.bottom, side_at t tiling k none few, own.top, high)))
-              | inr h ↦ h
-            ];
-            right = omega (arith, w.right, wide);
-            top = w.top;
-            bottom = w.bottom;
-          });
-        }
+        let first : IsOther (r.x + p.s) r.y = other_over (r.x + p.s) r.y (omega arith) (omega (arith, wide)) (omega arith) (omega (arith, b.high))
+        (inl (omega (arith, own.left))) in
+        let last : IsOther (r.x + p.s) (r.y + r.height - 1) = other_over (r.x + p.s) (r.y + r.height - 1) (omega arith) (omega (arith, wide))
+        (omega (arith, b.high)) (omega (arith, b.high)) (inl (omega (arith, own.left))) in
+        two_squares_left beside (beside_rests high wide) _ _ _ _ first last
+        (λ o shorter. omega (arith, o.bottom, first.over.top, first.within.top, first.within.bottom, shorter, high, b.high))
 
     -- so where no part is larger than its first square both ways, there is a lesser part
     lesser : HasNoLargePart t → (n : ℕ) → r.width + r.height < n + 1 → ((u : Rectangle) → IsPart t u → u.width + u.height < n → ⊥) → ⊥

@@ -5,19 +5,18 @@ use Rattle.std.proofs.Common.{ap, arith, inl, inr, subst, sym, ◌∙◌}
 use Rattle.std.proofs.lemmas.Bool.{cases_eq, cases_lt, true_from_ne_false}
 use Rattle.std.proofs.lemmas.Bool.Decides.{nat_tests}
 use Rattle.std.proofs.lemmas.List.Sums.{sum_by-cons}
-use Rattle.bk_tiling.proofs.Cells.{IsOver, counted_one, covers_from, over_from}
+use Rattle.bk_tiling.proofs.Cells.{IsOver, covers_from, over_from}
 use Rattle.bk_tiling.proofs.OrderLaws.{before_level}
-use Rattle.bk_tiling.proofs.Places.{at_place, later_place}
-use Rattle.bk_tiling.proofs.TilingLaws.{cell_once}
+use Rattle.bk_tiling.proofs.Places.{later_place}
 use Rattle.bk_tiling.specs.CodeOrder.{comes_before}
-use Rattle.bk_tiling.specs.Tiling.{IsOneOf, IsTiling, IsWithin, Rectangle, Tiling, covers, whole}
+use Rattle.bk_tiling.specs.Tiling.{IsTiling, IsWithin, Rectangle, Tiling, whole}
 use Rattle.bk_tiling.specs.declared.Square.{Square}
 use Rattle.bk_simple.specs.Border.{is_inside}
 use Rattle.bk_simple.specs.CornerSquares.{IsBetween}
 use Rattle.bk_simple.specs.Simple.{IsPart, bottom_right, top_left}
 use Rattle.bk_simple.proofs.Parts.{between_corners, bottom_right_below, count_of_part, no_square_across_part, top_left_below}
 use Rattle.bk_simple.proofs.Seams.{IsRunTo}
-use Rattle.bk_simple.proofs.UncutParts.{Meets, inside_from, inside_means, one_over, side_at, within_at}
+use Rattle.bk_simple.proofs.UncutParts.{IsAt, Meets, inside_from, inside_means, one_over, side_at, square_over, within_at}
 
 -- all are counted where each is
 counts_all : (p : Square → Bool) (squares : List Square) (d : Square) → ((k : ℕ) → k < length squares → p (get_or squares k d) ≡ true)
@@ -34,20 +33,6 @@ module _ (t : Tiling) (tiling : IsTiling t) (d : Square) where
   -- the lower edge of a square
   abbrev pub end_of : ℕ → ℕ
   end_of k = (at k).y + (at k).s
-
-  -- a square over a cell
-  record IsAt (c j : ℕ) : Type 0 where
-    pub place : ℕ
-    pub below : place < length t.squares
-    pub over : covers c j (at place) ≡ true
-
-  square_over : (c j : ℕ) → c < t.width → j < t.height → IsAt c j
-  square_over c j wide high = from (counted_one (covers c j) t.squares (omega (arith, cell_once t tiling c j wide high)))
-    where
-      from : (q : Square) × IsOneOf q t.squares × (covers c j q ≡ true) → IsAt c j
-      from (q, one, over) =
-          let found = at_place t.squares q one in
-          record { place = found.0; below = found.1; over = subst (λ (s : Square). covers c j s ≡ true) (sym (found.2 d)) over }
 
   -- of two squares over one column the later one begins where the earlier one has ended
   column_order : (c m k : ℕ) → m < k → k < length t.squares → (at m).x ≤ c → c < (at m).x + (at m).s → (at k).x ≤ c → c < (at k).x + (at k).s
@@ -127,7 +112,7 @@ module _ (t : Tiling) (tiling : IsTiling t) (d : Square) where
 
     on_cell : (c j : ℕ) → p.x ≤ c → c < right → p.y ≤ j → j < bottom → IsOn c j
     on_cell c j left r top low =
-        let a : IsAt c j = square_over c j (omega (arith, placed.last)) (omega (arith, placed.lowest)) in
+        let a : IsAt t tiling d c j = square_over t tiling d c j (omega (arith, placed.last)) (omega (arith, placed.lowest)) in
         let o : IsOver c j (at a.place) = over_from c j (at a.place) a.over in
         let w : IsWithin p (at a.place) = lies a.place a.below (record {
           left = omega (arith, o.right, left);
@@ -154,6 +139,16 @@ module _ (t : Tiling) (tiling : IsTiling t) (d : Square) where
     pub from : k ≤ place
     pub high : (at place).y < p.y + p.height
 
+  -- a square at a side whose squares before place k end above it is such a one
+  later_at : (i right k end c : ℕ) (p : Rectangle) (u : IsUnder i right p) → end < p.y + p.height → (o : IsOn i right p u c end)
+      → (o.place < k → end_of o.place ≤ end) → IsLater k p
+  later_at i right k end c p u high o ended = record {
+    place = o.place;
+    few = o.few;
+    high = omega (arith, o.over.top, high);
+    from = elim (cases_lt o.place k) [ inl early ↦ absurd (omega (arith, o.over.bottom, ended early)) | inr late ↦ late ];
+  }
+
   later : (i right k l r : ℕ) → IsWalk i right k l r → (p : Rectangle) → IsUnder i right p → IsLater k p
   later i right k l r walk p u = cases (walk.parts p u).2
     where
@@ -164,35 +159,13 @@ module _ (t : Tiling) (tiling : IsTiling t) (d : Square) where
       cases (inl h) =
           let o : IsOn i right p u p.x l = on_cell i right p u p.x l (omega arith) (omega (arith, u.ends, here.wide))
           (omega (arith, here.top, walk.from_left)) h in
-          record {
-            place = o.place;
-            few = o.few;
-            high = omega (arith, o.over.top, h);
-            from = elim (cases_lt o.place k) [
-              | inl early ↦ absurd (omega (
-                arith,
-                o.over.bottom,
-                walk.left o.place o.from early o.few (omega (arith, here.left, o.over.left, o.within.left)),
-              ))
-              | inr late ↦ late
-            ];
-          }
+          later_at i right k l p.x p u h o
+          (λ early. walk.left o.place o.from early o.few (omega (arith, here.left, o.over.left, o.within.left)))
       cases (inr h) =
           let o : IsOn i right p u (right - 1) r = on_cell i right p u (right - 1) r (omega (arith, u.ends, here.wide)) (omega (arith, u.ends, here.wide))
           (omega (arith, here.top, walk.from_right)) h in
-          record {
-            place = o.place;
-            few = o.few;
-            high = omega (arith, o.over.top, h);
-            from = elim (cases_lt o.place k) [
-              | inl early ↦ absurd (omega (
-                arith,
-                o.over.bottom,
-                walk.right o.place o.from early o.few (omega (arith, u.ends, here.wide, o.over.right, o.within.right)),
-              ))
-              | inr late ↦ late
-            ];
-          }
+          later_at i right k r (right - 1) p u h o
+          (λ early. walk.right o.place o.from early o.few (omega (arith, u.ends, here.wide, o.over.right, o.within.right)))
 
   -- the squares from place i to place last stand side by side
   module _ (i last right : ℕ) (run : IsRunTo t.squares i d (last + 1) right) where
@@ -326,29 +299,13 @@ module _ (t : Tiling) (tiling : IsTiling t) (d : Square) where
       low : (at i).y ≤ (at k).y
       low = next_low i k walk.some few
 
+      within : p.x < (at k).x + (at k).s → (at k).x < p.x + p.width → IsWithin p (at k)
+      within ends begins = lies i right p u k few (record { left = ends; right = begins; top = omega (arith, here.top, low, side); bottom = high })
+
       cases : (((at k).x < (at i).x) × ((at i).x < (at k).x + (at k).s)) ⊎ (((at k).x < right) × (right < (at k).x + (at k).s)) → ⊥
-      cases (inl h) = omega (
-        arith,
-        h.0,
-        here.left,
-        (lies i right p u k few (record {
-          left = omega (arith, h.1, here.left);
-          right = omega (arith, h.0, here.left, here.wide);
-          top = omega (arith, here.top, low, side);
-          bottom = high;
-        })).left,
-      )
-      cases (inr h) = omega (
-        arith,
-        h.1,
-        u.ends,
-        (lies i right p u k few (record {
-          left = omega (arith, h.1, u.ends);
-          right = omega (arith, h.0, u.ends);
-          top = omega (arith, here.top, low, side);
-          bottom = high;
-        })).right,
-      )
+      cases (inl h) =
+          omega (arith, h.0, here.left, (within (omega (arith, h.1, here.left)) (omega (arith, h.0, here.left, here.wide))).left)
+      cases (inr h) = omega (arith, h.1, u.ends, (within (omega (arith, h.1, u.ends)) (omega (arith, h.0, u.ends))).right)
 
   -- the ends with one square more
   pub record AreNext (i edge k l r new_l new_r : ℕ) : Type 0 where

@@ -1,16 +1,17 @@
 -- A rectangle whose border cuts no square of a tiling is a part of it, where at least two squares and not all lie in it.
 use Rattle.std.specs.Prelude.{count_by, false, get_or, length, true, ℕ, ◌+◌, ◌<◌}
 use Rattle.std.specs.Prelude.{◌||◌, ◌≡◌, ◌≤◌, ◌⊎◌}
-use Rattle.std.proofs.Common.{arith, inl, inr, ◌∙◌}
+use Rattle.std.proofs.Common.{arith, inl, inr, subst, sym, ◌∙◌}
 use Rattle.std.proofs.lemmas.Bool.{and_from, and_parts, le-leb}
 use Rattle.std.proofs.lemmas.Bool.{leb-false, leb-true, or_cases, or_parts}
 use Rattle.std.proofs.lemmas.List.Elements.{All-from_recursion, recursion_from_All}
 use Rattle.std.proofs.lemmas.List.Sums.{AllPass-from_list_all, length-filter}
 use Rattle.bk_laws.proofs.Counts.{count_by-filter_same, count_two}
 use Rattle.bk_laws.proofs.AllOfLists.{all-filter}
-use Rattle.bk_tiling.proofs.Cells.{IsOver, over_from}
+use Rattle.bk_tiling.proofs.Cells.{IsOver, counted_one, over_from}
+use Rattle.bk_tiling.proofs.Places.{at_place}
 use Rattle.bk_tiling.proofs.TilingLaws.{cell_once}
-use Rattle.bk_tiling.specs.Tiling.{IsTiling, IsWithin, Rectangle, Tiling, covers, order, whole}
+use Rattle.bk_tiling.specs.Tiling.{IsOneOf, IsTiling, IsWithin, Rectangle, Tiling, covers, order, whole}
 use Rattle.bk_tiling.specs.declared.Square.{Square}
 use Rattle.bk_simple.specs.Border.{IsUncut, is_inside, is_outside}
 use Rattle.bk_simple.specs.Simple.{IsPart}
@@ -75,6 +76,21 @@ module _ (t : Tiling) (tiling : IsTiling t) where
       → covers i j (get_or t.squares k d) ≡ true → covers i j (get_or t.squares l d) ≡ true → ⊥
   one_over i j k l d wide high before few over also =
       omega (arith, count_two (covers i j) t.squares k l d before few over also, cell_once t tiling i j wide high)
+
+  -- the square over a cell
+  pub record IsAt (d : Square) (c j : ℕ) : Type 0 where
+    pub place : ℕ
+    pub below : place < length t.squares
+    pub over : covers c j (get_or t.squares place d) ≡ true
+
+  -- each cell of the rectangle lies in a square
+  pub square_over : (d : Square) (c j : ℕ) → c < t.width → j < t.height → IsAt d c j
+  square_over d c j wide high = from (counted_one (covers c j) t.squares (omega (arith, cell_once t tiling c j wide high)))
+    where
+      from : (q : Square) × IsOneOf q t.squares × (covers c j q ≡ true) → IsAt d c j
+      from (q, one, over) =
+          let found = at_place t.squares q one in
+          record { place = found.0; below = found.1; over = subst (λ (s : Square). covers c j s ≡ true) (sym (found.2 d)) over }
 
   -- a rectangle whose border cuts no square is a part where it has enough squares, and not all
   pub part_from_count : (r : Rectangle) → r.x + r.width ≤ t.width → r.y + r.height ≤ t.height → IsUncut r t.squares

@@ -3,8 +3,7 @@
 -- Example (SimpleExamples): of nine squares of side 1 in three rows the four at the top left are such a part. It has
 -- squares 0 and 1 at its top.
 use Rattle.std.specs.Prelude.{ℕ, ◌+◌, ◌<◌, ◌≡◌}
-use Rattle.bk_tiling.specs.Tiling.{Rectangle, Tiling}
-use Rattle.bk_simple.specs.Reach.{square_of}
+use Rattle.bk_tiling.specs.Tiling.{Rectangle, Tiling, square_of}
 use Rattle.bk_simple.specs.Simple.{IsPart, top_left}
 
 -- no part is both wider and higher than the square at its top left corner

@@ -1,14 +1,10 @@
 -- How far a rectangle can reach from its top left corner, where its border cuts no square.
 -- Example (SimpleExamples): in [2,1][1] no rectangle from the top left corner of the second square goes past column 3,
 -- the width.
-use Rattle.std.specs.Prelude.{List, slice_index_or, ℕ, ◌+◌, ◌≡◌, ◌≤◌}
-use Rattle.bk_tiling.specs.Tiling.{Rectangle, Tiling}
+use Rattle.std.specs.Prelude.{List, ℕ, ◌+◌, ◌≡◌, ◌≤◌}
+use Rattle.bk_tiling.specs.Tiling.{Rectangle}
 use Rattle.bk_tiling.specs.declared.Square.{Square}
 use Rattle.bk_simple.specs.Border.{IsUncut}
-
--- the square at a place
-abbrev pub square_of : Tiling → ℕ → Square
-square_of t k = slice_index_or t.squares k (record { x = 0; y = 0; s = 0 })
 
 -- each rectangle from the top left corner of p that ends at column `most` or before, and cuts none of the squares, ends
 -- at column `end` or before

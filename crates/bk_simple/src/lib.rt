@@ -10,9 +10,9 @@ ghost use Rattle.bk_simple.specs.Neighbours.{IsFirstTwice, NoneTwice};
 ghost use Rattle.bk_simple.specs.Simple.{IsFirstPart, IsLeastRepeated, IsPart, IsPerfect, IsSimple, top_left};
 ghost use Rattle.bk_simple.specs.CornerSquares.{IsFirstPartFrom, IsHeldBetween, IsPartAt};
 ghost use Rattle.bk_simple.specs.LargeParts.{HasNoLargePart, HasNoneUnder, HasNoneWider};
-ghost use Rattle.bk_simple.specs.Reach.{NoneHigher, NoneWider, square_of};
+ghost use Rattle.bk_simple.specs.Reach.{NoneHigher, NoneWider};
 ghost use Rattle.bk_tiling.specs.Sharing.{EdgesFit};
-ghost use Rattle.bk_tiling.specs.Tiling.{IsTiling, Rectangle, order, sides_of};
+ghost use Rattle.bk_tiling.specs.Tiling.{IsTiling, Rectangle, order, sides_of, square_of};
 
 mod laws;
 
@@ -188,11 +188,9 @@ fn has_none_under(tiling: &Tiling, i: usize, last: usize) -> bool
     ensures { IsTrue result → HasNoneUnder tiling.now i last }
 {
     let squares = tiling.squares();
-    let (left, right) = (squares[i].x, squares[last].x + squares[last].s);
-    let (mut left_end, mut right_end) = (
-        squares[i].y + squares[i].s,
-        squares[last].y + squares[last].s,
-    );
+    let (first, rightmost) = (squares[i], squares[last]);
+    let (left, right) = (first.x, rightmost.x + rightmost.s);
+    let (mut left_end, mut right_end) = (first.y + first.s, rightmost.y + rightmost.s);
     if left_end == right_end {
         return false;
     }
@@ -204,7 +202,7 @@ fn has_none_under(tiling: &Tiling, i: usize, last: usize) -> bool
         left_end = end_with(left_end, q, q.x == left);
         right_end = end_with(right_end, q, q.x + q.s == right);
         if left_end == right_end {
-            return right - left == tiling.width() && left_end - squares[i].y == tiling.height();
+            return right - left == tiling.width() && left_end - first.y == tiling.height();
         }
     }
     true
@@ -226,9 +224,11 @@ fn part_from(tiling: &Tiling, i: usize) -> Option<SubRect>
     ensures first { IfSome result (λ r. IsFirstPartFrom tiling.now i (rectangle_of r)) }
 {
     let squares = tiling.squares();
+    let first = squares[i];
     let ends = (right_end(tiling, i), tiling.height());
     for j in i + 1..tiling.order() {
-        if crosses(squares[j].x, squares[j].s, squares[i].x) {
+        let q = squares[j];
+        if crosses(q.x, q.s, first.x) {
             return None;
         }
         if let Some(found) = part_at(tiling, i, j, ends) {
@@ -245,10 +245,11 @@ fn right_end(tiling: &Tiling, i: usize) -> u64
     ensures { NoneWider tiling.now.squares (square_of tiling.now i) tiling.now.width result }
 {
     let squares = tiling.squares();
-    let mut end = squares[i].x + squares[i].s;
+    let first = squares[i];
+    let mut end = first.x + first.s;
     for k in i + 1..tiling.order() {
         let q = squares[k];
-        if q.y != squares[i].y || q.x != end {
+        if q.y != first.y || q.x != end {
             return end;
         }
         end += q.s;

@@ -10,9 +10,9 @@ use Rattle.bk_word.specs.Outline.{Outline}
 use Rattle.bk_word.specs.Play.{numbers_from}
 use Rattle.bk_word.specs.declared.Sign.{Sign}
 use Rattle.bk_lay.specs.TilingWord.{depth_before, depth_from, signs_between}
-use Rattle.bk_skel.specs.Board.{CanLay, IsFittingGap}
+use Rattle.bk_skel.specs.PartlyLaid.{CanLay, IsFittingGap}
 use Rattle.bk_skel.proofs.PlacingNumbers.{Window}
-use Rattle.bk_skel.proofs.PlacingTurn.{gap, order, within, fits, only, turn, signs_as, fitting_as}
+use Rattle.bk_skel.proofs.PlacingTurn.{valley_gap, order, within, new_sides_fit, only, is_turn, signs_as, fitting_as}
 use Rattle.bk_skel.proofs.NumbersAfter.{room, few_after, low_as}
 use Rattle.bk_skel.proofs.PlacingWindow.{window_inside, window_as}
 use Rattle.bk_word_net.specs.LaidOutline.{FillsValley, IsNumber, bottom_at}
@@ -53,14 +53,14 @@ pub lays_move : {width : ℕ} {laid : List Square} {numbers : List ℕ} {first e
     → (o : Outline) × CanLay (record { width = width; laid = laid; numbers = numbers })
     (record { first = first; end = end; signs = signs; sides = new }) o → LaysMove width laid numbers first end signs new
 lays_move {width} {laid} {numbers} {first} {end} {signs} {new} (o, c) = record {
-  valley = gap width laid numbers first end signs new o c;
+  valley = valley_gap width laid numbers first end signs new o c;
   order = order width laid numbers first end signs new o c;
   within = within width laid numbers first end signs new o c;
   room = room width laid numbers first end signs new o c;
-  fits = fits width laid numbers first end signs new o c;
+  fits = new_sides_fit width laid numbers first end signs new o c;
   fitting = fitting_as width laid numbers first end signs new o c;
   only = only width laid numbers first end signs new o c;
-  turn = turn width laid numbers first end signs new o c;
+  turn = is_turn width laid numbers first end signs new o c;
   signs_are = signs_as width laid numbers first end signs new o c;
   few = few_after width laid numbers first end signs new o c;
   inside = window_inside width laid numbers first end signs new o c;

@@ -19,8 +19,8 @@ module _ (given : List ℕ) (laid : List Square) (count : ℕ) (fits : count ≤
   laid_long = length-append laid (laid_group v.x v.level (take count (drop (length laid) given))) ∙ ap (λ (n : ℕ). length laid + n) group_long
 
   -- the sides that are left
-  pub further : drop count (drop (length laid) given) ≡ drop (length (laid ++ laid_group v.x v.level (take count (drop (length laid) given)))) given
-  further = drop-drop count (length laid) given ∙ ap (λ (k : ℕ). drop k given) (sym laid_long)
+  pub sides_left : drop count (drop (length laid) given) ≡ drop (length (laid ++ laid_group v.x v.level (take count (drop (length laid) given)))) given
+  sides_left = drop-drop count (length laid) given ∙ ap (λ (k : ℕ). drop k given) (sym laid_long)
 
   laid_next : laid_sides (laid ++ laid_group v.x v.level (take count (drop (length laid) given))) ≡ laid_sides laid
       ++ take count (drop (length laid) given)
@@ -32,7 +32,7 @@ module _ (given : List ℕ) (laid : List Square) (count : ℕ) (fits : count ≤
       → given ≡ laid_sides (laid ++ laid_group v.x v.level (take count (drop (length laid) given)))
       ++ drop (length (laid ++ laid_group v.x v.level (take count (drop (length laid) given)))) given
   sides_next sides = sides ∙ ap (λ (xs : List ℕ). laid_sides laid ++ xs)
-      (sym (take-append-drop count (drop (length laid) given)) ∙ ap (λ (xs : List ℕ). take count (drop (length laid) given) ++ xs) further)
+      (sym (take-append-drop count (drop (length laid) given)) ∙ ap (λ (xs : List ℕ). take count (drop (length laid) given) ++ xs) sides_left)
       ∙ sym (append_assoc (laid_sides laid) (take count (drop (length laid) given))
       (drop (length (laid ++ laid_group v.x v.level (take count (drop (length laid) given)))) given))
       ∙ ap (λ (xs : List ℕ). xs ++ drop (length (laid ++ laid_group v.x v.level (take count (drop (length laid) given)))) given) (sym laid_next)

@@ -19,15 +19,15 @@ use Rattle.bk_word.specs.declared.Sign.{Sign}
 use Rattle.bk_lay.proofs.LaidRuns.{one_of}
 use Rattle.bk_word_net.proofs.Outlines.NumberedSquares.{numbered_square}
 use Rattle.bk_word_net.proofs.Outlines.NumberedValley.{open_after, sees}
-use Rattle.bk_skel.specs.Board.{CanLay}
+use Rattle.bk_skel.specs.PartlyLaid.{CanLay}
 use Rattle.bk_skel.proofs.PlacingNumbers.{all_known_more, known_new}
 use Rattle.bk_word_net.specs.LaidOutline.{IsNumber, back_of, bottom_at, front_of}
-use Rattle.bk_skel.proofs.PlacingTurn.{parts, known, front_is, back_is, low_level}
+use Rattle.bk_skel.proofs.PlacingTurn.{parts, known_numbers, front_is, back_is, low_level}
 
 module _ (width : ℕ) (laid : List Square) (numbers : List ℕ) (first end : ℕ) (signs : List Sign) (new : List ℕ) (o : Outline)
     (c : CanLay (record { width = width; laid = laid; numbers = numbers }) (record { first = first; end = end; signs = signs; sides = new }) o) where
   abbrev gap : Segment
-  gap = (sees width laid o ((c.board).shows) ((c.board).some)).valley
+  gap = (sees width laid o ((c.partly).shows) ((c.partly).some)).valley
 
   front : take first numbers ≡ front_of o
   front = front_is width laid numbers first end signs new o c
@@ -36,17 +36,17 @@ module _ (width : ℕ) (laid : List Square) (numbers : List ℕ) (first end : �
   back = back_is width laid numbers first end signs new o c
 
   all_known : AllByRecursion (IsNumber laid) (front_of o ++ (valley_of o ++ back_of o))
-  all_known = known width laid numbers first end signs new o c
+  all_known = known_numbers width laid numbers first end signs new o c
 
   -- there is room for the numbers after the move
   pub room : length numbers + length new ≤ 200
-  room = omega (arith, (c.board).few, c.room)
+  room = omega (arith, (c.partly).few, c.room)
 
   -- they are few
   pub few_after : length ((take first numbers ++ numbers_from (length laid + 1) (length new)) ++ drop end numbers) ≤ length laid + length new
   few_after = omega (
     arith,
-    (c.board).few,
+    (c.partly).few,
     length-append (take first numbers ++ numbers_from (length laid + 1) (length new)) (drop end numbers),
     length-append (take first numbers) (numbers_from (length laid + 1) (length new)),
     numbers-length (length laid + 1) (length new),
@@ -60,7 +60,7 @@ module _ (width : ℕ) (laid : List Square) (numbers : List ℕ) (first end : �
   -- they are those of the outline after the move
   pub numbers_after : (take first numbers ++ numbers_from (length laid + 1) (length new)) ++ drop end numbers
       ≡ concat (after_move o (record { count = length new; signs = signs })).segments
-  numbers_after = (λ i. (front i ++ numbers_from (((c.board).shows).count i + 1) (length new)) ++ back i)
+  numbers_after = (λ i. (front i ++ numbers_from (((c.partly).shows).count i + 1) (length new)) ++ back i)
       ∙ sym (open_after o (record { count = length new; signs = signs }))
 
   -- a square is laid for each side
@@ -90,7 +90,7 @@ module _ (width : ℕ) (laid : List Square) (numbers : List ℕ) (first end : �
   sides_low x (s ∷ sides) a q (inr h) = sides_low (x + s) sides a.1 q h
 
   low_gap : gap.level ≤ 999_999_999_999_999 * length laid
-  low_gap = low_level width laid numbers first end signs new o c (valley_of o) (sees width laid o ((c.board).shows) ((c.board).some)).gap
+  low_gap = low_level width laid numbers first end signs new o c (valley_of o) (sees width laid o ((c.partly).shows) ((c.partly).some)).gap
 
   -- no square ends deeper than so many squares reach
   pub low_after : (q : Square) → IsOneOf q (laid ++ laid_group gap.x gap.level new)
@@ -98,7 +98,7 @@ module _ (width : ℕ) (laid : List Square) (numbers : List ℕ) (first end : �
   low_after q h = cases (from_append laid (laid_group gap.x gap.level new) q h)
     where
       cases : IsOneOf q laid ⊎ IsOneOf q (laid_group gap.x gap.level new) → q.y + q.s ≤ 999_999_999_999_999 * length (laid ++ laid_group gap.x gap.level new)
-      cases (inl k) = omega (arith, (c.board).low q k, long)
+      cases (inl k) = omega (arith, (c.partly).low q k, long)
       cases (inr k) = omega (arith, long, (c.legal).some, group_top gap.x gap.level new q k, sides_low gap.x new c.sides q k, low_gap)
 
   -- so each bottom is a number that the code can hold

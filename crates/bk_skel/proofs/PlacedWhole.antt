@@ -17,7 +17,7 @@ use Rattle.bk_lay.specs.TilingWord.{MovesFollow}
 use Rattle.bk_word_net.specs.WordFlow.{LaidAlong, laid_so_far}
 use Rattle.bk_word_net.proofs.TilingWords.TilingOfTurns.{Turns, all_deep, built, follow_turns, is_tiling}
 use Rattle.bk_word_net.specs.LaidTiling.{IsLaidWith}
-use Rattle.bk_skel.specs.Board.{IsBoard, IsClosed}
+use Rattle.bk_skel.specs.PartlyLaid.{IsPartlyLaid, IsClosed}
 use Rattle.bk_skel.proofs.PlacingLoop.{first_width, IsPlacedTo}
 
 module _ (given : List ℕ) (all_sides : AllByRecursion IsSide given) (few : length given ≤ 200) (w : Word) (complete : IsComplete w)
@@ -34,8 +34,8 @@ module _ (given : List ℕ) (all_sides : AllByRecursion IsSide given) (few : len
   sides_are : laid_sides laid ≡ given
   sides_are = sym (s.sides ∙ ap (λ (xs : List ℕ). laid_sides laid ++ xs) (none_left (length laid) given all_laid) ∙ append-nil (laid_sides laid))
 
-  board : IsBoard (first_width w given) laid numbers (outline_of w)
-  board = subst (λ (v : Word). IsBoard (first_width w given) laid numbers (after_moves start v)) (take_all i w done) s.board
+  partly : IsPartlyLaid (first_width w given) laid numbers (outline_of w)
+  partly = subst (λ (v : Word). IsPartlyLaid (first_width w given) laid numbers (after_moves start v)) (take_all i w done) s.partly
 
   some : 0 < length laid
   some = from w complete.some complete.legal (omega (arith, all_laid, count))
@@ -59,7 +59,7 @@ module _ (given : List ℕ) (all_sides : AllByRecursion IsSide given) (few : len
   -- past the last move all squares are laid on one segment
   pub placed_closed : IsClosed (first_width w given) laid numbers (outline_of w)
   placed_closed = record {
-    board = board;
+    partly = partly;
     one = complete.one;
     some = some;
     few = omega (arith, all_laid, few);
@@ -68,10 +68,10 @@ module _ (given : List ℕ) (all_sides : AllByRecursion IsSide given) (few : len
   }
 
   abbrev the_tiling : Tiling
-  the_tiling = built (first_width w given) board.some laid (outline_of w) board.shows complete.one some
+  the_tiling = built (first_width w given) partly.some laid (outline_of w) partly.shows complete.one some
 
   tiling : IsTiling the_tiling
-  tiling = is_tiling (first_width w given) board.some laid (outline_of w) board.shows complete.one some
+  tiling = is_tiling (first_width w given) partly.some laid (outline_of w) partly.shows complete.one some
 
   turns : Turns (first_width w given) [] w laid
   turns = s.turns laid (subst (λ (v : Word). Turns (first_width w given) laid v laid) (sym (drop_all i w done)) refl)
@@ -89,4 +89,4 @@ module _ (given : List ℕ) (all_sides : AllByRecursion IsSide given) (few : len
     where
       followed : MovesFollow the_tiling [] w × ((all_levels : List ℕ) × LaidAlong the_tiling (laid_so_far [] []) w (laid_so_far laid all_levels))
       followed = follow_turns the_tiling tiling laid (λ q h. in_order laid q h)
-          (all_deep (first_width w given) board.some laid (outline_of w) board.shows complete.one some) w [] [] turns
+          (all_deep (first_width w given) partly.some laid (outline_of w) partly.shows complete.one some) w [] [] turns

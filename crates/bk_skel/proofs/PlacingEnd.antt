@@ -16,7 +16,7 @@ use Rattle.bk_word.specs.Outline.{Outline, start}
 use Rattle.bk_lay.specs.Depiction.{IsSegment, Span}
 use Rattle.bk_word_net.proofs.TilingWords.TilingOfTurns.{is_tiling, tiles}
 use Rattle.bk_word_net.proofs.Outlines.NumberedSquares.{numbered_bottom, segment_span}
-use Rattle.bk_skel.specs.Board.{IsClosed}
+use Rattle.bk_skel.specs.PartlyLaid.{IsClosed}
 use Rattle.bk_word_net.specs.LaidOutline.{IsNumber, bottom_at}
 
 module _ (width : ℕ) (laid : List Square) (numbers : List ℕ) (o : Outline) (c : IsClosed width laid numbers o) where
@@ -26,7 +26,7 @@ module _ (width : ℕ) (laid : List Square) (numbers : List ℕ) (o : Outline) (
 
   -- no two laid squares share a cell
   pub apart : ShareNoCell laid
-  apart = tiles_apart width (depth laid 0) laid (tiles width (c.board).some laid o (c.board).shows c.one c.some)
+  apart = tiles_apart width (depth laid 0) laid (tiles width (c.partly).some laid o (c.partly).shows c.one c.some)
 
   low : depth laid 0 ≤ 999_999_999_999_999 * length laid
   low = cases (cases_lt (999_999_999_999_999 * length laid) (depth laid 0))
@@ -34,20 +34,20 @@ module _ (width : ℕ) (laid : List Square) (numbers : List ℕ) (o : Outline) (
       cases : (999_999_999_999_999 * length laid < depth laid 0) ⊎ (depth laid 0 ≤ 999_999_999_999_999 * length laid)
           → depth laid 0 ≤ 999_999_999_999_999 * length laid
       cases (inr h) = h
-      cases (inl h) = let q = depth_comes_from laid 0 (999_999_999_999_999 * length laid) h in absurd (omega (arith, (c.board).low q.0 q.1, q.3))
+      cases (inl h) = let q = depth_comes_from laid 0 (999_999_999_999_999 * length laid) h in absurd (omega (arith, (c.partly).low q.0 q.1, q.3))
 
   -- the laid squares, in code order, make a tiling that may be kept
   pub kept : IsKept (record { width = width; height = depth laid 0; squares = in_code_order laid })
   kept = record {
-    tiling = is_tiling width (c.board).some laid o (c.board).shows c.one c.some;
+    tiling = is_tiling width (c.partly).some laid o (c.partly).shows c.one c.some;
     few = omega (arith, in_code_order-length laid, c.few);
     sides = in_code_order-all (λ q. IsSide q.s) laid c.sides;
-    width_fits = omega (arith, (c.board).narrow);
+    width_fits = omega (arith, (c.partly).narrow);
     height_fits = omega (arith, low, c.few);
   }
 
   deep : (x : ℕ) → x < width → 0 < depth laid x
-  deep = cases ((c.board).shows).begun
+  deep = cases ((c.partly).shows).begun
     where
       cases : ((laid ≡ []) × (o ≡ start)) ⊎ ((x : ℕ) → x < width → 0 < depth laid x) → (x : ℕ) → x < width → 0 < depth laid x
       cases (inl none) x h = absurd (omega (arith, c.some, ap length none.0))
@@ -56,11 +56,11 @@ module _ (width : ℕ) (laid : List Square) (numbers : List ℕ) (o : Outline) (
   -- the first of the open squares reaches down to the height
   pub first_open : (0 < length numbers) × (bottom_at laid (slice_index_or numbers 0 0) ≡ depth laid 0)
   first_open = subst (λ (ns : List ℕ). (0 < length ns) × (bottom_at laid (slice_index_or ns 0 0) ≡ depth laid 0))
-      (sym (c.board).numbers_are) (from ((c.board).shows).runs o.segments ((c.board).shows).cut ((c.board).shows).segments)
+      (sym (c.partly).numbers_are) (from ((c.partly).shows).runs o.segments ((c.partly).shows).cut ((c.partly).shows).segments)
     where
       from : (runs : List Segment) (lists : List (List ℕ)) → AreRuns width laid 0 runs → AllZip (IsSegment laid) runs lists
           → (0 < length (concat lists)) × (bottom_at laid (slice_index_or (concat lists) 0 0) ≡ depth laid 0)
-      from [] lists cut z = absurd (omega (arith, cut, (c.board).some))
+      from [] lists cut z = absurd (omega (arith, cut, (c.partly).some))
       from (r ∷ runs) [] cut z = absurd z
       from (r ∷ runs) (u ∷ lists) cut z = first u (segment_span width laid deep r u cut.1 z.0)
         where
@@ -81,7 +81,7 @@ module _ (width : ℕ) (laid : List Square) (numbers : List ℕ) (o : Outline) (
 
   -- the first open square's number is that of a laid square
   pub first_known : IsNumber laid (slice_index_or numbers 0 0)
-  first_known = from numbers first_open.0 (c.board).known
+  first_known = from numbers first_open.0 (c.partly).known
     where
       from : (ns : List ℕ) → 0 < length ns → AllByRecursion (IsNumber laid) ns → IsNumber laid (slice_index_or ns 0 0)
       from [] h a = absurd (omega arith)

@@ -17,7 +17,7 @@ use Rattle.bk_word_net.proofs.Outlines.RunsAfterTurn.{shows_start}
 use Rattle.bk_word_net.proofs.TilingWords.TurnsOfTiling.{AgreesAt, agrees_start}
 use Rattle.bk_word_net.proofs.TilingWords.TilingOfTurns.{Turns}
 use Rattle.bk_word_net.specs.LaidTiling.{IsLaidWith}
-use Rattle.bk_skel.specs.Board.{IsBoard}
+use Rattle.bk_skel.specs.PartlyLaid.{IsPartlyLaid}
 use Rattle.bk_skel.proofs.SideCuts.{sum_bounds}
 
 -- the width: what the sides of the first move sum to
@@ -27,7 +27,7 @@ first_width (m ∷ w) sides = sum (take m.count sides)
 
 -- what the placing has come to after i moves
 pub record IsPlacedTo (w : Word) (given : List ℕ) (i : ℕ) (laid : List Square) (numbers : List ℕ) : Type 0 where
-  pub board : IsBoard (first_width w given) laid numbers (after_moves start (take i w))
+  pub partly : IsPartlyLaid (first_width w given) laid numbers (after_moves start (take i w))
   pub many : length laid + order_of (drop i w) ≡ length given
   pub sides : given ≡ laid_sides laid ++ drop (length laid) given
   pub turns : (all : List Square) → Turns (first_width w given) laid (drop i w) all → Turns (first_width w given) [] w all
@@ -36,7 +36,7 @@ pub record IsPlacedTo (w : Word) (given : List ℕ) (i : ℕ) (laid : List Squar
 module _ (given : List ℕ) (all_sides : AllByRecursion IsSide given) (few : length given ≤ 200) where
   placed_first : (m : Move) (v : Word) → IsComplete (m ∷ v) → length given ≡ order_of (m ∷ v) → IsPlacedTo (m ∷ v) given 0 [] []
   placed_first m v complete count = record {
-    board = record {
+    partly = record {
       shows = shows_start (sum (take m.count given)) wide;
       some = wide;
       narrow = omega (arith, bounds.1, long, fits, few);

@@ -19,11 +19,11 @@ use Rattle.bk_word_net.proofs.TilingWords.TurnsOfTiling.{AgreesAt, AgreesOn, agr
 use Rattle.bk_word_net.proofs.TilingWords.TilingOfTurns.{Turns}
 use Rattle.bk_word_net.proofs.Outlines.NumberedValley.{shows_turn}
 use Rattle.bk_skel.proofs.NumbersAfter.{few_after, known_after, low_after, numbers_after}
-use Rattle.bk_skel.proofs.PlacingTurn.{gap, only}
+use Rattle.bk_skel.proofs.PlacingTurn.{valley_gap, only}
 use Rattle.bk_word_net.specs.LaidTiling.{IsLaidWith}
-use Rattle.bk_skel.specs.Board.{CanLay, IsBoard}
+use Rattle.bk_skel.specs.PartlyLaid.{CanLay, IsPartlyLaid}
 use Rattle.bk_word_net.specs.LaidOutline.{FillsValley, IsNumber, front_of}
-use Rattle.bk_skel.proofs.LaidSides.{laid_long, further, sides_next}
+use Rattle.bk_skel.proofs.LaidSides.{laid_long, sides_left, sides_next}
 use Rattle.bk_skel.proofs.PlacingLoop.{first_width, IsPlacedTo}
 
 module _ (given : List ℕ) (all_sides : AllByRecursion IsSide given) (few : length given ≤ 200) (w : Word) (legal : IsLegal w)
@@ -60,7 +60,7 @@ module _ (given : List ℕ) (all_sides : AllByRecursion IsSide given) (few : len
     pub can_lay : CanLay (record { width = first_width w given; laid = laid; numbers = numbers })
         (record { first = first; end = end; signs = m.signs; sides = take m.count (drop (length laid) given) }) (after_moves start (take i w))
     can_lay = record {
-      board = s.board;
+      partly = s.partly;
       legal = subst (IsLegalMove (after_moves start (take i w))) same_move legal_here;
       first_is = first_is;
       end_is = end_is;
@@ -92,14 +92,14 @@ module _ (given : List ℕ) (all_sides : AllByRecursion IsSide given) (few : len
       own_turn : FillsValley (first_width w given) laid m (take m.count (drop (length laid) given)) v
       own_turn = subst (λ (n : Move). FillsValley (first_width w given) laid n (take m.count (drop (length laid) given)) v) (sym same_move) turn
 
-      board_next : IsBoard (first_width w given) (laid ++ laid_group v.x v.level (take m.count (drop (length laid) given)))
+      partly_next : IsPartlyLaid (first_width w given) (laid ++ laid_group v.x v.level (take m.count (drop (length laid) given)))
           ((take first numbers ++ numbers_from (length laid + 1) (length (take m.count (drop (length laid) given)))) ++ drop end numbers)
           (after_move (after_moves start (take i w)) m)
-      board_next = record {
-        shows = shows_turn (first_width w given) laid (after_moves start (take i w)) (s.board).shows (s.board).some m
+      partly_next = record {
+        shows = shows_turn (first_width w given) laid (after_moves start (take i w)) (s.partly).shows (s.partly).some m
             (take m.count (drop (length laid) given)) v own_turn;
-        some = (s.board).some;
-        narrow = (s.board).narrow;
+        some = (s.partly).some;
+        narrow = (s.partly).narrow;
         numbers_are = numbers_after (first_width w given) laid numbers first end m.signs (take m.count (drop (length laid) given))
             (after_moves start (take i w)) can_lay
             ∙ ap (λ (n : Move). concat (after_move (after_moves start (take i w)) n).segments) (sym same_move);
@@ -120,7 +120,7 @@ module _ (given : List ℕ) (all_sides : AllByRecursion IsSide given) (few : len
             (low_after (first_width w given) laid numbers first end m.signs (take m.count (drop (length laid) given)) (after_moves start (take i w)) can_lay);
       }
         where
-          same_gap : v ≡ gap (first_width w given) laid numbers first end m.signs (take m.count (drop (length laid) given))
+          same_gap : v ≡ valley_gap (first_width w given) laid numbers first end m.signs (take m.count (drop (length laid) given))
               (after_moves start (take i w)) can_lay
           same_gap = only (first_width w given) laid numbers first end m.signs (take m.count (drop (length laid) given))
               (after_moves start (take i w)) can_lay v turn
@@ -130,7 +130,7 @@ module _ (given : List ℕ) (all_sides : AllByRecursion IsSide given) (few : len
           (after_move (after_moves start (take i w)) m) (drop (i + 1) w)
           (drop (length (laid ++ laid_group v.x v.level (take m.count (drop (length laid) given)))) given)
       agrees_next t l = subst (AgreesAt (first_width w given) t (laid ++ laid_group v.x v.level (take m.count (drop (length laid) given)))
-          (after_move (after_moves start (take i w)) m) (drop (i + 1) w)) (further given laid m.count fits v)
+          (after_move (after_moves start (take i w)) m) (drop (i + 1) w)) (sides_left given laid m.count fits v)
           (subst (λ (u : Segment). AgreesAt (first_width w given) t
           (laid ++ laid_group u.x u.level (take m.count (drop (length laid) given))) (after_move (after_moves start (take i w)) m)
           (drop (i + 1) w) (drop m.count (drop (length laid) given)))
@@ -140,9 +140,9 @@ module _ (given : List ℕ) (all_sides : AllByRecursion IsSide given) (few : len
       pub placed_more : IsPlacedTo w given (i + 1) (laid ++ laid_group v.x v.level (take m.count (drop (length laid) given)))
           ((take first numbers ++ numbers_from (length laid + 1) (length (take m.count (drop (length laid) given)))) ++ drop end numbers)
       placed_more = record {
-        board = subst (IsBoard (first_width w given) (laid ++ laid_group v.x v.level (take m.count (drop (length laid) given)))
+        partly = subst (IsPartlyLaid (first_width w given) (laid ++ laid_group v.x v.level (take m.count (drop (length laid) given)))
             ((take first numbers ++ numbers_from (length laid + 1) (length (take m.count (drop (length laid) given))))
-            ++ drop end numbers)) (sym (outline_more start w i m at)) board_next;
+            ++ drop end numbers)) (sym (outline_more start w i m at)) partly_next;
         many = omega (arith, laid_long given laid m.count fits v, s.many, order_is);
         sides = sides_next given laid m.count fits v s.sides;
         turns = λ all p. s.turns all (subst (λ (x : Word). Turns (first_width w given) laid x all) (sym rest_is)

@@ -18,7 +18,7 @@ use Rattle.bk_skel.proofs.PlacingLoop.{IsPlacedTo, first_width, placed_start}
 use Rattle.bk_skel.proofs.PlacingMore.{can_lay, new_fits, placed_more, placed_none}
 use Rattle.bk_skel.proofs.PlacedWhole.{placed_closed, placed_end}
 use Rattle.bk_word_net.specs.LaidTiling.{IsLaidWith}
-use Rattle.bk_skel.specs.Board.{CanLay, IsClosed}
+use Rattle.bk_skel.specs.PartlyLaid.{CanLay, IsClosed}
 use Rattle.bk_word_net.specs.LaidOutline.{FillsValley, front_of}
 use Rattle.bk_play.specs.TurnRecord.{SaysWhere}
 use Rattle.bk_play.specs.declared.turns.MoveRecord.{MoveRecord}

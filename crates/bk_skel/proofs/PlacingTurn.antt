@@ -18,7 +18,7 @@ use Rattle.bk_lay.specs.Depiction.{Span}
 use Rattle.bk_lay.specs.TilingWord.{depth_before, depth_from, signs_between}
 use Rattle.bk_word_net.proofs.Outlines.NumberedSquares.{numbered_square}
 use Rattle.bk_word_net.proofs.Outlines.NumberedValley.{Sees, open_parts, sees}
-use Rattle.bk_skel.specs.Board.{CanLay, IsFittingGap, columns_of}
+use Rattle.bk_skel.specs.PartlyLaid.{CanLay, IsFittingGap, columns_of}
 use Rattle.bk_word_net.specs.LaidOutline.{FillsValley, IsNumber, StandsOver, back_of, bottom_at, front_of, square_at}
 
 -- a span is as wide as the sides of its squares sum to
@@ -52,19 +52,19 @@ gap_some width laid (n ∷ numbers) v h f = cases f.gap
 module _ (width : ℕ) (laid : List Square) (numbers : List ℕ) (first end : ℕ) (signs : List Sign) (new : List ℕ) (o : Outline)
     (c : CanLay (record { width = width; laid = laid; numbers = numbers }) (record { first = first; end = end; signs = signs; sides = new }) o) where
   abbrev seen : Sees width laid o
-  seen = sees width laid o ((c.board).shows) ((c.board).some)
+  seen = sees width laid o ((c.partly).shows) ((c.partly).some)
 
   -- the gap
-  abbrev pub gap : Segment
-  gap = (sees width laid o ((c.board).shows) ((c.board).some)).valley
+  abbrev pub valley_gap : Segment
+  valley_gap = (sees width laid o ((c.partly).shows) ((c.partly).some)).valley
 
   -- the numbers by parts: in front of the valley, those of the valley, and behind it
   pub parts : numbers ≡ front_of o ++ (valley_of o ++ back_of o)
-  parts = (c.board).numbers_are ∙ open_parts o
+  parts = (c.partly).numbers_are ∙ open_parts o
 
   -- they are numbers of squares
-  pub known : AllByRecursion (IsNumber laid) (front_of o ++ (valley_of o ++ back_of o))
-  known = subst (AllByRecursion (IsNumber laid)) parts (c.board).known
+  pub known_numbers : AllByRecursion (IsNumber laid) (front_of o ++ (valley_of o ++ back_of o))
+  known_numbers = subst (AllByRecursion (IsNumber laid)) parts (c.partly).known
 
   -- the valley ends no sooner than it begins
   pub order : first ≤ end
@@ -88,60 +88,60 @@ module _ (width : ℕ) (laid : List Square) (numbers : List ℕ) (first end : �
   back_is = ap (drop end) (parts ∙ sym (append_assoc (front_of o) (valley_of o) (back_of o)))
       ∙ drop_at (front_of o ++ valley_of o) (back_of o) end (omega (arith, c.end_is, length-append (front_of o) (valley_of o)))
 
-  flat_within : gap.x + gap.width ≤ width
+  flat_within : valley_gap.x + valley_gap.width ≤ width
   flat_within = (((seen.found).valley).flat).within
 
-  some_width : 0 < gap.width
+  some_width : 0 < valley_gap.width
   some_width = (((seen.found).valley).flat).some
 
   -- the gap is no deeper than so many squares reach
-  pub low_level : (ns : List ℕ) → StandsOver width laid ns gap → gap.level ≤ 999_999_999_999_999 * length laid
+  pub low_level : (ns : List ℕ) → StandsOver width laid ns valley_gap → valley_gap.level ≤ 999_999_999_999_999 * length laid
   low_level ns (inr top) = omega (arith, ap (λ (v : Segment). v.level) top.1)
   low_level [] (inl s) = absurd (omega (arith, s, some_width))
-  low_level (n ∷ ns) (inl s) = omega (arith, s.3, (c.board).low s.0 (one_of laid (s.1).0 s.0 (s.1).2))
+  low_level (n ∷ ns) (inl s) = omega (arith, s.3, (c.partly).low s.0 (one_of laid (s.1).0 s.0 (s.1).2))
 
   few : length laid ≤ 200
   few = omega (arith, c.room)
 
-  level_small : gap.level ≤ 999_999_999_999_999 * 200
+  level_small : valley_gap.level ≤ 999_999_999_999_999 * 200
   level_small = omega (arith, low_level (valley_of o) seen.gap, few)
 
   -- the gap fits the numbers of the valley
-  pub fitting : IsFittingGap width laid (take (end - first) (drop first numbers)) gap
-  fitting = subst (λ (ns : List ℕ). IsFittingGap width laid ns gap) (sym valley_is) (record {
+  pub fitting : IsFittingGap width laid (take (end - first) (drop first numbers)) valley_gap
+  fitting = subst (λ (ns : List ℕ). IsFittingGap width laid ns valley_gap) (sym valley_is) (record {
     gap = seen.gap;
     some = some_width;
-    known = all_left (IsNumber laid) (valley_of o) (back_of o) (all_right (IsNumber laid) (front_of o) (valley_of o ++ back_of o) known);
-    fits = omega (arith, flat_within, (c.board).narrow);
+    known = all_left (IsNumber laid) (valley_of o) (back_of o) (all_right (IsNumber laid) (front_of o) (valley_of o ++ back_of o) known_numbers);
+    fits = omega (arith, flat_within, (c.partly).narrow);
     low = omega (arith, level_small);
   })
 
   -- the new sides fit into the gap
-  pub fits : sum new ≡ gap.width → gap.x + sum new < 2 ^ 63
-  fits e = omega (arith, e, flat_within, (c.board).narrow)
+  pub new_sides_fit : sum new ≡ valley_gap.width → valley_gap.x + sum new < 2 ^ 63
+  new_sides_fit e = omega (arith, e, flat_within, (c.partly).narrow)
 
   -- there is no turn but one that fills this gap
-  pub only : (v : Segment) → FillsValley width laid (record { count = length new; signs = signs }) new v → v ≡ gap
-  only v turn = one_leftmost_valley width laid v gap turn.found seen.found
+  pub only : (v : Segment) → FillsValley width laid (record { count = length new; signs = signs }) new v → v ≡ valley_gap
+  only v turn = one_leftmost_valley width laid v valley_gap turn.found seen.found
 
   positive : (sides : List ℕ) → AllByRecursion IsSide sides → AllByRecursion (λ s. 0 < s) sides
   positive [] a = tt
   positive (s ∷ sides) a = ((a.0).0, positive sides a.1)
 
   -- the move is a turn where it fills the gap, and its signs compare the bottoms
-  pub turn : sum new ≡ gap.width → signs ≡ signs_between
-      (depth_before laid gap.x ++ map (λ q. q.y + q.s) (laid_group gap.x gap.level new) ++ depth_from width laid (gap.x + gap.width))
-      → FillsValley width laid (record { count = length new; signs = signs }) new gap
-  turn e f = record { found = seen.found; count = refl; some = (c.legal).some; positive = positive new c.sides; fills = e; signs = f }
+  pub is_turn : sum new ≡ valley_gap.width → signs ≡ signs_between
+      (depth_before laid valley_gap.x ++ map (λ q. q.y + q.s) (laid_group valley_gap.x valley_gap.level new) ++ depth_from width laid (valley_gap.x + valley_gap.width))
+      → FillsValley width laid (record { count = length new; signs = signs }) new valley_gap
+  is_turn e f = record { found = seen.found; count = refl; some = (c.legal).some; positive = positive new c.sides; fills = e; signs = f }
 
   -- the signs of each turn do
   pub signs_as : (v : Segment) → FillsValley width laid (record { count = length new; signs = signs }) new v
-      → signs ≡ signs_between (depth_before laid gap.x ++ map (λ q. q.y + q.s) (laid_group gap.x gap.level new) ++ depth_from width laid (gap.x + gap.width))
+      → signs ≡ signs_between (depth_before laid valley_gap.x ++ map (λ q. q.y + q.s) (laid_group valley_gap.x valley_gap.level new) ++ depth_from width laid (valley_gap.x + valley_gap.width))
   signs_as v t = t.signs ∙ ap (λ (w : Segment). signs_between
       (depth_before laid w.x ++ map (λ q. q.y + q.s) (laid_group w.x w.level new) ++ depth_from width laid (w.x + w.width))) (only v t)
 
   -- the gap fits the numbers of the valley, for lists as the code names them
   pub fitting_as : (seen_laid : List Square) (seen_numbers : List ℕ) → seen_laid ≡ laid → seen_numbers ≡ numbers
-      → IsFittingGap width seen_laid (take (end - first) (drop first seen_numbers)) gap
-  fitting_as seen_laid seen_numbers e f = subst (λ (l : List Square). IsFittingGap width l (take (end - first) (drop first seen_numbers)) gap) (sym e)
-      (subst (λ (ns : List ℕ). IsFittingGap width laid (take (end - first) (drop first ns)) gap) (sym f) fitting)
+      → IsFittingGap width seen_laid (take (end - first) (drop first seen_numbers)) valley_gap
+  fitting_as seen_laid seen_numbers e f = subst (λ (l : List Square). IsFittingGap width l (take (end - first) (drop first seen_numbers)) valley_gap) (sym e)
+      (subst (λ (ns : List ℕ). IsFittingGap width laid (take (end - first) (drop first ns)) valley_gap) (sym f) fitting)

@@ -13,19 +13,19 @@ use Rattle.bk_word.specs.Play.{numbers_from}
 use Rattle.bk_word.specs.declared.Sign.{Sign}
 use Rattle.bk_lay.specs.TilingWord.{depth_before, depth_from}
 use Rattle.bk_word_net.proofs.Outlines.NumberedValley.{Sees, sees}
-use Rattle.bk_skel.specs.Board.{CanLay}
+use Rattle.bk_skel.specs.PartlyLaid.{CanLay}
 use Rattle.bk_skel.proofs.PlacingNumbers.{bottoms_more, bottoms_new, all_known_more, known_new, CutLeft, cut_left, CutRight, cut_right, Window}
 use Rattle.bk_word_net.specs.LaidOutline.{IsNumber, back_of, bottom_at, front_of}
-use Rattle.bk_skel.proofs.PlacingTurn.{known, front_is, back_is}
+use Rattle.bk_skel.proofs.PlacingTurn.{known_numbers, front_is, back_is}
 use Rattle.bk_skel.proofs.NumbersAfter.{group_long, long}
 
 module _ (width : ℕ) (laid : List Square) (numbers : List ℕ) (first end : ℕ) (signs : List Sign) (new : List ℕ) (o : Outline)
     (c : CanLay (record { width = width; laid = laid; numbers = numbers }) (record { first = first; end = end; signs = signs; sides = new }) o) where
   abbrev seen : Sees width laid o
-  seen = sees width laid o ((c.board).shows) ((c.board).some)
+  seen = sees width laid o ((c.partly).shows) ((c.partly).some)
 
   abbrev gap : Segment
-  gap = (sees width laid o ((c.board).shows) ((c.board).some)).valley
+  gap = (sees width laid o ((c.partly).shows) ((c.partly).some)).valley
 
   front : take first numbers ≡ front_of o
   front = front_is width laid numbers first end signs new o c
@@ -34,7 +34,7 @@ module _ (width : ℕ) (laid : List Square) (numbers : List ℕ) (first end : �
   back = back_is width laid numbers first end signs new o c
 
   all_known : AllByRecursion (IsNumber laid) (front_of o ++ (valley_of o ++ back_of o))
-  all_known = known width laid numbers first end signs new o c
+  all_known = known_numbers width laid numbers first end signs new o c
 
   new_long : length (laid_group gap.x gap.level new) ≡ length new
   new_long = group_long width laid numbers first end signs new o c

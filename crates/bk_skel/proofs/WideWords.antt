@@ -1,6 +1,7 @@
 -- Large currents of a word's net, which make it wide.
 use Rattle.std.specs.Prelude.{Any, List, nat_abs, ℤ, ◌^◌, ◌≡◌, ◌≤◌}
-use Rattle.std.proofs.Common.{subst, sym}
+use Rattle.std.proofs.Common.{Bool, false, subst, sym, true}
+use Rattle.std.proofs.lemmas.Bool.{both_ways}
 use Rattle.bk_net.specs.Flow.{IsPrimitiveFlow}
 use Rattle.bk_flow.proofs.OnePrimitive.{one_primitive}
 use Rattle.bk_word.specs.Word.{Word}
@@ -20,3 +21,8 @@ module _ (w : Word) (total : ℤ) (currents : List ℤ) (p : IsPrimitiveFlow (ne
   -- only a large current makes the word wide
   pub large_from : (seen : List ℤ) → seen ≡ currents → HasLargeCurrent (net_of_word w) → Any (λ c. 10 ^ 15 ≤ nat_abs c) seen
   large_from seen a h = subst (Any (λ c. 10 ^ 15 ≤ nat_abs c)) (sym a) (large_in w total currents p h)
+
+-- a test that finds every large current and finds none says that the word is not wide
+pub not_large : (w : Word) {total : ℤ} {currents seen : List ℤ} {found : Bool} → IsPrimitiveFlow (net_of_word w) total currents → seen ≡ currents
+    → found ≡ false → (Any (λ c. 10 ^ 15 ≤ nat_abs c) seen → found ≡ true) → HasLargeCurrent (net_of_word w) → ⊥
+not_large w {total} {currents} {seen} {found} p a none finds h = both_ways found none (finds (large_from w total currents p seen a h))

@@ -15,7 +15,7 @@ ghost use Rattle.bk_word.specs.Word.{order_of};
 ghost use Rattle.bk_lay.specs.TilingWord.{signs_between};
 ghost use Rattle.bk_word_net.specs.LaidTiling.{IsLaidWith};
 ghost use Rattle.bk_skel.specs.RealisedIn.{tiling_found};
-ghost use Rattle.bk_skel.specs.Board.{CanLay, IsClosed, IsFittingGap, columns_of};
+ghost use Rattle.bk_skel.specs.PartlyLaid.{CanLay, IsClosed, IsFittingGap, columns_of};
 ghost use Rattle.bk_word_net.specs.LaidOutline.{FillsValley, IsNumber, bottom_at, square_at};
 
 use arrayvec::ArrayVec;
@@ -27,16 +27,16 @@ use bk_word::Sign;
 /// Room in which squares are laid move by move: the width, the squares laid so far, and the numbers of those that are
 /// open, from left to right. Squares are numbered from 1 in the order of laying.
 #[derive(Drop)]
-pub struct Board {
+pub struct LayingRoom {
     width: u64,
     laid: ArrayVec<Square, MOST_SQUARES>,
     numbers: ArrayVec<u8, MOST_SQUARES>,
 }
 
-impl Board {
+impl LayingRoom {
     /// Room for one word at a time.
-    pub fn new() -> Board {
-        Board {
+    pub fn new() -> LayingRoom {
+        LayingRoom {
             width: 0,
             laid: ArrayVec::new(),
             numbers: ArrayVec::new(),
@@ -64,15 +64,20 @@ pub fn placed(skel: &Skel, sides: &[u64]) -> Option<Tiling>
     ensures only { (u : Tiled) → IsLaidWith skel.now sides.now u → IsSomeAnd result (λ t. t ≡ u) }
 {
     let mut tiling = Tiling::unit();
-    let mut board = Board::new();
-    match place(skel, sides, &mut board, &mut tiling) {
+    let mut laying = LayingRoom::new();
+    match place(skel, sides, &mut laying, &mut tiling) {
         Realised::Found => Some(tiling),
         Realised::Nothing => None,
     }
 }
 
-// What `placed` answers, in room that is there: a board, and room for the tiling.
-pub(crate) fn place(skel: &Skel, sides: &[u64], board: &mut Board, tiling: &mut Tiling) -> Realised
+// What `placed` answers, in room that is there, for the laying and for the tiling.
+pub(crate) fn place(
+    skel: &Skel,
+    sides: &[u64],
+    laying: &mut LayingRoom,
+    tiling: &mut Tiling,
+) -> Realised
     requires closed { IsComplete skel.now }
     requires count { length sides.now ≡ order_of skel.now }
     requires sides { AllByRecursion IsSide sides.now }
@@ -82,54 +87,54 @@ pub(crate) fn place(skel: &Skel, sides: &[u64], board: &mut Board, tiling: &mut 
 {
     let moves = skel.moves();
     let width = sum_of(&sides[..usize::from(skel.turn(0).count)]);
-    board.width = width;
-    board.laid.clear();
-    board.numbers.clear();
+    laying.width = width;
+    laying.laid.clear();
+    laying.numbers.clear();
     for i in 0..moves {
         let turn = skel.turn(i);
-        let from = board.laid.len();
+        let from = laying.laid.len();
         let new = &sides[from..from + usize::from(turn.count)];
         let first = usize::from(turn.first);
         let end = first + usize::from(turn.closed);
         let signs = skel.signs_at(i);
-        if !lay_move(board, first, end, signs, new) {
+        if !lay_move(laying, first, end, signs, new) {
             return Realised::Nothing;
         }
     }
-    close(&mut board.laid, &board.numbers, board.width, tiling);
+    close(&mut laying.laid, &laying.numbers, laying.width, tiling);
     Realised::Found
 }
 
 // Lays squares of these sides in the leftmost valley, whose squares' numbers stand from `first` up to `end`. It is true
 // where they fill it and the bottoms compare as the signs say.
-fn lay_move(board: &mut Board, first: usize, end: usize, signs: &[Sign], new: &[u64]) -> bool
+fn lay_move(laying: &mut LayingRoom, first: usize, end: usize, signs: &[Sign], new: &[u64]) -> bool
     requires { (o : Outline) × CanLay
-        (record { width = board.old.width; laid = board.old.laid.items; numbers = board.old.numbers.items })
+        (record { width = laying.old.width; laid = laying.old.laid.items; numbers = laying.old.numbers.items })
         (record { first = first; end = end; signs = signs.now; sides = new.now }) o }
-    ensures width { board.new.width ≡ board.old.width }
+    ensures width { laying.new.width ≡ laying.old.width }
     ensures turn { result ≡ true
-        → (v : Gap) × (FillsValley board.old.width board.old.laid.items
+        → (v : Gap) × (FillsValley laying.old.width laying.old.laid.items
         (record { count = length new.now; signs = signs.now }) new.now v
-        × (board.new.laid.items ≡ board.old.laid.items ++ laid_group v.x v.level new.now)) }
+        × (laying.new.laid.items ≡ laying.old.laid.items ++ laid_group v.x v.level new.now)) }
     ensures numbers { result ≡ true
-        → board.new.numbers.items
-        ≡ (take first board.old.numbers.items ++ numbers_from (length board.old.laid.items + 1) (length new.now))
-        ++ drop end board.old.numbers.items }
+        → laying.new.numbers.items
+        ≡ (take first laying.old.numbers.items ++ numbers_from (length laying.old.laid.items + 1) (length new.now))
+        ++ drop end laying.old.numbers.items }
     ensures none { result ≡ false → (v : Gap)
-        → ¬ (FillsValley board.old.width board.old.laid.items
+        → ¬ (FillsValley laying.old.width laying.old.laid.items
         (record { count = length new.now; signs = signs.now }) new.now v) }
 {
-    let gap = gap_under(&board.laid, &board.numbers[first..end], board.width);
+    let gap = gap_under(&laying.laid, &laying.numbers[first..end], laying.width);
     if sum_of(new) != gap.width {
         return false;
     }
-    let number = (board.laid.len() + 1) as u8;
-    push_group(&mut board.laid, gap, new);
-    splice_numbers(&mut board.numbers, first, end, number, new.len() as u8);
+    let number = (laying.laid.len() + 1) as u8;
+    push_group(&mut laying.laid, gap, new);
+    splice_numbers(&mut laying.numbers, first, end, number, new.len() as u8);
     let left = first.saturating_sub(1);
     signs_fit(
-        &board.laid,
-        &board.numbers[left..left + signs.len() + 1],
+        &laying.laid,
+        &laying.numbers[left..left + signs.len() + 1],
         signs,
     )
 }

@@ -14,7 +14,7 @@ ghost use Rattle.bk_word_net.specs.Realised.{IsRealised};
 ghost use Rattle.bk_skel.specs.WideWord.{HasLargeCurrent, IsWideWord};
 ghost use Rattle.bk_word_net.specs.WordNet.{net_of_word};
 
-use crate::placing::{Board, Realised, place};
+use crate::placing::{LayingRoom, Realised, place};
 use arrayvec::ArrayVec;
 use bk_flow::{Flow, FlowFault, NarrowFlow, SMALL, narrow_flow, solve};
 use bk_frac::Wide;
@@ -68,21 +68,21 @@ pub fn realise_by(skel: &Skel, flow: &NarrowFlow) -> Option<Tiling>
     requires flow { IsPrimitiveFlow (net_of_word skel.now) flow.now.total flow.now.currents }
     ensures { IsRealised skel.now result }
 {
-    let mut board = Board::new();
+    let mut laying = LayingRoom::new();
     let mut tiling = Tiling::unit();
-    match realise_by_in(skel, flow, &mut board, &mut tiling) {
+    match realise_by_in(skel, flow, &mut laying, &mut tiling) {
         Realised::Found => Some(tiling),
         Realised::Nothing => None,
     }
 }
 
-/// What `realise_by` answers, in room that is there: a board, and room for the tiling. `Found` comes exactly where
-/// there is a tiling, which stands in `tiling` then; with `Nothing` that is left as it is or not. What stands on the
-/// board, before or after, says nothing.
+/// What `realise_by` answers, in room that is there, for the laying and for the tiling. `Found` comes exactly where
+/// there is a tiling, which stands in `tiling` then; with `Nothing` that is left as it is or not. What stands in
+/// `laying`, before or after, says nothing.
 pub fn realise_by_in(
     skel: &Skel,
     flow: &NarrowFlow,
-    board: &mut Board,
+    laying: &mut LayingRoom,
     tiling: &mut Tiling,
 ) -> Realised
     requires closed { IsComplete skel.now }
@@ -90,7 +90,7 @@ pub fn realise_by_in(
     ensures { IsRealised skel.now (tiling_found result tiling.new) }
 {
     match sides_of_few(flow.currents()) {
-        Some(sides) => place(skel, &sides, board, tiling),
+        Some(sides) => place(skel, &sides, laying, tiling),
         None => Realised::Nothing,
     }
 }
@@ -99,7 +99,7 @@ pub fn realise_by_in(
 #[derive(Drop)]
 pub struct Room {
     skel: Skel,
-    board: Board,
+    laying: LayingRoom,
 }
 
 impl Room {
@@ -107,7 +107,7 @@ impl Room {
     pub fn new() -> Room {
         Room {
             skel: Skel::new(),
-            board: Board::new(),
+            laying: LayingRoom::new(),
         }
     }
 }
@@ -153,9 +153,9 @@ pub fn realise_in(
         return Err(SolveFault::OpenEnd);
     }
     if room.skel.order() > SMALL {
-        return realise_in_memory(alloc, &room.skel, &mut room.board, tiling);
+        return realise_in_memory(alloc, &room.skel, &mut room.laying, tiling);
     }
-    Ok(realise_few(&room.skel, &mut room.board, tiling))
+    Ok(realise_few(&room.skel, &mut room.laying, tiling))
 }
 
 /// The skeleton of a word: its moves, played one after the other. Where they are not all legal, the number of the first
@@ -190,19 +190,19 @@ fn play_word(skel: &mut Skel, word: &Word) -> Result<(), usize>
 }
 
 // What the flow of a word's net makes of a closed skeleton of at most 16 squares.
-fn realise_few(skel: &Skel, board: &mut Board, tiling: &mut Tiling) -> Realised
+fn realise_few(skel: &Skel, laying: &mut LayingRoom, tiling: &mut Tiling) -> Realised
     requires closed { IsComplete skel.now }
     requires few { order_of skel.now ≤ 16 }
     ensures { IsRealised skel.now (tiling_found result tiling.new) }
 {
-    realise_by_in(skel, &flow_of(skel), board, tiling)
+    realise_by_in(skel, &flow_of(skel), laying, tiling)
 }
 
 // What a closed skeleton is realised as, whose net is solved in memory where it has more than 16 squares.
 fn realise_in_memory(
     alloc: Global,
     skel: &Skel,
-    board: &mut Board,
+    laying: &mut LayingRoom,
     tiling: &mut Tiling,
 ) -> Result<Realised, SolveFault>
     requires closed { IsComplete skel.now }
@@ -216,7 +216,7 @@ fn realise_in_memory(
         Err(FlowFault::Wide) => return Err(SolveFault::Wide),
         Err(FlowFault::Loose { node: _ }) => unreachable!(),
     };
-    match realised(skel, &flow, board, tiling) {
+    match realised(skel, &flow, laying, tiling) {
         Ok(found) => Ok(found),
         Err(Wide) => Err(SolveFault::Wide),
     }
@@ -226,7 +226,7 @@ fn realise_in_memory(
 fn realised(
     skel: &Skel,
     flow: &Flow,
-    board: &mut Board,
+    laying: &mut LayingRoom,
     tiling: &mut Tiling,
 ) -> Result<Realised, Wide>
     requires closed { IsComplete skel.now }
@@ -239,7 +239,7 @@ fn realised(
         return Err(Wide);
     }
     match sides_of(currents) {
-        Some(sides) => Ok(place(skel, &sides, board, tiling)),
+        Some(sides) => Ok(place(skel, &sides, laying, tiling)),
         None => Ok(Realised::Nothing),
     }
 }

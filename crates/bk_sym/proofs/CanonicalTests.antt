@@ -1,7 +1,7 @@
 -- Canonical tilings by a test, for worked examples: of the eight images of a tiling none that lies has a greater flat list.
 use Rattle.std.specs.Cmp.Lexicographic.{slice_cmp}
 use Rattle.std.specs.Ordering.{is_le, nat_cmp}
-use Rattle.std.proofs.Common.{Bool, IsTrue, arith, nat_lt, true, ◌&&◌, ◌≡◌, ◌||◌}
+use Rattle.std.proofs.Common.{Bool, arith, nat_lt, true, ◌&&◌, ◌≡◌, ◌||◌}
 use Rattle.bk_tiling.specs.Tiling.{Tiling}
 use Rattle.bk_code.specs.Code.{code_of, flat}
 use Rattle.bk_sym.specs.Canonical.{IsAtMost, IsCanonicalOf, IsGreatestImage, Lies, scaled_down_tiling}

@@ -81,23 +81,24 @@ module _ (t : Tiling) (tiling : IsTiling t) (g : ℕ) (sides : (q : Square) → 
   none : (n : ℕ) → n ≤ 0 → g ∣ n
   none n h = subst (λ (m : ℕ). g ∣ m) (omega arith) (dvd-zero g)
 
-  column : (n : ℕ) (q : Square) → IsOneOf q t.squares → q.x < n → g ∣ q.x
-  column zero q h few = absurd (omega arith)
-  column (suc n) q h few = cases (cases_lt 0 q.x) (column n)
+  -- where each square that doesn't begin at 0 begins where another has ended, all begin at multiples
+  along : (from : Square → ℕ) → ((q : Square) → IsOneOf q t.squares → 0 < from q → (r : Square) × IsOneOf r t.squares × (from r + r.s ≡ from q))
+      → (n : ℕ) (q : Square) → IsOneOf q t.squares → from q < n → g ∣ from q
+  along from before zero q h few = absurd (omega arith)
+  along from before (suc n) q h few = cases (cases_lt 0 (from q)) (along from before n)
     where
-      cases : (0 < q.x) ⊎ (q.x ≤ 0) → ((r : Square) → IsOneOf r t.squares → r.x < n → g ∣ r.x) → g ∣ q.x
-      cases (inr h) rest = none q.x h
-      cases (inl some) rest = let l = square_left q h some in
+      cases : (0 < from q) ⊎ (from q ≤ 0) → ((r : Square) → IsOneOf r t.squares → from r < n → g ∣ from r) → g ∣ from q
+      cases (inr h) rest = none (from q) h
+      cases (inl some) rest = let l = before q h some in
           subst (λ (m : ℕ). g ∣ m) l.2 (dvd-add g (rest l.0 l.1 (omega (arith, l.2, side_of t tiling l.0 l.1))) (sides l.0 l.1))
 
-  level : (n : ℕ) (q : Square) → IsOneOf q t.squares → q.y < n → g ∣ q.y
-  level zero q h few = absurd (omega arith)
-  level (suc n) q h few = cases (cases_lt 0 q.y) (level n)
-    where
-      cases : (0 < q.y) ⊎ (q.y ≤ 0) → ((r : Square) → IsOneOf r t.squares → r.y < n → g ∣ r.y) → g ∣ q.y
-      cases (inr h) rest = none q.y h
-      cases (inl some) rest = let l = square_above q h some in
-          subst (λ (m : ℕ). g ∣ m) l.2 (dvd-add g (rest l.0 l.1 (omega (arith, l.2, side_of t tiling l.0 l.1))) (sides l.0 l.1))
+  -- a common divisor of the sides divides the column of each square
+  pub x_divides : (q : Square) → IsOneOf q t.squares → g ∣ q.x
+  x_divides q h = along (λ (r : Square). r.x) square_left (suc q.x) q h (omega arith)
+
+  -- a common divisor of the sides divides the level of each square
+  pub y_divides : (q : Square) → IsOneOf q t.squares → g ∣ q.y
+  y_divides q h = along (λ (r : Square). r.y) square_above (suc q.y) q h (omega arith)
 
   first : (q : Square) × IsOneOf q t.squares
   first = from t.squares (tiling.tiles).some (λ q h. h)
@@ -115,7 +116,7 @@ module _ (t : Tiling) (tiling : IsTiling t) (g : ℕ) (sides : (q : Square) → 
     where
       from : (r : Square) × IsOneOf r t.squares × (covers (t.width - 1) 0 r ≡ true) → g ∣ t.width
       from (r, k, e) = subst (λ (m : ℕ). g ∣ m) (omega (arith, (within_of t tiling r k).right, (over_from (t.width - 1) 0 r e).right))
-          (dvd-add g (column (suc r.x) r k (omega arith)) (sides r k))
+          (dvd-add g (x_divides r k) (sides r k))
 
   -- a common divisor of the sides divides the height
   pub height_divides : g ∣ t.height
@@ -123,15 +124,7 @@ module _ (t : Tiling) (tiling : IsTiling t) (g : ℕ) (sides : (q : Square) → 
     where
       from : (r : Square) × IsOneOf r t.squares × (covers 0 (t.height - 1) r ≡ true) → g ∣ t.height
       from (r, k, e) = subst (λ (m : ℕ). g ∣ m) (omega (arith, (within_of t tiling r k).bottom, (over_from 0 (t.height - 1) r e).bottom))
-          (dvd-add g (level (suc r.y) r k (omega arith)) (sides r k))
-
-  -- a common divisor of the sides divides the column of each square
-  pub x_divides : (q : Square) → IsOneOf q t.squares → g ∣ q.x
-  x_divides q h = column (suc q.x) q h (omega arith)
-
-  -- a common divisor of the sides divides the level of each square
-  pub y_divides : (q : Square) → IsOneOf q t.squares → g ∣ q.y
-  y_divides q h = level (suc q.y) q h (omega arith)
+          (dvd-add g (y_divides r k) (sides r k))
 
   -- a common divisor of the sides is not 0
   pub divisor_is_positive : 0 < g

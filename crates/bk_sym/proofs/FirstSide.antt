@@ -16,7 +16,7 @@ use Rattle.bk_code.proofs.FlatList.{flat_is_sides}
 use Rattle.bk_code.specs.Code.{code_of, flat}
 use Rattle.bk_sym.proofs.Images.{images_are_tilings, in_map}
 use Rattle.bk_sym.proofs.KeptImages.{side-image_square}
-use Rattle.bk_sym.specs.Canonical.{BeginsWith, IsAtMost}
+use Rattle.bk_sym.specs.Canonical.{BeginsWith, IsAtCorner, IsAtMost}
 use Rattle.bk_sym.specs.Image.{image, image_square}
 use Rattle.bk_sym.specs.declared.Turn.{Turn}
 
@@ -67,13 +67,12 @@ head_of (s ∷ squares) d some = record { head = s; tail = squares; is = refl; s
 pub record IsShorterFirst (turn : Turn) (squares others : List Square) (width height k : ℕ) (c d : Square) : Type 0 where
   pub within : k < length squares
   pub shorter : (slice_index_or squares k d).s < (slice_index_or others 0 c).s
-  pub left : (image_square turn width height (slice_index_or squares k d)).x ≡ 0
-  pub top : (image_square turn width height (slice_index_or squares k d)).y ≡ 0
+  pub corner : IsAtCorner (image_square turn width height (slice_index_or squares k d))
 
 at_most : (t u : Tiling) (turn : Turn) (k : ℕ) (c d : Square) → IsTiling t → IsTiling u → IsShorterFirst turn t.squares u.squares t.width t.height k c d
     → IsAtMost (image turn t) u
 at_most t u turn k c d tiling other h = ap is_le (shorter_is_less (image turn t) u (image_square turn t.width t.height q) (slice_index_or u.squares 0 c)
-    (turned_first t turn q tiling (one_at t.squares k d h.within) h.left h.top) (head_of u.squares c (other.tiles).some)
+    (turned_first t turn q tiling (one_at t.squares k d h.within) h.corner.0 h.corner.1) (head_of u.squares c (other.tiles).some)
     (omega (arith, h.shorter, side-image_square turn t.width t.height q)))
   where
     q : Square
@@ -95,10 +94,9 @@ head_is squares m h d = ap (λ (l : List Square). (slice_index_or l 0 d).s) h.is
 
 -- an image begins with the square that comes to the top left corner
 begins_at : (t : Tiling) (turn : Turn) (k : ℕ) (c : Square) → IsTiling t → k < length t.squares
-    → (image_square turn t.width t.height (slice_index_or t.squares k c)).x ≡ 0
-    → (image_square turn t.width t.height (slice_index_or t.squares k c)).y ≡ 0 → BeginsWith (image turn t) (slice_index_or t.squares k c).s
-begins_at t turn k c tiling few x y d =
-    head_is (image turn t).squares (image_square turn t.width t.height q) (turned_first t turn q tiling (one_at t.squares k c few) x y) d
+    → IsAtCorner (image_square turn t.width t.height (slice_index_or t.squares k c)) → BeginsWith (image turn t) (slice_index_or t.squares k c).s
+begins_at t turn k c tiling few corner d =
+    head_is (image turn t).squares (image_square turn t.width t.height q) (turned_first t turn q tiling (one_at t.squares k c few) corner.0 corner.1) d
     ∙ side-image_square turn t.width t.height q
   where
     q : Square
@@ -107,15 +105,14 @@ begins_at t turn k c tiling few x y d =
 -- a square of this number comes to the top left corner in an image
 pub record ComesFirst (turn : Turn) (squares : List Square) (width height k : ℕ) (c : Square) : Type 0 where
   pub within : k < length squares
-  pub left : (image_square turn width height (slice_index_or squares k c)).x ≡ 0
-  pub top : (image_square turn width height (slice_index_or squares k c)).y ≡ 0
+  pub corner : IsAtCorner (image_square turn width height (slice_index_or squares k c))
 
 -- the same of the squares and the size as they were read
 pub begins_with : (t : Tiling) (turn : Turn) (squares : List Square) (width height k : ℕ) (c : Square) → IsTiling t → squares ≡ t.squares
     → width ≡ t.width → height ≡ t.height → ComesFirst turn squares width height k c → BeginsWith (image turn t) (slice_index_or squares k c).s
 begins_with t turn squares width height k c tiling e w h first =
     subst (λ (l : List Square). BeginsWith (image turn t) (slice_index_or l k c).s) (sym e)
-    (begins_at t turn k c tiling here.within here.left here.top)
+    (begins_at t turn k c tiling here.within here.corner)
   where
     here : ComesFirst turn t.squares t.width t.height k c
     here = subst (λ (n : ℕ). ComesFirst turn t.squares t.width n k c) h

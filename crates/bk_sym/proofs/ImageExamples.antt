@@ -1,6 +1,6 @@
 -- Images and canonical tilings.
 use Rattle.std.specs.Prelude.{[], refl, ◌∷◌, ◌≡◌}
-use Rattle.std.proofs.Common.{arith, lit≤}
+use Rattle.std.proofs.Common.{lit≤}
 use Rattle.bk_tiling.proofs.ExampleTilings.{rectangle_33x32, rectangle_3x2, rectangle_69x61, turned_33x32}
 use Rattle.bk_code.specs.Code.{code_of}
 use Rattle.bk_tiling.specs.Scale.{enlarged}
@@ -8,7 +8,7 @@ use Rattle.bk_sym.proofs.CanonicalTests.{canonical_by_test}
 use Rattle.bk_sym.specs.Canonical.{IsCanonical, IsCanonicalOf, scaled_down_tiling}
 use Rattle.bk_sym.specs.Image.{image}
 use Rattle.bk_sym.specs.Turns.{after, undoing}
-use Rattle.bk_sym.specs.declared.Turn.TheVariants.{FlipX, FlipY, Half, Same, Swap, SwapFlipX, SwapFlipY, SwapHalf}
+use Rattle.bk_sym.specs.declared.Turn.TheVariants.{FlipX, Half, Same, Swap, SwapFlipX, SwapFlipY, SwapHalf}
 
 code-FlipX : code_of (image FlipX rectangle_3x2) ≡ (1 ∷ 2 ∷ []) ∷ (1 ∷ []) ∷ []
 code-FlipX = refl

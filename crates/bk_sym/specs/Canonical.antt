@@ -5,6 +5,7 @@ use Rattle.std.specs.Cmp.Lexicographic.{slice_cmp}
 use Rattle.std.specs.Ordering.{is_le, nat_cmp}
 use Rattle.std.specs.Prelude.{HoldsAt, IsTrue, map, ℕ, ◌/◌, ◌≡◌, ◌≤◌}
 use Rattle.bk_tiling.specs.Tiling.{Tiling}
+use Rattle.bk_tiling.specs.declared.Square.{Square}
 use Rattle.bk_code.specs.Code.{code_of, flat}
 use Rattle.bk_frac.specs.Divisor.{gcd_of}
 use Rattle.bk_sym.specs.Image.{image}
@@ -43,6 +44,10 @@ pub record IsGreatestOf (t g : Tiling) : Type 0 where
 -- the first square of t has this side
 abbrev pub BeginsWith : Tiling → ℕ → Type 0
 BeginsWith t side = HoldsAt (λ q. q.s ≡ side) t.squares 0
+
+-- the square stands at the top left corner
+abbrev pub IsAtCorner : Square → Type 0
+IsAtCorner q = (q.x ≡ 0) × (q.y ≡ 0)
 
 -- c is canonical for t: among the images of t in lowest terms that are at least as wide as high, it is
 -- the one with the greatest flat list. A width and a flat list fix a tiling, so there is only

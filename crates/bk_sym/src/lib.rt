@@ -4,7 +4,7 @@
 ghost use Rattle.std.specs.Prelude.{IfSome, IsTrue, false, ◌+◌, ◌<◌, ◌↔◌, ◌≡◌, ◌≤◌, ◌⊎◌};
 ghost use Rattle.bk_code.specs.Code.{code_cmp, code_of};
 ghost use Rattle.bk_frac.specs.Divisor.{gcd as common_divisor, gcd_of};
-ghost use Rattle.bk_sym.specs.Canonical.{BeginsWith, IsAtMost, IsCanonical, IsCanonicalOf, IsGreatestImage};
+ghost use Rattle.bk_sym.specs.Canonical.{BeginsWith, IsAtCorner, IsAtMost, IsCanonical, IsCanonicalOf, IsGreatestImage};
 ghost use Rattle.bk_sym.specs.Canonical.{IsGreatestOf, Lies, scaled_down_tiling};
 ghost use Rattle.bk_sym.specs.Image.{image, image_size, image_square};
 ghost use Rattle.bk_tiling.specs.KeptTiling.{IsKept};
@@ -75,8 +75,7 @@ pub fn image(tiling: &Tiling, which: Turn) -> Tiling
 
 // Where a square of a rectangle of this size stands in the image.
 fn turned(q: Square, which: Turn, width: u64, height: u64) -> Square
-    requires right { q.x + q.s ≤ width }
-    requires bottom { q.y + q.s ≤ height }
+    requires { (q.x + q.s ≤ width) × (q.y + q.s ≤ height) }
     ensures { result ≡ image_square which width height q }
 {
     let right = width - q.x - q.s;
@@ -256,10 +255,8 @@ fn begins_shorter(tiling: &Tiling, which: Turn, other: &Tiling) -> bool
 
 // Whether a square of a rectangle of this size comes to the top left corner in the image.
 fn comes_first(q: Square, which: Turn, width: u64, height: u64) -> bool
-    requires right { q.x + q.s ≤ width }
-    requires bottom { q.y + q.s ≤ height }
-    ensures left { IsTrue result → (image_square which width height q).x ≡ 0 }
-    ensures top { IsTrue result → (image_square which width height q).y ≡ 0 }
+    requires { (q.x + q.s ≤ width) × (q.y + q.s ≤ height) }
+    ensures { IsTrue result → IsAtCorner (image_square which width height q) }
 {
     let turned = turned(q, which, width, height);
     turned.x == 0 && turned.y == 0

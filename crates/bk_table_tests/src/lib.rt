@@ -3,14 +3,4 @@
 #![tactic(auto)]
 
 #[cfg(test)]
-mod leaf_rows;
-#[cfg(test)]
-mod member_rows;
-#[cfg(test)]
-mod plain_walk;
-#[cfg(test)]
-mod search_rows;
-#[cfg(test)]
-mod square_rows;
-#[cfg(test)]
-mod walk_rows;
+mod rows;

@@ -42,6 +42,6 @@ line_at None t = None
 line_at (Some e) t = Some (line_of e t)
 
 -- what is read from a place on
-abbrev pub read : List ℕ → Place → Lists → Option Line
-read [] p t = line_at (line_ending_at p) (and_side (last_side p) t)
-read (b ∷ bs) p t = option_and_then (λ q. read bs q (lists_after p (line_kind_of b) t)) (next_line_place p (line_kind_of b))
+abbrev pub line_read_from : List ℕ → Place → Lists → Option Line
+line_read_from [] p t = line_at (line_ending_at p) (and_side (last_side p) t)
+line_read_from (b ∷ bs) p t = option_and_then (λ q. line_read_from bs q (lists_after p (line_kind_of b) t)) (next_line_place p (line_kind_of b))

@@ -1,7 +1,7 @@
 -- Each line is read as what it stands for.
 use Rattle.std.specs.Prelude.{List, None, Option, Some, [], codes, refl, ℕ, ◌++◌, ◌+◌, ◌^◌, ◌∷◌, ◌≡◌, ◌≤◌}
 use Rattle.std.proofs.Common.{ap, append_assoc, arith, sym, ◌∙◌}
-use Rattle.bk_grammar.proofs.Reading.{Reads, byte_is, split}
+use Rattle.bk_grammar.proofs.Reading.{Reads, byte_is, reads_parts}
 use Rattle.bk_grammar.specs.Grammar.{Blanks, Is, LineEnd, Number, SomeBlanks, ◌then◌}
 use Rattle.bk_text.specs.CodeLine.{Flat, IsLine, Item, Line, Side, Size, Skip, TableSides}
 use Rattle.bk_text.specs.LineReading.{most, next_line_place}
@@ -13,7 +13,7 @@ use Rattle.bk_text.specs.declared.reader.Place.{Place}
 use Rattle.bk_text.specs.declared.reader.Place.TheVariants.{BeforeGroup, BeforeHeight, BehindColumn, BehindFirst, BehindSecond, BehindThird}
 use Rattle.bk_text.specs.declared.reader.Place.TheVariants.{Number as InNumber, Start}
 use Rattle.bk_text.specs.declared.reader.Table.{Table}
-use Rattle.bk_text.proofs.KeepingAll.{Lists, and_side, lists_after, no_lists, read}
+use Rattle.bk_text.proofs.KeepingAll.{Lists, and_side, lists_after, no_lists, line_read_from}
 use Rattle.bk_text.proofs.Rests.{row}
 use Rattle.bk_text.proofs.NumbersRead.{Begins_number, Ends_at, Skips_blanks, behind_reads, blanks_reads, end_read, ends_here, gap_reads, number_reads}
 use Rattle.bk_text.proofs.NumbersRead.{read_next}
@@ -22,17 +22,17 @@ use Rattle.bk_text.proofs.GroupsRead.{code_behind, code_read}
 -- a size
 size_reads : (p : Place) (f : Field) (order : Option ℕ) (w h : ℕ) (text x : List ℕ) → 10 ^ 18 ≤ most f + 1 → Begins_number p f no_lists
     → next_line_place (InNumber f w) Cross ≡ Some (BeforeHeight order w) → lists_after (InNumber f w) Cross no_lists ≡ no_lists
-    → Reads (Size (w, h)) text x → read text p no_lists ≡ read x (InNumber (Height order w) h) no_lists
+    → Reads (Size (w, h)) text x → line_read_from text p no_lists ≡ line_read_from x (InNumber (Height order w) h) no_lists
 size_reads p f order w h text x bound begins next lists r =
-    let a = split (Number 18 w) (Is (codes "x") then Number 18 h) text x r in
-    let b = split (Is (codes "x")) (Number 18 h) a.0 x a.2 in
+    let a = reads_parts (Number 18 w) (Is (codes "x") then Number 18 h) text x r in
+    let b = reads_parts (Is (codes "x")) (Number 18 h) a.0 x a.2 in
     number_reads 18 w p f no_lists text a.0 bound begins a.1
-    ∙ ap (λ z. read z (InNumber f w) no_lists) (byte_is 120 a.0 b.0 b.1)
+    ∙ ap (λ z. line_read_from z (InNumber f w) no_lists) (byte_is 120 a.0 b.0 b.1)
     ∙ read_next (InNumber f w) (BeforeHeight order w) Cross no_lists no_lists 120 b.0 refl next lists
     ∙ number_reads 18 h (BeforeHeight order w) (Height order w) no_lists b.0 x (omega arith) (λ d. (refl, refl)) b.2
 
 -- a table row
-column_end : (r : Table) (n : ℕ) (t : Lists) (text : List ℕ) → LineEnd text → read text (InNumber (Column r) n) t ≡ Some (row r (t.sides ++ n ∷ []))
+column_end : (r : Table) (n : ℕ) (t : Lists) (text : List ℕ) → LineEnd text → line_read_from text (InNumber (Column r) n) t ≡ Some (row r (t.sides ++ n ∷ []))
 column_end r n t text (a, x, e, blanks, rest) =
     let behind = ends_here (BehindColumn r) (Row r) (and_side (Some n) t) (and_side (Some n) t) x (record { here = refl; next = refl; lists = refl }) rest in
     let right_behind = ends_here (InNumber (Column r) n) (Row r) t (and_side (Some n) t) x (record { here = refl; next = refl; lists = refl }) rest in
@@ -40,28 +40,28 @@ column_end r n t text (a, x, e, blanks, rest) =
     (a, blanks, e) ∙ behind
 
 columns_read : (p q : Place) (r : Table) (ns : List ℕ) (t u : Lists) (text y : List ℕ) → Ends_at p q t u → Skips_blanks q u → Begins_number q (Column r) u
-    → Reads (TableSides ns) text y → LineEnd y → read text p t ≡ Some (row r (u.sides ++ ns))
+    → Reads (TableSides ns) text y → LineEnd y → line_read_from text p t ≡ Some (row r (u.sides ++ ns))
 columns_read p q r [] t u text y ends skips begins h end = absurd h.1
 columns_read p q r (n ∷ []) t u text y ends skips begins h end =
-    let a = split SomeBlanks (Side n) text y h in
+    let a = reads_parts SomeBlanks (Side n) text y h in
     gap_reads p q t u text a.0 ends skips a.1 ∙ number_reads 15 n q (Column r) u a.0 y (omega arith) begins a.2 ∙ column_end r n u y end
 columns_read p q r (n ∷ m ∷ ns) t u text y ends skips begins h end =
-    let a = split SomeBlanks (Side n then TableSides (m ∷ ns)) text y h in
-    let b = split (Side n) (TableSides (m ∷ ns)) a.0 y a.2 in
+    let a = reads_parts SomeBlanks (Side n then TableSides (m ∷ ns)) text y h in
+    let b = reads_parts (Side n) (TableSides (m ∷ ns)) a.0 y a.2 in
     gap_reads p q t u text a.0 ends skips a.1
     ∙ number_reads 15 n q (Column r) u a.0 b.0 (omega arith) begins b.1
     ∙ columns_read (InNumber (Column r) n) (BehindColumn r) r (m ∷ ns) u (and_side (Some n) u) b.0 y (refl, refl) (refl, refl) (λ d. (refl, refl)) b.2 end
     ∙ ap (λ z. Some (row r z)) (append_assoc u.sides (n ∷ []) (m ∷ ns))
 
 -- each line is read as what it stands for
-pub line_is_read : (l : Line) (bs : List ℕ) → IsLine l bs → read bs Start no_lists ≡ Some l
+pub line_is_read : (l : Line) (bs : List ℕ) → IsLine l bs → line_read_from bs Start no_lists ≡ Some l
 line_is_read Skip bs h = end_read Start Empty no_lists bs (refl, refl) (record { here = refl; next = refl; lists = refl }) h
 line_is_read (Item None None code) bs (a, x, e, blanks, (f, y, e', none, rest)) =
     blanks_reads Start no_lists bs x (refl, refl) (a, blanks, e)
-    ∙ ap (λ z. read z Start no_lists) (e' ∙ ap (λ z. z ++ y) none)
+    ∙ ap (λ z. line_read_from z Start no_lists) (e' ∙ ap (λ z. z ++ y) none)
     ∙ code_read Start (record { order = None; size = None }) code y (λ c. (refl, refl)) rest
 line_is_read (Item (Some n) None code) bs (a, x, e, blanks, (f, y, e', header, rest)) =
-    let b = split (Number 18 n) Blanks x y (f, header, e') in
+    let b = reads_parts (Number 18 n) Blanks x y (f, header, e') in
     let k = b.2 in
     blanks_reads Start no_lists bs x (refl, refl) (a, blanks, e)
     ∙ number_reads 18 n Start First no_lists x b.0 (omega arith) (λ d. (refl, refl)) b.1
@@ -69,7 +69,7 @@ line_is_read (Item (Some n) None code) bs (a, x, e, blanks, (f, y, e', header, r
     (λ c. refl) (λ c. refl)
     (k.0, y, k.2, k.1, rest)
 line_is_read (Item None (Some (w, h)) code) bs (a, x, e, blanks, (f, y, e', header, rest)) =
-    let b = split (Size (w, h)) Blanks x y (f, header, e') in
+    let b = reads_parts (Size (w, h)) Blanks x y (f, header, e') in
     let k = b.2 in
     blanks_reads Start no_lists bs x (refl, refl) (a, blanks, e)
     ∙ size_reads Start First None w h x b.0 (omega arith) (λ d. (refl, refl)) refl refl b.1
@@ -77,9 +77,9 @@ line_is_read (Item None (Some (w, h)) code) bs (a, x, e, blanks, (f, y, e', head
     (record { order = None; size = Some (w, h) }) code b.0
     (refl, refl) (refl, refl) (λ c. (refl, refl)) (λ c. refl) (λ c. refl) (k.0, y, k.2, k.1, rest)
 line_is_read (Item (Some n) (Some (w, h)) code) bs (a, x, e, blanks, (f, y, e', header, rest)) =
-    let b = split (Number 18 n) (SomeBlanks then Size (w, h) then Blanks) x y (f, header, e') in
-    let d = split SomeBlanks (Size (w, h) then Blanks) b.0 y b.2 in
-    let s = split (Size (w, h)) Blanks d.0 y d.2 in
+    let b = reads_parts (Number 18 n) (SomeBlanks then Size (w, h) then Blanks) x y (f, header, e') in
+    let d = reads_parts SomeBlanks (Size (w, h) then Blanks) b.0 y b.2 in
+    let s = reads_parts (Size (w, h)) Blanks d.0 y d.2 in
     let k = s.2 in
     blanks_reads Start no_lists bs x (refl, refl) (a, blanks, e)
     ∙ number_reads 18 n Start First no_lists x b.0 (omega arith) (λ d. (refl, refl)) b.1

@@ -21,15 +21,15 @@ use Rattle.bk_text.specs.declared.reader.Kind.{Kind}
 use Rattle.bk_text.specs.declared.reader.Kind.TheVariants.{Blank, Digit, Semicolon, Zero}
 use Rattle.bk_text.specs.declared.reader.Place.{Place}
 use Rattle.bk_text.specs.declared.reader.Place.TheVariants.{Comment as InComment, Number as InNumber}
-use Rattle.bk_text.proofs.KeepingAll.{Lists, line_of, lists_after, read}
+use Rattle.bk_text.proofs.KeepingAll.{Lists, line_of, lists_after, line_read_from}
 
 -- a further byte of a known kind
 pub read_next : (p q : Place) (k : Kind) (t u : Lists) (b : ℕ) (bs : List ℕ) → line_kind_of b ≡ k → next_line_place p k ≡ Some q → lists_after p k t ≡ u
-    → read (b ∷ bs) p t ≡ read bs q u
+    → line_read_from (b ∷ bs) p t ≡ line_read_from bs q u
 read_next p q k t u b bs kind next lists =
-    ap (λ k. option_and_then (λ q. read bs q (lists_after p k t)) (next_line_place p k)) kind
-    ∙ ap (option_and_then (λ q. read bs q (lists_after p k t))) next
-    ∙ ap (read bs q) lists
+    ap (λ k. option_and_then (λ q. line_read_from bs q (lists_after p k t)) (next_line_place p k)) kind
+    ∙ ap (option_and_then (λ q. line_read_from bs q (lists_after p k t))) next
+    ∙ ap (line_read_from bs q) lists
 
 kind_blank : (b : ℕ) → IsBlank b → line_kind_of b ≡ Blank
 kind_blank b (inl e) = ap line_kind_of e
@@ -70,23 +70,23 @@ longer_fits f v d few = cond-true _ _ _ (le-leb v (most f / 10) (tenth (most f) 
     tenth m few' = omega arith
 
 more_digit : (f : Field) (v b : ℕ) (t : Lists) (bs : List ℕ) → digit_value b < 10 → v * 10 + digit_value b ≤ most f
-    → read (b ∷ bs) (InNumber f v) t ≡ read bs (InNumber f (v * 10 + digit_value b)) t
+    → line_read_from (b ∷ bs) (InNumber f v) t ≡ line_read_from bs (InNumber f (v * 10 + digit_value b)) t
 more_digit f v b t bs small few = which (cases (b == 48) refl)
   where
     cases : (test : Bool) → (b == 48) ≡ test → (b ≡ 48) ⊎ (b ≢ 48)
     cases true e = inl (grind (arith, nat_tests, e))
     cases false e = inr (grind (arith, nat_tests, e))
 
-    which : (b ≡ 48) ⊎ (b ≢ 48) → read (b ∷ bs) (InNumber f v) t ≡ read bs (InNumber f (v * 10 + digit_value b)) t
+    which : (b ≡ 48) ⊎ (b ≢ 48) → line_read_from (b ∷ bs) (InNumber f v) t ≡ line_read_from bs (InNumber f (v * 10 + digit_value b)) t
     which (inl e) =
         let value : digit_value b ≡ 0 = ap digit_value e in
         read_next (InNumber f v) (InNumber f (v * 10 + 0)) Zero t t b bs (ap line_kind_of e) (longer_fits f v 0 (omega (arith, few))) (zero_keeps f v t)
-        ∙ ap (λ z. read bs (InNumber f (v * 10 + z)) t) (sym value)
+        ∙ ap (λ z. line_read_from bs (InNumber f (v * 10 + z)) t) (sym value)
     which (inr e) = read_next (InNumber f v) (InNumber f (v * 10 + digit_value b)) (Digit (digit_value b)) t t b bs (kind_digit b small e)
         (longer_fits f v (digit_value b) few) (digit_keeps f v (digit_value b) t)
 
 more_digits : (f : Field) (v : ℕ) (ds : List ℕ) (t : Lists) (x : List ℕ) → AllDigits 10 ds → digits_value_after 10 v ds ≤ most f
-    → read (ds ++ x) (InNumber f v) t ≡ read x (InNumber f (digits_value_after 10 v ds)) t
+    → line_read_from (ds ++ x) (InNumber f v) t ≡ line_read_from x (InNumber f (digits_value_after 10 v ds)) t
 more_digits f v [] t x digits few = refl
 more_digits f v (d ∷ ds) t x digits few =
     more_digit f v d t (ds ++ x) digits.0 (omega (arith, few, digits_value_after-le (v * 10 + digit_value d) ds))
@@ -98,7 +98,7 @@ Begins_number p f t = (d : ℕ) → (next_line_place p (Digit d) ≡ Some (InNum
 
 -- the text of a number leads to the place in that number
 pub number_reads : (most' n : ℕ) (p : Place) (f : Field) (t : Lists) (text x : List ℕ) → 10 ^ most' ≤ most f + 1 → Begins_number p f t
-    → Reads (Number most' n) text x → read text p t ≡ read x (InNumber f n) t
+    → Reads (Number most' n) text x → line_read_from text p t ≡ line_read_from x (InNumber f n) t
 number_reads most' n p f t text x bound begins ([], h, e) = absurd (omega (arith, h.0.0))
 number_reads most' n p f t text x bound begins (b ∷ ds, (digits, few, first, value), e) =
     let other : b ≢ 48 = first in
@@ -108,62 +108,62 @@ number_reads most' n p f t text x bound begins (b ∷ ds, (digits, few, first, v
     let below : n ≤ most f =
     lt_pow_ten-le_greatest (most f) most' (length (b ∷ ds)) n bound few
     (subst (λ (z : ℕ). z < 10 ^ length (b ∷ ds)) value (digits_value-lt 10 (b ∷ ds) digits.1)) in
-    ap (λ z. read z p t) e
+    ap (λ z. line_read_from z p t) e
     ∙ read_next p (InNumber f (digit_value b)) (Digit (digit_value b)) t t b (ds ++ x) (kind_digit b digits.1.0 other) k.0 k.1
     ∙ more_digits f (digit_value b) ds t x digits.1.1 (omega (arith, start, below))
-    ∙ ap (λ z. read x (InNumber f z) t) start
+    ∙ ap (λ z. line_read_from x (InNumber f z) t) start
 
 -- blanks
 blank_read : (p q : Place) (t u : Lists) (b : ℕ) (bs : List ℕ) → IsBlank b → next_line_place p Blank ≡ Some q → lists_after p Blank t ≡ u
-    → read (b ∷ bs) p t ≡ read bs q u
+    → line_read_from (b ∷ bs) p t ≡ line_read_from bs q u
 blank_read p q t u b bs blank next lists = read_next p q Blank t u b bs (kind_blank b blank) next lists
 
 -- a place at which blanks change nothing
 abbrev pub Skips_blanks : Place → Lists → Type 0
 Skips_blanks p t = (next_line_place p Blank ≡ Some p) × (lists_after p Blank t ≡ t)
 
-skipped : (p : Place) (t : Lists) (a x : List ℕ) → Skips_blanks p t → Blanks a → read (a ++ x) p t ≡ read x p t
+skipped : (p : Place) (t : Lists) (a x : List ℕ) → Skips_blanks p t → Blanks a → line_read_from (a ++ x) p t ≡ line_read_from x p t
 skipped p t [] x skips blanks = refl
 skipped p t (b ∷ a) x skips blanks = blank_read p p t t b (a ++ x) blanks.0 skips.0 skips.1 ∙ skipped p t a x skips blanks.1
 
 -- blanks lead to the same place, where blanks change nothing
-pub blanks_reads : (p : Place) (t : Lists) (text x : List ℕ) → Skips_blanks p t → Reads Blanks text x → read text p t ≡ read x p t
-blanks_reads p t text x skips (a, blanks, e) = ap (λ z. read z p t) e ∙ skipped p t a x skips blanks
+pub blanks_reads : (p : Place) (t : Lists) (text x : List ℕ) → Skips_blanks p t → Reads Blanks text x → line_read_from text p t ≡ line_read_from x p t
+blanks_reads p t text x skips (a, blanks, e) = ap (λ z. line_read_from z p t) e ∙ skipped p t a x skips blanks
 
 -- blanks behind a number: the number ends
 abbrev pub Ends_at : Place → Place → Lists → Lists → Type 0
 Ends_at p q t u = (next_line_place p Blank ≡ Some q) × (lists_after p Blank t ≡ u)
 
 -- some blanks behind a number lead to the place behind it
-pub gap_reads : (p q : Place) (t u : Lists) (text x : List ℕ) → Ends_at p q t u → Skips_blanks q u → Reads SomeBlanks text x → read text p t ≡ read x q u
+pub gap_reads : (p q : Place) (t u : Lists) (text x : List ℕ) → Ends_at p q t u → Skips_blanks q u → Reads SomeBlanks text x → line_read_from text p t ≡ line_read_from x q u
 gap_reads p q t u text x ends skips ([], h, e) = absurd (omega (arith, h.0))
-gap_reads p q t u text x ends skips (b ∷ a, h, e) = ap (λ z. read z p t) e ∙ blank_read p q t u b (a ++ x) h.1.0 ends.0 ends.1 ∙ skipped q u a x skips h.1.1
+gap_reads p q t u text x ends skips (b ∷ a, h, e) = ap (λ z. line_read_from z p t) e ∙ blank_read p q t u b (a ++ x) h.1.0 ends.0 ends.1 ∙ skipped q u a x skips h.1.1
 
 -- and so do blanks, also none, where what follows is read alike from both places
-pub behind_reads : (p q : Place) (t u : Lists) (text x : List ℕ) → Ends_at p q t u → Skips_blanks q u → read x p t ≡ read x q u → Reads Blanks text x
-    → read text p t ≡ read x q u
-behind_reads p q t u text x ends skips same ([], h, e) = ap (λ z. read z p t) e ∙ same
+pub behind_reads : (p q : Place) (t u : Lists) (text x : List ℕ) → Ends_at p q t u → Skips_blanks q u → line_read_from x p t ≡ line_read_from x q u → Reads Blanks text x
+    → line_read_from text p t ≡ line_read_from x q u
+behind_reads p q t u text x ends skips same ([], h, e) = ap (λ z. line_read_from z p t) e ∙ same
 behind_reads p q t u text x ends skips same (b ∷ a, h, e) = gap_reads p q t u text x ends skips (b ∷ a, (omega arith, h), e)
 
 -- the end of a line
-comment_read : (text : List ℕ) (ending : Ending) (t : Lists) → read text (InComment ending) t ≡ Some (line_of ending t)
+comment_read : (text : List ℕ) (ending : Ending) (t : Lists) → line_read_from text (InComment ending) t ≡ Some (line_of ending t)
 comment_read [] ending t = refl
 comment_read (b ∷ bs) ending t = comment_read bs ending t
 
 -- a place at which the line may end
 pub record Ends_line (p : Place) (ending : Ending) (t u : Lists) : Type 0 where
-  pub here : read [] p t ≡ Some (line_of ending u)
+  pub here : line_read_from [] p t ≡ Some (line_of ending u)
   pub next : next_line_place p Semicolon ≡ Some (InComment ending)
   pub lists : lists_after p Semicolon t ≡ u
 
 -- where the line may end, it ends also in front of a comment
 pub ends_here : (p : Place) (ending : Ending) (t u : Lists) (x : List ℕ) → Ends_line p ending t u → (Nothing or Comment) x
-    → read x p t ≡ Some (line_of ending u)
-ends_here p ending t u x ends (inl none) = ap (λ z. read z p t) none ∙ ends.here
-ends_here p ending t u x ends (inr (text, e)) = ap (λ z. read z p t) e
+    → line_read_from x p t ≡ Some (line_of ending u)
+ends_here p ending t u x ends (inl none) = ap (λ z. line_read_from z p t) none ∙ ends.here
+ends_here p ending t u x ends (inr (text, e)) = ap (λ z. line_read_from z p t) e
     ∙ read_next p (InComment ending) Semicolon t u 59 text refl ends.next ends.lists ∙ comment_read text ending u
 
 -- the end of a line, with blanks or a comment before it, is read as the end
 pub end_read : (p : Place) (ending : Ending) (t : Lists) (text : List ℕ) → Skips_blanks p t → Ends_line p ending t t → LineEnd text
-    → read text p t ≡ Some (line_of ending t)
+    → line_read_from text p t ≡ Some (line_of ending t)
 end_read p ending t text skips ends (a, x, e, blanks, rest) = blanks_reads p t text x skips (a, blanks, e) ∙ ends_here p ending t t x ends rest

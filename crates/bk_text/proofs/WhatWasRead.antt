@@ -8,7 +8,7 @@ use Rattle.bk_text.specs.declared.reader.Field.TheVariants.{Column, First, Heigh
 use Rattle.bk_text.specs.declared.reader.Place.TheVariants.{BehindColumn, BehindGroup, Comment as InComment, Number as InNumber, Start}
 use Rattle.bk_text.specs.declared.reader.Place.{Place}
 use Rattle.bk_text.proofs.ByteKinds.{line_kind_of-means}
-use Rattle.bk_text.proofs.KeepingAll.{Lists, and_side, line_at, line_of, lists_after, no_lists, read}
+use Rattle.bk_text.proofs.KeepingAll.{Lists, and_side, line_at, line_of, lists_after, no_lists, line_read_from}
 use Rattle.bk_text.proofs.Rests.{Rest, RestAfter, item, line_onto, onto, row}
 use Rattle.bk_text.proofs.FrontBytes.{behind_byte}
 
@@ -28,14 +28,14 @@ at_end (InNumber (SideOf g c) v) t l e = absurd (cc)
 at_end p t l e = absurd (cc)
 
 -- what is read from a place on completes a line
-pub rest-of_read : (bs : List ℕ) (p : Place) (t : Lists) (l : Line) → read bs p t ≡ Some l → Rest p t l bs
+pub rest-of_read : (bs : List ℕ) (p : Place) (t : Lists) (l : Line) → line_read_from bs p t ≡ Some l → Rest p t l bs
 rest-of_read [] p t l e = at_end p t l e
 rest-of_read (b ∷ bs) p t l e =
     behind_byte p (line_kind_of b) t l b bs (line_kind_of-means b)
     (from (next_line_place p (line_kind_of b)) (λ q k. rest-of_read bs q (lists_after p (line_kind_of b) t) l k) e)
   where
-    from : (next : Option Place) → ((q : Place) → read bs q (lists_after p (line_kind_of b) t) ≡ Some l → Rest q (lists_after p (line_kind_of b) t) l bs)
-        → option_and_then (λ q. read bs q (lists_after p (line_kind_of b) t)) next ≡ Some l → RestAfter next (lists_after p (line_kind_of b) t) l bs
+    from : (next : Option Place) → ((q : Place) → line_read_from bs q (lists_after p (line_kind_of b) t) ≡ Some l → Rest q (lists_after p (line_kind_of b) t) l bs)
+        → option_and_then (λ q. line_read_from bs q (lists_after p (line_kind_of b) t)) next ≡ Some l → RestAfter next (lists_after p (line_kind_of b) t) l bs
     from None each h = absurd (cc)
     from (Some q) each h = each q h
 
@@ -50,7 +50,7 @@ line_onto_none (Item order size code) = ap (Item order size) (onto_none code)
 line_onto_none (Flat order w h ns) = refl
 
 -- what is read is a line that stands for it
-pub read_is_line : (bs : List ℕ) (l : Line) → read bs Start no_lists ≡ Some l → IsLine l bs
+pub read_is_line : (bs : List ℕ) (l : Line) → line_read_from bs Start no_lists ≡ Some l → IsLine l bs
 read_is_line bs l e =
     let h = rest-of_read bs Start no_lists l e in
     subst (λ (m : Line). IsLine m bs) (sym (h.2 ∙ line_onto_none h.0)) h.1

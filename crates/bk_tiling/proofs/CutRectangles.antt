@@ -27,21 +27,26 @@ module _ (x m y n a b h : ℕ) (at : m ≡ x + a) (sum : n ≡ a + b) where
       cases (inl l) = inl (record { left = has.left; right = omega arith; top = has.top; bottom = has.bottom }, λ no. omega (arith, no.left))
       cases (inr r) = inr (λ no. omega (arith, no.right), record { left = r; right = omega (arith, has.right); top = has.top; bottom = has.bottom })
 
+-- columns and levels exchanged
+turned_cell : (x y w h i j : ℕ) → HasCell (rectangle x y w h) i j → HasCell (rectangle y x h w) j i
+turned_cell x y w h i j has = record { left = has.top; right = has.bottom; top = has.left; bottom = has.right }
+
+turned_part : (x y w h z v m n : ℕ) → IsPart (rectangle x y w h) (rectangle z v m n) → IsPart (rectangle y x h w) (rectangle v z n m)
+turned_part x y w h z v m n part = record { left = part.top; right = part.bottom; top = part.left; bottom = part.right }
+
 -- levels a and b one above the other, the lower part at level m
 module _ (x y m w n a b : ℕ) (at : m ≡ y + a) (sum : n ≡ a + b) where
   -- its upper part lies in it
   pub upper_part : IsPart (rectangle x y w n) (rectangle x y w a)
-  upper_part = record { left = omega arith; right = omega arith; top = omega arith; bottom = omega arith }
+  upper_part = turned_part y x n w y x a w (left_part y m x n a b w at sum)
 
   -- so does its lower part
   pub lower_part : IsPart (rectangle x y w n) (rectangle x m w b)
-  lower_part = record { left = omega arith; right = omega arith; top = omega arith; bottom = omega arith }
+  lower_part = turned_part y x n w m x b w (right_part y m x n a b w at sum)
 
   -- each of its cells lies in one of them
   pub split_stacked : Splits (rectangle x y w n) (rectangle x y w a) (rectangle x m w b)
-  split_stacked i j has = cases (cases_lt j m)
-    where
-      cases : (j < m) ⊎ (m ≤ j) → (HasCell (rectangle x y w a) i j × (HasCell (rectangle x m w b) i j → ⊥))
-          ⊎ ((HasCell (rectangle x y w a) i j → ⊥) × HasCell (rectangle x m w b) i j)
-      cases (inl l) = inl (record { left = has.left; right = has.right; top = has.top; bottom = omega arith }, λ no. omega (arith, no.top))
-      cases (inr r) = inr (λ no. omega (arith, no.bottom), record { left = has.left; right = has.right; top = r; bottom = omega (arith, has.bottom) })
+  split_stacked i j has = elim (split_beside y m x n a b w at sum j i (turned_cell x y w n i j has)) [
+    | inl h ↦ inl (turned_cell y x a w j i h.0, λ no. h.1 (turned_cell x m w b i j no))
+    | inr h ↦ inr (λ no. h.0 (turned_cell x y w a i j no), turned_cell m x b w j i h.1)
+  ]

@@ -194,8 +194,8 @@ tail_apart : (p : Square) (squares : List Square) → Apart (p ∷ squares) → 
 tail_apart p squares a = record { ordered = (a.ordered).1; sides = λ q h. a.sides q (inr h); apart = λ q r h k i j e f. a.apart q r (inr h) (inr k) i j e f }
 
 -- the first group is a row that begins with the first square, and the others are groups among the rest
-pub split : (p : Square) (squares : List Square) → Apart (p ∷ squares) → Split p squares
-split p [] a = record {
+pub first_group_split : (p : Square) (squares : List Square) → Apart (p ∷ squares) → Split p squares
+first_group_split p [] a = record {
   group = p ∷ [];
   groups = [];
   is = refl;
@@ -208,7 +208,7 @@ split p [] a = record {
     right : (z : Square) → IsOneOf z (p ∷ []) → z.y ≡ p.y → z.x ≡ p.x + p.s → ⊥
     right z (inl same) ey ex = omega (arith, a.sides p (inl refl), ex, ap (λ (q : Square). q.x) same)
     right z (inr h) ey ex = h
-split p (r ∷ squares) a = cases (cases_Bool (stands_beside p r)) (split r squares (tail_apart p (r ∷ squares) a))
+first_group_split p (r ∷ squares) a = cases (cases_Bool (stands_beside p r)) (first_group_split r squares (tail_apart p (r ∷ squares) a))
   where
     cases : (stands_beside p r ≡ true) ⊎ (stands_beside p r ≡ false) → Split r squares → Split p (r ∷ squares)
     cases (inl e) s = joined p r squares a s e

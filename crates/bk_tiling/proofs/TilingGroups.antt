@@ -5,7 +5,7 @@ use Rattle.bk_tiling.proofs.Cells.{no_two}
 use Rattle.bk_tiling.proofs.TilingLaws.{cell_most, side_of, wide_enough, within_of}
 use Rattle.bk_tiling.specs.Tiling.{IsOneOf, IsTiling, Tiling, covers}
 use Rattle.bk_tiling.specs.declared.Square.{Square}
-use Rattle.bk_tiling.proofs.Groups.{AllIn, Apart, IsGroup, Split, split}
+use Rattle.bk_tiling.proofs.Groups.{AllIn, Apart, IsGroup, Split, first_group_split}
 use Rattle.bk_tiling.proofs.NextCorner.{next_corner}
 use Rattle.bk_tiling.specs.SquareGroups.{square_groups}
 
@@ -30,8 +30,8 @@ module _ (t : Tiling) (tiling : IsTiling t) where
     pub all : AllByRecursion (λ g. IsGroup t.squares g × AllIn t.squares g) (square_groups t.squares)
 
   -- the squares of a tiling have what the laws on groups ask of them
-  pub known : Known
-  known = from t.squares refl
+  pub known_groups : Known
+  known_groups = from t.squares refl
     where
       more : (p : Square) (squares : List Square) (gs : List (List Square)) → AllByRecursion (λ g. IsGroup (p ∷ squares) g × AllIn squares g) gs
           → AllByRecursion (λ g. IsGroup (p ∷ squares) g × AllIn (p ∷ squares) g) gs
@@ -58,7 +58,7 @@ module _ (t : Tiling) (tiling : IsTiling t) where
       }
         where
           s : Split p squares
-          s = split p squares (subst Apart e apart)
+          s = first_group_split p squares (subst Apart e apart)
 
           p_in : IsOneOf p t.squares
           p_in = subst (IsOneOf p) (sym e) (inl refl)
@@ -87,4 +87,4 @@ module _ (t : Tiling) (tiling : IsTiling t) where
 
   -- each group of the tiling's squares is a group among them
   pub all_groups : AllByRecursion (λ g. IsGroup t.squares g × AllIn t.squares g) (square_groups t.squares)
-  all_groups = known.all
+  all_groups = known_groups.all

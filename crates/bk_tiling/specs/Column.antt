@@ -1,7 +1,7 @@
--- How deep the columns of a rectangle are filled by laid squares, and the level runs of these depths.
+-- How deep laid squares reach in the columns of a rectangle, and the level runs of these depths.
 -- Example (ColumnExamples): under the squares of sides 18 and 15 at the top of the rectangle 33x32 the depth is 18 up
--- to column 17 and 15 from column 18 on; these are the two level runs. A square with a free cell over it does not fill
--- its column.
+-- to column 17 and 15 from column 18 on; these are the two level runs. Cells over a square may be free; none is where
+-- the squares fill their columns (`IsFilled`).
 use Rattle.std.specs.Prelude.{Bool, List, [], cond, count_by, max, nat_le, nat_lt, ℕ, ◌&&◌, ◌+◌, ◌<◌, ◌∷◌, ◌≡◌, ◌≤◌}
 use Rattle.bk_tiling.specs.Tiling.{covers}
 use Rattle.bk_tiling.specs.declared.Segment.{Segment}
@@ -11,7 +11,7 @@ use Rattle.bk_tiling.specs.declared.Square.{Square}
 abbrev pub covers_column : ℕ → Square → Bool
 covers_column c q = nat_le q.x c && nat_lt c (q.x + q.s)
 
--- the depth of a column: the lowest level that the squares over it reach, or 0
+-- the depth of a column: the greatest level of a bottom among the squares over it, or 0
 abbrev pub depth : List Square → ℕ → ℕ
 depth [] c = 0
 depth (q ∷ squares) c = max (cond (covers_column c q) (q.y + q.s) 0) (depth squares c)

@@ -17,7 +17,7 @@ pub use hanging::{push_group, sum_of};
 pub use laws::{a_list_is_refused_in_one_way, a_refused_list_is_not_accepted};
 use std::marker::Model;
 
-/// A tiling has at most so many squares.
+/// The code holds tilings of at most so many squares; those of the definitions may have more.
 pub const MOST_SQUARES: usize = 200;
 
 /// No side is longer.

@@ -6,7 +6,7 @@ use Rattle.bk_ports.proofs.TakenBytes.{taken_all}
 use Rattle.bk_ports.specs.Lines.{lines_of}
 use Rattle.bk_ports.specs.declared.Ended.TheVariants.{NoneRefused, SomeRefused}
 use Rattle.bk_alike.proofs.OneListing.{none_refused}
-use Rattle.bk_alike.specs.GroupsEnd.{listing_of}
+use Rattle.bk_alike.specs.GroupsEnd.{list_output}
 use Rattle.bk_alike.specs.Listed.{HasRefusedLine}
 use Rattle.bk_alike.specs.declared.Wanted.{Wanted}
 use Rattle.bk_verify_report.proofs.OneReport.{a_fault_is_there}
@@ -17,12 +17,12 @@ use Rattle.bk_top.specs.Outside.{Outside, faults_of, streams_of}
 use Rattle.bk_top.specs.ReadsToEnd.{ListsLines, ReadsToEnd, Verifies}
 
 -- the lines decide whether one of them is refused
-module _ (wanted : Wanted) (before after : Outside) (status : ℕ) (reads : ReadsToEnd (listing_of wanted) (streams_of before after)
+module _ (wanted : Wanted) (before after : Outside) (status : ℕ) (reads : ReadsToEnd (list_output wanted) (streams_of before after)
     (faults_of before after) status) where
   module _ (input : List ℕ) (tells : before.source.bytes ≡ Some input) where
     some_line : status ≡ 1 → HasRefusedLine (lines_of input)
     some_line one =
-        let h = ending_at (listing_of wanted) (streams_of before after) (faults_of before after) status reads SomeRefused one in
+        let h = ending_at (list_output wanted) (streams_of before after) (faults_of before after) status reads SomeRefused one in
         let w = (h.written).1 in
         subst (λ (bytes : List ℕ). HasRefusedLine (lines_of bytes))
         (sym (taken_all input before.source.bytes after.source.bytes tells h.input h.taken h.at_end))
@@ -30,7 +30,7 @@ module _ (wanted : Wanted) (before after : Outside) (status : ℕ) (reads : Read
 
     no_line : status ≡ 0 → HasRefusedLine (lines_of input) → ⊥
     no_line zero some =
-        let h = ending_at (listing_of wanted) (streams_of before after) (faults_of before after) status reads NoneRefused zero in
+        let h = ending_at (list_output wanted) (streams_of before after) (faults_of before after) status reads NoneRefused zero in
         let w = (h.written).1 in
         none_refused (lines_of h.input) w.replies w.last w.each w.any
         (subst (λ (bytes : List ℕ). HasRefusedLine (lines_of bytes))

@@ -13,7 +13,7 @@ use Rattle.bk_ask.proofs.OneAsk.{one_ask}
 use Rattle.bk_ask.specs.Help.{help_text, usage}
 use Rattle.bk_ask.specs.declared.Ask.{Ask}
 use Rattle.bk_ask.specs.declared.Ask.TheVariants as asks
-use Rattle.bk_alike.specs.GroupsEnd.{listing_of}
+use Rattle.bk_alike.specs.GroupsEnd.{list_output}
 use Rattle.bk_alike.specs.declared.Wanted.{Wanted}
 use Rattle.bk_verify_report.specs.VerifyRun.{report_of}
 use Rattle.bk_top.proofs.AnsweredLines.{answers_lines}
@@ -147,10 +147,10 @@ module _ (words : List (String Global)) (before after : Outside) (status : ℕ) 
 
   -- groups or pairs
   pub run_of_gathering : (wanted : Wanted) → AskFor words (works.Gather wanted)
-      → ReadsToEnd (listing_of wanted) (streams_of before after) (faults_of before after) status → after.err ≡ before.err
+      → ReadsToEnd (list_output wanted) (streams_of before after) (faults_of before after) status → after.err ≡ before.err
       → IsWholeRun words before after status
   run_of_gathering wanted a reads silent =
-      let known = read_status (listing_of wanted) (streams_of before after) (faults_of before after) status reads in
+      let known = read_status (list_output wanted) (streams_of before after) (faults_of before after) status reads in
       run_of words (works.Gather wanted) a before after status known.within known.not_two (lists_lines wanted before after status reads, silent)
 
   -- a list that is held against a catalogue

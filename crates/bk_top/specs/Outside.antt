@@ -8,8 +8,8 @@ use Rattle.bk_ports.specs.declared.Ended.{Ended}
 use Rattle.bk_ports.specs.declared.Ended.TheVariants.{NoMemory, NoneRefused, ReadFailed, SomeRefused, TooMany}
 use Rattle.bk_ports.specs.declared.Ended.TheVariants.{WriteFailed}
 
--- what is seen of a source or a sink: the bytes that it has left or has taken, where it tells them, and its count of
--- faults
+-- what is seen of a source or a sink: the bytes that it has left or has taken, where it tells them, and how many of its
+-- calls have failed
 pub record Port : Type 0 where
   pub bytes : Option (List ℕ)
   pub faults : ℕ
@@ -23,6 +23,10 @@ pub record Outside : Type 0 where
   pub source : Port
   pub out : Port
   pub err : Port
+
+-- the three, by what is seen of each
+abbrev pub outside : Port → Port → Port → Outside
+outside source out err = record { source = source; out = out; err = err }
 
 -- what source and `out` tell of their bytes, before and after a run
 abbrev pub streams_of : Outside → Outside → Streams

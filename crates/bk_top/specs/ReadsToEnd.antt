@@ -9,7 +9,7 @@ use Rattle.bk_ports.specs.Faults.{CountsTell, Faults, HasNoFault, IsCalm}
 use Rattle.bk_ports.specs.Lines.{lines_of}
 use Rattle.bk_ports.specs.declared.Ended.{Ended}
 use Rattle.bk_answer.specs.declared.command.Command.{Command}
-use Rattle.bk_alike.specs.GroupsEnd.{listing_of}
+use Rattle.bk_alike.specs.GroupsEnd.{list_output}
 use Rattle.bk_alike.specs.Listed.{HasRefusedLine}
 use Rattle.bk_alike.specs.declared.Wanted.{Wanted}
 use Rattle.bk_verify_report.specs.Report.{HasFault}
@@ -35,7 +35,7 @@ pub record ReadsToEnd (output : Output) (streams : Streams) (faults : Faults) (s
       ↔ TookTooMany streams.left streams.left_after
 
 -- the run of a command that answers lines: for each line its answer, of which `check` begins one with `ok` exactly
--- where the squares of the line tile the stated rectangle in code order
+-- where some tiling has what the line states
 pub record AnswersLines (command : Command) (before after : Outside) (status : ℕ) : Type 0 where
   pub reads : ReadsToEnd (answers_of (replies_of command)) (streams_of before after) (faults_of before after) status
   -- where no call fails and at most 2^30 bytes come, the lines decide
@@ -45,7 +45,7 @@ pub record AnswersLines (command : Command) (before after : Outside) (status : �
 
 -- the runs of `alike` and of `pair`
 pub record ListsLines (wanted : Wanted) (before after : Outside) (status : ℕ) : Type 0 where
-  pub reads : ReadsToEnd (listing_of wanted) (streams_of before after) (faults_of before after) status
+  pub reads : ReadsToEnd (list_output wanted) (streams_of before after) (faults_of before after) status
   -- where no call fails, at most 2^30 bytes come and memory is there, the status is 1 exactly where some line is
   -- refused
   pub exactly_1 : (input : List ℕ) → before.source.bytes ≡ Some input → length input ≤ 2 ^ 30

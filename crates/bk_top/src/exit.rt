@@ -6,7 +6,7 @@ ghost use Rattle.std.specs.Prelude.{Err, IfErr, IfOk, IsOk, drop, ◌≡◌, ◌
 ghost use Rattle.std.specs.Process.{exit_status};
 ghost use Rattle.std.specs.Vec.Iter.{into_iter_items};
 ghost use Rattle.bk_top.specs.Ended.{ProcessEndsBy};
-ghost use Rattle.bk_top.specs.Outside.{port};
+ghost use Rattle.bk_top.specs.Outside.{outside, port};
 ghost use Rattle.bk_top.specs.Words.{AsksErrorsOnly, AsksNoLines};
 
 use crate::program::run;
@@ -58,16 +58,8 @@ pub fn run_to_exit<S: Source, O: Sink + StandardOutput, E: Sink + StandardError>
     err: &mut E,
 ) -> ExitCode
     ensures ended { ProcessEndsBy arguments.now
-        (record {
-          source = port S.left S.faults source.old;
-          out = port O.written O.faults out.old;
-          err = port E.written E.faults err.old;
-        })
-        (record {
-          source = port S.left S.faults source.new;
-          out = port O.written O.faults out.new;
-          err = port E.written E.faults err.new;
-        })
+        (outside (port S.left S.faults source.old) (port O.written O.faults out.old) (port E.written E.faults err.old))
+        (outside (port S.left S.faults source.new) (port O.written O.faults out.new) (port E.written E.faults err.new))
         (exit_status result) }
     ensures unread { IfOk arguments.now (λ words. AsksNoLines words.items) → source.new ≡ source.old }
     ensures unwritten { IfOk arguments.now (λ words. AsksErrorsOnly words.items) → out.new ≡ out.old }

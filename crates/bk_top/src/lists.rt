@@ -3,7 +3,7 @@
 ghost use Rattle.std.specs.Prelude.{◌≤◌};
 ghost use Rattle.bk_ports.specs.Ending.{streams_between};
 ghost use Rattle.bk_ports.specs.Faults.{faults_between};
-ghost use Rattle.bk_alike.specs.GroupsEnd.{listing_of};
+ghost use Rattle.bk_alike.specs.GroupsEnd.{list_output};
 ghost use Rattle.bk_verify_report.specs.VerifyRun.{report_of};
 ghost use Rattle.bk_top.specs.ReadsToEnd.{ReadsToEnd};
 
@@ -22,7 +22,7 @@ pub(crate) fn list_to_end<S: Source, O: Sink>(
     source: &mut S,
     out: &mut O,
 ) -> u8
-    ensures { ReadsToEnd (listing_of wanted)
+    ensures { ReadsToEnd (list_output wanted)
         (streams_between S.left O.written (source.old, out.old) (source.new, out.new))
         (faults_between S.faults O.faults (source.old, out.old) (source.new, out.new))
         result }

@@ -135,9 +135,9 @@ module _ (n : ℕ) (class : Class) (place word : Word) (tree : IsTreeWord n word
       cases e is after before (inr f) = none e is f before
 
 -- the end: no word of a member is left from the place on
-pub ended : (n : ℕ) (class : Class) (place cursor : Word) (met : ℕ) → ((e : Entry) → IsEntry n class e → (Follows place e.word → ⊥) → ⊥)
+pub none_left_is_end : (n : ℕ) (class : Class) (place cursor : Word) (met : ℕ) → ((e : Entry) → IsEntry n class e → (Follows place e.word → ⊥) → ⊥)
     → HasPassed n class cursor place met → IsEnd n class cursor met
-ended n class place cursor met none p = record {
+none_left_is_end n class place cursor met none p = record {
   passed = λ e is after. cases e is after (before_or e.word place);
   count = record { words = p.words; each = each_in p.words p.each; ascending = p.ascending; count = p.count };
 }

@@ -11,7 +11,7 @@ use Rattle.bk_word.proofs.StoredBytes.{order_append}
 use Rattle.bk_word.proofs.WordOrder.{follows_trans}
 use Rattle.bk_catalogue.specs.Catalogue.{Entry, IsEntry}
 use Rattle.bk_catalogue.specs.NextMove.{IsLeastFrom, fitted, open_sides}
-use Rattle.bk_tree_walk.proofs.Advancing.{ended, entry_word, moved_on}
+use Rattle.bk_tree_walk.proofs.Advancing.{none_left_is_end, entry_word, moved_on}
 use Rattle.bk_tree_walk.proofs.Passing.{IsOver, move_over}
 use Rattle.bk_tree_walk.proofs.SearchSteps.{at_or_after, fewer_end, up_by_move}
 use Rattle.bk_tree_walk.proofs.Standing.{step_climbs, step_ends, step_least}
@@ -135,4 +135,4 @@ settled_unmet s then End leads e = absurd (cc)
 pub ends_there : (n : ℕ) (class : Class) (place : Word) (met : ℕ) → ((e : Entry) → IsEntry n class e → (Follows place e.word → ⊥) → ⊥) → met ≤ 0
     → Ends n class place met
 ends_there n class place met none few cursor before p =
-    fewer_end n class cursor before (before + met) (omega arith) (ended n class place cursor before none p)
+    fewer_end n class cursor before (before + met) (omega arith) (none_left_is_end n class place cursor before none p)

@@ -11,7 +11,7 @@ use Rattle.bk_word.specs.Word.{Follows, Move, Word, move_cmp, order_of, word_cmp
 use Rattle.bk_word.specs.declared.Class.{Class}
 use Rattle.bk_word.proofs.StoredBytes.{order_append, order_more}
 use Rattle.bk_word.proofs.PlayLaws.{legal-snoc}
-use Rattle.bk_tree_walk.proofs.Advancing.{ended, entry_word, met_at, met_on, moved_on}
+use Rattle.bk_tree_walk.proofs.Advancing.{none_left_is_end, entry_word, met_at, met_on, moved_on}
 use Rattle.bk_catalogue.proofs.TreeOfWords.MoveOrder.{begun_before, moves_between}
 use Rattle.bk_tree_walk.proofs.Passing.{IsOver, climb_over, end_over, move_over, push_over}
 use Rattle.bk_catalogue.proofs.TreeOfWords.Places.{IsLast, before_one, front_cmp, one_legal}
@@ -100,7 +100,7 @@ cuts n class front x m next met least cut few =
 -- where no move is played and no legal one is left, it ends
 pub ends : (n : ℕ) (class : Class) (x : Move) (met : ℕ) → IsLast n [] x → met ≤ 0 → Ends n class (x ∷ []) met
 ends n class x met last few cursor before p =
-    fewer_end n class cursor before (before + met) (omega arith) (ended n class (x ∷ []) cursor before
+    fewer_end n class cursor before (before + met) (omega arith) (none_left_is_end n class (x ∷ []) cursor before
     (λ e is from. end_over n x e.word (entry_word n class e is) last from) p)
 
 -- a move is pushed
@@ -164,8 +164,8 @@ module _ (n : ℕ) (class : Class) (front : Word) (x m : Move) (met : ℕ) (lega
               same = one_legal (outline_of front) m o.other least.legal o.legal (moves_between m o.other o.from o.to).0 (moves_between m o.other o.from o.to).1
 
   -- it meets this word
-  pub meets : Meets n class (front ++ x ∷ []) (front ++ m ∷ []) met
-  meets cursor before p = fewer_at n class cursor (front ++ m ∷ []) (before + 1) (before + met) (omega arith)
+  pub meets_pushed : Meets n class (front ++ x ∷ []) (front ++ m ∷ []) met
+  meets_pushed cursor before p = fewer_at n class cursor (front ++ m ∷ []) (before + 1) (before + met) (omega arith)
       (met_at n class (front ++ x ∷ []) (front ++ m ∷ []) pushed_tree pushed_some pushed_from none cursor before p)
     where
       none : (e : Entry) → IsEntry n class e → (Follows (front ++ x ∷ []) e.word → ⊥) → Follows (front ++ m ∷ []) e.word → ⊥

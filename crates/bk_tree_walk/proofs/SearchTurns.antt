@@ -5,7 +5,7 @@ use Rattle.bk_word.specs.declared.Class.{Class}
 use Rattle.bk_catalogue.specs.Catalogue.{IsEntry}
 use Rattle.bk_tree_walk.proofs.MemberEntries.{same_entry}
 use Rattle.bk_catalogue.proofs.TreeOfWords.Ranks.{left_after}
-use Rattle.bk_tree_walk.proofs.SearchLoop.{Continues, continues_none, continues_on, counts_known, counts_none, counts_then, ends_then, meets_then, nearer}
+use Rattle.bk_tree_walk.proofs.SearchLoop.{Continues, continues_none, continues_on, counts_known, counts_none, counts_then, ends_then, meets_then, later_is_nearer}
 use Rattle.bk_tree_walk.specs.Search.{Finds, IsKeptSearch, IsSearchState, SearchState, StaysOf, StepLeadsTo, place_of}
 use Rattle.bk_tree_walk.specs.declared.Went.{Went}
 use Rattle.bk_tree_walk.specs.declared.Went.TheVariants.{End, Met, On}
@@ -51,7 +51,7 @@ module _ (s t u : SearchState) (a b c : ℕ) (kept_t : IsKeptSearch t)
 
   -- a turn that leads on comes to a place with fewer words left
   pub turn_nearer : StepLeadsTo t u (c - b) On → left_after (place_of u) < left_after (place_of t)
-  turn_nearer leads = nearer t.order t.front u.front t.next u.next kept_t.most kept_t.stand leads.1 (leads.0).up
+  turn_nearer leads = later_is_nearer t.order t.front u.front t.next u.next kept_t.most kept_t.stand leads.1 (leads.0).up
 
   -- a turn that comes to the end ends the whole search
   pub turn_ends : StepLeadsTo t u (c - b) End → Finds s u (c - a) false

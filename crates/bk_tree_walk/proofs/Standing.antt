@@ -15,7 +15,7 @@ use Rattle.bk_walk_cuts.proofs.CutLaws.{after_near, whole_front}
 use Rattle.bk_catalogue.proofs.TreeOfWords.Fitting.{HasShape, IsFit, fit}
 use Rattle.bk_catalogue.proofs.TreeOfWords.MoveOrder.{less_from}
 use Rattle.bk_catalogue.proofs.TreeOfWords.Places.{IsLast}
-use Rattle.bk_tree_walk.proofs.SearchSteps.{climbs, cuts, ends, goes_down, meets, pushed_tree, turns_back}
+use Rattle.bk_tree_walk.proofs.SearchSteps.{climbs, cuts, ends, goes_down, meets_pushed, pushed_tree, turns_back}
 use Rattle.bk_catalogue.specs.Catalogue.{Entry, IsEntry}
 use Rattle.bk_catalogue.proofs.Members.OneEntry.{entry_complete}
 use Rattle.bk_catalogue.specs.Cuts.{IsBarren}
@@ -214,4 +214,4 @@ module _ (n : ℕ) (class : Class) (front : Word) (m : Move) (few : n ≤ 16) (s
 
     -- to the word of the moves, which is met
     pub step_meets : Meets n class (front ++ m ∷ []) pushed met
-    step_meets = subst (λ (b : Word). Meets n class (front ++ m ∷ []) b met) (sym push) (meets n class front m m met s.legal least small one)
+    step_meets = subst (λ (b : Word). Meets n class (front ++ m ∷ []) b met) (sym push) (meets_pushed n class front m m met s.legal least small one)

@@ -13,20 +13,25 @@ ghost use Rattle.bk_tree_walk.specs.WholeWords.{IsUnfit};
 use bk_catalogue::qualifies;
 use bk_flow::NarrowFlow;
 use bk_play::Skel;
-use bk_skel::{Board, Realised, flow_of, realise_by_in};
+use bk_skel::{LayingRoom, Realised, flow_of, realise_by_in};
 use bk_tiling::Tiling;
 use bk_word::Class;
 
 // Whether a member of the class has a complete word of at most 16 squares. Where one has, `tiling` becomes that member.
-// The board is room for the squares that are laid.
-pub(crate) fn find_member(skel: &Skel, class: Class, board: &mut Board, tiling: &mut Tiling) -> bool
+// In `laying` is room for the squares that are laid.
+pub(crate) fn find_member(
+    skel: &Skel,
+    class: Class,
+    laying: &mut LayingRoom,
+    tiling: &mut Tiling,
+) -> bool
     requires whole { IsComplete skel.now }
     requires few { order_of skel.now ≤ 16 }
     ensures yes { IsTrue result → IsEntry (order_of skel.now) class (record { tiling = tiling.new; word = skel.now }) }
     ensures no { result ≡ false → HasNoMember class skel.now }
 {
     match fit_flow(skel, class) {
-        Some(flow) => find_by_flow(skel, &flow, class, board, tiling),
+        Some(flow) => find_by_flow(skel, &flow, class, laying, tiling),
         None => false,
     }
 }
@@ -53,7 +58,7 @@ fn find_by_flow(
     skel: &Skel,
     flow: &NarrowFlow,
     class: Class,
-    board: &mut Board,
+    laying: &mut LayingRoom,
     tiling: &mut Tiling,
 ) -> bool
     requires whole { IsComplete skel.now }
@@ -62,7 +67,7 @@ fn find_by_flow(
     ensures yes { IsTrue result → IsEntry (order_of skel.now) class (record { tiling = tiling.new; word = skel.now }) }
     ensures no { result ≡ false → HasNoMember class skel.now }
 {
-    match realise_by_in(skel, flow, board, tiling) {
+    match realise_by_in(skel, flow, laying, tiling) {
         Realised::Found => qualifies(tiling, class),
         Realised::Nothing => false,
     }

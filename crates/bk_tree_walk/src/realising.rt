@@ -18,7 +18,7 @@ impl TreeWalk {
         ensures same { self.new ≡ self.old }
     {
         let skel = self.lined.skel();
-        match realise_by_in(skel, &flow_of(skel), &mut self.board, tiling) {
+        match realise_by_in(skel, &flow_of(skel), &mut self.laying, tiling) {
             Realised::Found => {}
             Realised::Nothing => unreachable!(),
         }

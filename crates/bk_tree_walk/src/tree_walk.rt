@@ -16,7 +16,7 @@ ghost use Rattle.bk_tree_walk.specs.Search.{StepLeadsTo};
 use crate::Went;
 use crate::judging::find_member;
 use bk_play::{Skel, Steps, open_side};
-use bk_skel::Board;
+use bk_skel::LayingRoom;
 use bk_tiling::Tiling;
 use bk_walk_cuts::{
     LinedSkel, begin_anew, first_move, is_barren, least_legal_from, next_move, skip,
@@ -34,7 +34,7 @@ pub struct TreeWalk {
     class: Class,
     pub(crate) lined: LinedSkel,
     pub(crate) next: Move,
-    pub(crate) board: Board,
+    pub(crate) laying: LayingRoom,
     pushes: u64,
 }
 
@@ -67,7 +67,7 @@ impl TreeWalk {
             class,
             lined: LinedSkel::new(order),
             next: first_move(),
-            board: Board::new(),
+            laying: LayingRoom::new(),
             pushes: 0,
         }
     }
@@ -146,7 +146,13 @@ impl TreeWalk {
             return Went::On;
         }
         begin_anew(&mut self.next);
-        if is_members(&self.lined, self.class, self.order, &mut self.board, tiling) {
+        if is_members(
+            &self.lined,
+            self.class,
+            self.order,
+            &mut self.laying,
+            tiling,
+        ) {
             Went::Met
         } else {
             Went::On
@@ -226,20 +232,20 @@ fn climb(lined: &mut LinedSkel, next: &mut Move) -> bool
     true
 }
 
-// Whether the moves are the word of a member of the order. Where they are, `tiling` becomes that member. The board is
-// room for the squares that are laid.
+// Whether the moves are the word of a member of the order. Where they are, `tiling` becomes that member. In
+// `laying` is room for the squares that are laid.
 fn is_members(
     lined: &LinedSkel,
     class: Class,
     order: u8,
-    board: &mut Board,
+    laying: &mut LayingRoom,
     tiling: &mut Tiling,
 ) -> bool
     requires order { order ≤ 16 }
     ensures yes { IsTrue result → IsEntry order class (record { tiling = tiling.new; word = lined.now }) }
     ensures none { result ≡ false → IsComplete lined.now → order_of lined.now ≡ order → HasNoMember class lined.now }
 {
-    is_complete_of(lined, order) && find_member(lined.skel(), class, board, tiling)
+    is_complete_of(lined, order) && find_member(lined.skel(), class, laying, tiling)
 }
 
 // Whether the moves are a complete word of the order.

@@ -11,10 +11,10 @@ use Rattle.bk_word.specs.Word.{Follows, Word}
 use Rattle.bk_word.specs.declared.Class.TheVariants.{Perfect}
 use Rattle.bk_catalogue.specs.Catalogue.{Entry, IsEntry}
 use Rattle.bk_report.specs.ListLines.{faults, verified_line}
-use Rattle.bk_report.specs.declared.listing.Last.TheVariants.{End}
-use Rattle.bk_report.specs.declared.lists.ReportCounts.{ReportCounts}
+use Rattle.bk_report.specs.declared.listing_lines.Last.TheVariants.{End}
+use Rattle.bk_report.specs.declared.list_reports.ReportCounts.{ReportCounts}
 use Rattle.bk_verify_report.proofs.Firsts.{missing_ones_are_not_kept}
-use Rattle.bk_verify_report.proofs.MembersUpTo.{after_or_up, before}
+use Rattle.bk_verify_report.proofs.MembersUpTo.{after_or_up, up_to_is_before}
 use Rattle.bk_verify_report.specs.KeptEntries.{AreKeptAfter, AreUpTo, CountsMembers, IsNotKept, Kept}
 use Rattle.bk_verify_report.specs.Verify.{Accepted, AreNotOf}
 use Rattle.bk_verify_report.specs.VerifyLaws.{KeepsFirsts}
@@ -36,7 +36,7 @@ module _ (n : ℕ) (pairs : List Kept) (entries : List Accepted) (keeps : KeepsF
   later : (e : Entry) → Follows e.word cursor → (some : List Entry) → AllByRecursion (λ f. (Follows f.word cursor → ⊥)) some
       → AllByRecursion (λ f. Follows e.word f.word) some
   later e after [] up = tt
-  later e after (f ∷ some) up = (before cursor f.word e.word up.0 after, later e after some up.1)
+  later e after (f ∷ some) up = (up_to_is_before cursor f.word e.word up.0 after, later e after some up.1)
 
   -- the missing members up to the cursor come before all others
   pub first_missing : AreFirstMissing n entries missing

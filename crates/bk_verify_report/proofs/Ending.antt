@@ -20,9 +20,9 @@ use Rattle.bk_verify_report.specs.ListReading.{IsListRead, rules}
 use Rattle.bk_word.specs.Word.{Word}
 use Rattle.bk_catalogue.specs.Catalogue.{Entry}
 use Rattle.bk_report.specs.ListLines.{verified_line}
-use Rattle.bk_report.specs.declared.listing.Last.TheVariants.{End}
+use Rattle.bk_report.specs.declared.listing_lines.Last.TheVariants.{End}
 use Rattle.bk_verify_report.specs.KeptEntries.{AreUpTo, IsNotKept}
-use Rattle.bk_report.specs.declared.lists.ReportCounts.{ReportCounts}
+use Rattle.bk_report.specs.declared.list_reports.ReportCounts.{ReportCounts}
 use Rattle.bk_verify_report.specs.Report.{BeginsReport, IsReport, missing_line_of}
 use Rattle.bk_verify_report.specs.VerifyRun.{TellsFront, TellsReport, report_of}
 use Rattle.bk_verify_report.specs.declared.entering.Verifying.{Verifying}

@@ -7,8 +7,8 @@ use Rattle.bk_word.specs.Word.{Word}
 use Rattle.bk_word.specs.declared.Class.TheVariants.{Perfect}
 use Rattle.bk_catalogue.specs.Following.{HasNoneAfter}
 use Rattle.bk_report.specs.ListLines.{faults, verified_line}
-use Rattle.bk_report.specs.declared.lists.ReportCounts.{ReportCounts}
-use Rattle.bk_report.specs.declared.listing.Last.TheVariants.{End, Limit, Wide}
+use Rattle.bk_report.specs.declared.list_reports.ReportCounts.{ReportCounts}
+use Rattle.bk_report.specs.declared.listing_lines.Last.TheVariants.{End, Limit, Wide}
 use Rattle.bk_verify_report.proofs.CountedMembers.{count_all}
 use Rattle.bk_verify_report.specs.KeptEntries.{AreKeptAfter, CountsMembers, IsUpTo, Kept}
 use Rattle.bk_verify_report.specs.Rest.{RestState}

@@ -12,7 +12,7 @@ use Rattle.bk_word.specs.Word.{Follows, Word, word_cmp}
 use Rattle.bk_word.specs.declared.Class.TheVariants.{Perfect}
 use Rattle.bk_lay.proofs.WordPlay.{tiling_word_is_complete}
 use Rattle.bk_catalogue.proofs.TreeOfWords.Places.{word_same}
-use Rattle.bk_word.proofs.FollowLaws.{after_none, not_itself, turned}
+use Rattle.bk_word.proofs.FollowLaws.{after_none, not_itself, greater_follows}
 use Rattle.bk_catalogue.specs.Catalogue.{AreAscending, Entry, IsEntry}
 use Rattle.bk_catalogue.proofs.Members.OneEntry.{one_entry}
 use Rattle.bk_verify_report.specs.KeptEntries.{AreUpTo, IsUpTo}
@@ -23,11 +23,11 @@ compared v w = cases (word_cmp v w) refl
     cases : (r : Ordering) → word_cmp v w ≡ r → Follows w v ⊎ ((v ≡ w) ⊎ Follows v w)
     cases Less e = inl e
     cases Equal e = inr (inl (word_same v w e))
-    cases Greater e = inr (inr (turned v w e))
+    cases Greater e = inr (inr (greater_follows v w e))
 
 -- a word that is none of those after the cursor is before each word that is
-pub before : (cursor v w : Word) → IsUpTo cursor v → Follows w cursor → Follows w v
-before cursor v w up after = cases (compared v w)
+pub up_to_is_before : (cursor v w : Word) → IsUpTo cursor v → Follows w cursor → Follows w v
+up_to_is_before cursor v w up after = cases (compared v w)
   where
     cases : Follows w v ⊎ ((v ≡ w) ⊎ Follows v w) → Follows w v
     cases (inl f) = f
@@ -76,7 +76,7 @@ module _ (n : ℕ) (Is : Tiling → Type 0) (cursor : Word) (e : Entry) (next : 
   ascending_more [] up all = (tt, tt)
   ascending_more (f ∷ entries) up all = (
     all_append (λ g. Follows g.word f.word) entries (e ∷ []) up.0
-        (before cursor f.word e.word all.0 next.after, tt),
+        (up_to_is_before cursor f.word e.word all.0 next.after, tt),
     ascending_more entries up.1 all.1,
   )
 

@@ -9,8 +9,8 @@ use Rattle.bk_word.specs.declared.Class.TheVariants.{Perfect}
 use Rattle.bk_catalogue.specs.Catalogue.{Entry, IsEntry}
 use Rattle.bk_ports.specs.Lines.{kept_front}
 use Rattle.bk_report.specs.ListLines.{faults, verified_line}
-use Rattle.bk_report.specs.declared.listing.Last.TheVariants.{End}
-use Rattle.bk_report.specs.declared.lists.ReportCounts.{ReportCounts}
+use Rattle.bk_report.specs.declared.listing_lines.Last.TheVariants.{End}
+use Rattle.bk_report.specs.declared.list_reports.ReportCounts.{ReportCounts}
 use Rattle.bk_report.specs.declared.refusal.Refused.{Refused}
 use Rattle.bk_answer.proofs.OneAnswer.{cause_of, is_tiling, not_refused, one_line_cause, same_tiling, skip_not_refused, skip_not_stated}
 use Rattle.bk_answer.specs.Item.{HasItem}

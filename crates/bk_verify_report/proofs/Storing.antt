@@ -17,19 +17,13 @@ use Rattle.indexmap.specs.IndexMap.{IndexMap, IsUnchanged, insert_entry}
 use Rattle.bk_tiling.specs.Tiling.{IsTiling, Tiling, sides_of}
 use Rattle.bk_code.proofs.FlatList.{a_flat_list_fixes_a_tiling, flat_is_sides}
 use Rattle.bk_verify_report.specs.KeptEntries.{IsKeptFrom, IsNotKept, Kept}
-use Rattle.bk_verify_report.specs.StoredMember.{IsStoredMember, kept_member}
+use Rattle.bk_verify_report.specs.StoredMember.{IsKeyOf, IsSeenOf, IsStoredMember, kept_member}
 use Rattle.bk_verify_report.specs.declared.kept.Flat.{Flat}
 use Rattle.bk_verify_report.specs.declared.kept.Seen.{Seen}
 
 -- two tilings of one width and one flat list are one
 same_tiling : (t u : Tiling) → IsTiling t → IsTiling u → t.width ≡ u.width → sides_of t ≡ sides_of u → t ≡ u
 same_tiling t u is that width sides = a_flat_list_fixes_a_tiling t u is that width (flat_is_sides t ∙ sides ∙ sym (flat_is_sides u))
-
--- the key is the width and the flat list of the tiling
-pub record IsKeyOf (key : Flat) (t : Tiling) : Type 0 where
-  pub tiling : IsTiling t
-  pub width : key.width ≡ t.width
-  pub sides : key.sides.items ≡ sides_of t
 
 -- what is compared of two keys tells them apart
 pub record TellsApart (same : Flat → Flat → Bool) : Type 0 where
@@ -60,9 +54,9 @@ module _ (same : Flat → Flat → Bool) (laws : TellsApart same) (key : Flat) (
   stored_is seen stored = same_tiling (kept_member (key, seen)).tiling t stored.tiling is.tiling is.width (sym stored.sides ∙ is.sides)
 
   -- a tiling found under its key is kept from the line that is stored there
-  pub found : (es : List (Flat × Seen)) (seen : Seen) → AllByRecursion IsStoredMember es → lookup (same key) es ≡ Some seen
+  pub found_is_kept : (es : List (Flat × Seen)) (seen : Seen) → AllByRecursion IsStoredMember es → lookup (same key) es ≡ Some seen
       → IsKeptFrom (map kept_member es) t seen.line
-  found es seen all e =
+  found_is_kept es seen all e =
       let there : Contains es (key, seen) = Contains-from_lookup {eq = same} laws.one key seen es e in
       subst (λ (u : Tiling). IsKeptFrom (map kept_member es) u seen.line) (stored_is seen (all-contains IsStoredMember es (key, seen) all there))
       (contains-map kept_member es (key, seen) there)
@@ -97,12 +91,6 @@ module _ (same : Flat → Flat → Bool) (laws : TellsApart same) (key : Flat) (
   -- a tiling that is not kept is not found under its key
   pub absent : (es : List (Flat × Seen)) → AllByRecursion IsStoredMember es → IsNotKept (map kept_member es) t → lookup (same key) es ≡ None
   absent es all new = lookup-none (same key) es (none_passes es all new)
-
--- what is stored for a tiling
-pub record IsSeenOf (line : ℕ) (seen : Seen) (t : Tiling) : Type 0 where
-  pub on : seen.line ≡ line
-  pub height : seen.height ≡ t.height
-  pub squares : seen.squares.items ≡ t.squares
 
 module _ (key : Flat) (line : ℕ) (seen : Seen) (t : Tiling) (is : IsKeyOf key t) (of : IsSeenOf line seen t) where
   -- a key and what is seen of a tiling are what is kept of it

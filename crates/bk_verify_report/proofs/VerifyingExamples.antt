@@ -5,8 +5,8 @@ use Rattle.std.specs.Prelude.{IsTrue, List, Some, [], false, codes, count_by, fl
 use Rattle.bk_tiling.proofs.ExampleTilings.{rectangle_33x32}
 use Rattle.bk_word.proofs.WordExamples.{word_33x32}
 use Rattle.bk_report.specs.ListLines.{faults, verified_line}
-use Rattle.bk_report.specs.declared.listing.Last.TheVariants.{End}
-use Rattle.bk_report.specs.declared.lists.ReportCounts.{ReportCounts}
+use Rattle.bk_report.specs.declared.listing_lines.Last.TheVariants.{End}
+use Rattle.bk_report.specs.declared.list_reports.ReportCounts.{ReportCounts}
 use Rattle.bk_verify_report.specs.declared.entries.Fed.TheVariants.{Foreign, New, Repeats}
 use Rattle.bk_catalogue.proofs.Members.CatalogueExamples.{no_perfect}
 use Rattle.bk_verify_report.proofs.OneReport.{a_list_has_one_report}

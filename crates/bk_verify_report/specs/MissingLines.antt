@@ -8,8 +8,8 @@ use Rattle.bk_tiling.specs.Tiling.{Tiling}
 use Rattle.bk_word.specs.Word.{Word}
 use Rattle.bk_catalogue.specs.Catalogue.{Entry}
 use Rattle.bk_report.specs.ListLines.{faults, missing_line, verified_line}
-use Rattle.bk_report.specs.declared.listing.Last.TheVariants.{End}
-use Rattle.bk_report.specs.declared.lists.ReportCounts.{ReportCounts}
+use Rattle.bk_report.specs.declared.listing_lines.Last.TheVariants.{End}
+use Rattle.bk_report.specs.declared.list_reports.ReportCounts.{ReportCounts}
 use Rattle.bk_verify_report.specs.KeptEntries.{AreKeptAfter, AreUpTo, CountsMembers, EntriesState, Kept}
 use Rattle.bk_verify_report.specs.KeptEntries.{IsNextMissing, IsNotKept}
 use Rattle.bk_verify_report.specs.Report.{missing_line_of}

@@ -7,8 +7,8 @@ use Rattle.bk_word.specs.Word.{Follows}
 use Rattle.bk_word.specs.declared.Class.TheVariants.{Perfect}
 use Rattle.bk_catalogue.specs.Catalogue.{AreAscending, Entry, IsEntry}
 use Rattle.bk_report.specs.ListLines.{faults, missing_line, verified_line}
-use Rattle.bk_report.specs.declared.listing.Last.TheVariants.{End}
-use Rattle.bk_report.specs.declared.lists.ReportCounts.{ReportCounts}
+use Rattle.bk_report.specs.declared.listing_lines.Last.TheVariants.{End}
+use Rattle.bk_report.specs.declared.list_reports.ReportCounts.{ReportCounts}
 use Rattle.bk_verify_report.specs.KeptEntries.{CountsMembers}
 use Rattle.bk_verify_report.specs.Verify.{Accepted, AreNotOf}
 use Rattle.bk_verify_report.specs.Told.{IsToldOf, Told, is_foreign, is_line_refused, is_repeat, texts_from}

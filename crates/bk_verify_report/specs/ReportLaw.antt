@@ -1,7 +1,7 @@
 -- What a run of `verify` writes rests on the lines alone. A statement alone; it is proved apart.
 -- Example (VerifyingExamples): of a list without lines nothing else is told than nothing.
 use Rattle.std.specs.Prelude.{List, ℕ, ◌≡◌}
-use Rattle.bk_report.specs.declared.lists.ReportCounts.{ReportCounts}
+use Rattle.bk_report.specs.declared.list_reports.ReportCounts.{ReportCounts}
 use Rattle.bk_verify_report.specs.Report.{IsReport}
 use Rattle.bk_verify_report.specs.Told.{IsToldOf, Told}
 

@@ -7,7 +7,7 @@ use Rattle.bk_ports.specs.Causes.{AppendsPrefix}
 use Rattle.bk_ports.specs.Ending.{Output}
 use Rattle.bk_ports.specs.Lines.{kept_front}
 use Rattle.bk_report.specs.ListLines.{faults}
-use Rattle.bk_report.specs.declared.lists.ReportCounts.{ReportCounts}
+use Rattle.bk_report.specs.declared.list_reports.ReportCounts.{ReportCounts}
 use Rattle.bk_verify_report.specs.Verify.{IsNew}
 use Rattle.bk_verify_report.specs.Report.{BeginsReport, IsReport}
 use Rattle.bk_verify_report.specs.Told.{HasEntry, IsToldOf, Told, texts_from}

@@ -9,8 +9,8 @@ ghost use Rattle.bk_verify_report.specs.KeptEntries.{AreKeptAfter};
 ghost use Rattle.bk_verify_report.specs.MissingLines.{AreMissingListed, ClosesReport, IsClosingBegun, IsListingBegun};
 
 use crate::entering::Verifying;
+use crate::missing_line::write_missing_entry;
 use crate::rest::Rest;
-use crate::writing::write_missing_entry;
 use bk_grammar::AnswerBuffer;
 use bk_members::Members;
 use bk_play::Steps;

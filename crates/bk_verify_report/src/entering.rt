@@ -66,7 +66,7 @@ impl VerifyRegister {
 }
 
 impl Register for VerifyRegister {
-    ghost use Rattle.bk_verify_report.specs.EmptyLine.{empty_line, still_ready};
+    ghost use Rattle.bk_verify_report.specs.EmptyListLine.{empty_line, still_ready};
 
     ghost enters = { λ s number line pieces refused next.
         EntersLine s number line (record { pieces = pieces; refused = refused }) next };

@@ -1,8 +1,8 @@
 //! The members that were seen, each with the line on which it was first.
 
 ghost use Rattle.std.specs.Prelude.{List, MatchOption, MatchResult, OnErr, OnOk, [], length, ◌++◌, ◌∷◌, ◌≡◌, ◌≤◌};
-ghost use Rattle.bk_tiling.specs.Tiling.{IsTiling, sides_of};
 ghost use Rattle.bk_verify_report.specs.KeptEntries.{IsKeptFrom, IsNotKept};
+ghost use Rattle.bk_verify_report.specs.StoredMember.{IsKeyOf, IsSeenOf};
 
 use crate::entries::NoMemory;
 use arrayvec::ArrayVec;
@@ -86,9 +86,7 @@ impl KeptMembers {
 // The width and the flat list of a tiling.
 fn flat_of(tiling: &Tiling) -> Flat
     requires { length tiling.now.squares ≤ 16 }
-    ensures width { result.width ≡ tiling.now.width }
-    ensures sides { result.sides.items ≡ sides_of tiling.now }
-    ensures tiling { IsTiling tiling.now }
+    ensures { IsKeyOf result tiling.now }
 {
     let mut sides = ArrayVec::new();
     for q in tiling.squares() {
@@ -103,9 +101,7 @@ fn flat_of(tiling: &Tiling) -> Flat
 // The line, and what there is of a tiling besides its width and flat list.
 fn seen_on(line: u64, tiling: &Tiling) -> Seen
     requires { length tiling.now.squares ≤ 16 }
-    ensures line { result.line ≡ line }
-    ensures height { result.height ≡ tiling.now.height }
-    ensures squares { result.squares.items ≡ tiling.now.squares }
+    ensures { IsSeenOf line result tiling.now }
 {
     let mut squares = ArrayVec::new();
     for q in tiling.squares() {

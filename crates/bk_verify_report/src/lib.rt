@@ -7,10 +7,10 @@ mod entering;
 mod entries;
 mod kept;
 mod laws;
+mod missing_line;
 mod reading;
 mod rest;
 mod run;
-mod writing;
 
 pub use entries::{Entries, Fed, NoMemory};
 pub use laws::{

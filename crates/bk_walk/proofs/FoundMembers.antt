@@ -22,9 +22,9 @@ use Rattle.bk_layout.specs.NormalImage.{IsMetByNormalWord}
 use Rattle.bk_found.specs.Found.{IsFound, IsPlacementOf}
 use Rattle.bk_found.specs.declared.placing.Placed.{Placed}
 use Rattle.bk_lay.specs.TilingWord.{IsWordOf}
-use Rattle.bk_found.proofs.AscendingNumbers.{AreSame, all_map, all_same}
-use Rattle.bk_found.specs.KeptNumbers.{HasMoreDifferent, Holds, Numbers}
-use Rattle.bk_found.specs.Packed.{packed}
+use Rattle.bk_packed.proofs.AscendingNumbers.{AreSame, all_map, all_same}
+use Rattle.bk_packed.specs.KeptNumbers.{HasMoreDifferent, Holds, Numbers}
+use Rattle.bk_packed.specs.Packed.{packed}
 use Rattle.bk_walk.specs.Finding.{Finding, HasMet, HasMoreMembers, HasOnlyMembers, IsHeld, IsMembersNumber, Wanted, wanted}
 
 -- the placement that a leaf found

@@ -6,8 +6,8 @@ use Rattle.bk_word.specs.Play.{IsLegal, outline_of}
 use Rattle.bk_word.specs.Word.{Move, Word, order_of}
 use Rattle.bk_word.proofs.PlayLaws.{legal_rest}
 use Rattle.bk_word.proofs.StoredBytes.{order_append, order_more, order_one}
-use Rattle.bk_found.specs.Packed.{packed}
-use Rattle.bk_found.specs.ReadMoves.{GoesOnByNumber}
+use Rattle.bk_packed.specs.Packed.{packed}
+use Rattle.bk_packed.specs.ReadMoves.{GoesOnByNumber}
 use Rattle.bk_walk.specs.Leaping.{GoesToWord, IsAtNumber}
 use Rattle.bk_tree_walk.specs.Search.{IsKeptSearch, SearchState, StaysOf}
 use Rattle.bk_tree_walk.proofs.StateLaws.{played_from, stays_one}

@@ -14,7 +14,7 @@ use Rattle.bk_word.proofs.PlayLaws.{legal_front, legal_rest}
 use Rattle.bk_word.proofs.StoredBytes.{order_append, order_more}
 use Rattle.bk_word.proofs.WordOrder.{follows_trans, move_same}
 use Rattle.bk_catalogue.specs.Catalogue.{Entry, IsEntry}
-use Rattle.bk_found.specs.ReadMoves.{IsSharedFront}
+use Rattle.bk_packed.specs.ReadMoves.{IsSharedFront}
 use Rattle.bk_catalogue.proofs.TreeOfWords.Places.{before_first, before_one, front_cmp, not_before_first}
 use Rattle.bk_catalogue.specs.NextMove.{first_move}
 use Rattle.bk_tree_walk.proofs.Advancing.{before_not_before, before_or, met_at, met_on}

@@ -4,8 +4,8 @@ use Rattle.std.proofs.lemmas.List.{length-append, length-take-le}
 use Rattle.bk_word.specs.Play.{IsLegal}
 use Rattle.bk_word.specs.Word.{Word, order_of}
 use Rattle.bk_catalogue.proofs.Members.OneEntry.{entry_complete}
-use Rattle.bk_found.specs.Packed.{packed}
-use Rattle.bk_found.specs.ReadMoves.{IsSharedFront}
+use Rattle.bk_packed.specs.Packed.{packed}
+use Rattle.bk_packed.specs.ReadMoves.{IsSharedFront}
 use Rattle.bk_tree_walk.proofs.Advancing.{entry_word}
 use Rattle.bk_walk.proofs.LeapLaws.{leap_meets}
 use Rattle.bk_walk.proofs.PlaceLaws.{same_word}

@@ -2,8 +2,8 @@
 use Rattle.std.proofs.Common.{List, None, Some, [], ap, arith, inl, inr, lit<, refl, suc, zero, ℕ, ◌∙◌, ◌∷◌, ◌≡◌}
 use Rattle.bk_word.specs.declared.Class.TheVariants.{Imperfect}
 use Rattle.bk_catalogue.proofs.Members.CatalogueExamples.{entry_is, row_entry, row_word, row_word_of}
-use Rattle.bk_found.specs.KeptNumbers.{Holds}
-use Rattle.bk_found.specs.Packed.{packed}
+use Rattle.bk_packed.specs.KeptNumbers.{Holds}
+use Rattle.bk_packed.specs.Packed.{packed}
 use Rattle.bk_walk.specs.Finding.{Finding, HasOnlyMembers, IsMembersNumber}
 use Rattle.bk_walk.specs.Members.{HasNoneFrom, IsNextNumber, IsWhole}
 use Rattle.bk_walk.proofs.WholeTables.{next_number, none_from}

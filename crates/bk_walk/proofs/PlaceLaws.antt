@@ -10,14 +10,14 @@ use Rattle.bk_word.proofs.PlayLaws.{legal-snoc}
 use Rattle.bk_word.proofs.StoredBytes.{order_one}
 use Rattle.bk_catalogue.specs.Catalogue.{Entry, IsEntry}
 use Rattle.bk_catalogue.proofs.Members.OneEntry.{entry_complete}
-use Rattle.bk_found.specs.Packed.{packed}
-use Rattle.bk_found.proofs.PackedOrder.{packed_places_compare, packed_words_compare}
+use Rattle.bk_packed.specs.Packed.{packed}
+use Rattle.bk_packed.proofs.PackedOrder.{packed_places_compare, packed_words_compare}
 use Rattle.bk_catalogue.proofs.TreeOfWords.Places.{word_same}
 use Rattle.bk_tree_walk.proofs.Advancing.{entry_word}
 use Rattle.bk_walk.specs.Leaping.{Tells, TellsOfPlace}
 use Rattle.bk_tree_walk.specs.Search.{IsKeptSearch, IsReady, SearchState, place_of}
-use Rattle.bk_walk.specs.declared.tabled.TableAnswer.{TableAnswer}
-use Rattle.bk_walk.specs.declared.tabled.TableAnswer.TheVariants.{Next, NoMore, Nothing}
+use Rattle.bk_walk.specs.declared.table_answer.TableAnswer.{TableAnswer}
+use Rattle.bk_walk.specs.declared.table_answer.TableAnswer.TheVariants.{Next, NoMore, Nothing}
 
 -- the place is a word of the tree
 module _ (n : ℕ) (class : Class) (place : Word) (legal : IsLegal place) (small : order_of place ≤ n) (most : n ≤ 16) where

@@ -2,7 +2,7 @@
 use Rattle.std.proofs.Common.{None, subst, sym, ℕ, ◌≡◌, ◌≤◌}
 use Rattle.bk_word.specs.declared.Class.{Class}
 use Rattle.bk_catalogue.specs.Catalogue.{Entry, IsEntry}
-use Rattle.bk_found.specs.Packed.{packed}
+use Rattle.bk_packed.specs.Packed.{packed}
 use Rattle.bk_walk.specs.Finding.{Finding}
 use Rattle.bk_walk.specs.Members.{HasNoneFrom, IsNextNumber}
 use Rattle.bk_walk.specs.Leaping.{IsLeastNumber}

@@ -12,8 +12,8 @@ use Rattle.bk_catalogue.specs.Catalogue.{Entry, IsEntry}
 use Rattle.bk_catalogue.proofs.Members.OneEntry.{entry_complete}
 use Rattle.bk_layout.proofs.NormalImages.ImagesToMeet.{each_member_is_met}
 use Rattle.bk_layout.specs.NormalImage.{IsNormalSought}
-use Rattle.bk_found.specs.KeptNumbers.{AreAscendingNumbers, Holds, IsFirstFrom}
-use Rattle.bk_found.specs.Packed.{packed}
+use Rattle.bk_packed.specs.KeptNumbers.{AreAscendingNumbers, Holds, IsFirstFrom}
+use Rattle.bk_packed.specs.Packed.{packed}
 use Rattle.bk_walk.specs.Finding.{Finding, HasMet, IsMembersNumber, Wanted, wanted}
 use Rattle.bk_walk.specs.Members.{HasNoneFrom, IsMemberTable, IsNextNumber, IsWhole}
 

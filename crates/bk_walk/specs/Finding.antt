@@ -9,8 +9,8 @@ use Rattle.bk_lay.specs.TilingWord.{IsWordOf}
 use Rattle.bk_layout.specs.NormalImage.{IsMetByNormalWord}
 use Rattle.bk_sym.specs.Image.{image}
 use Rattle.bk_sym.specs.declared.Turn.{Turn}
-use Rattle.bk_found.specs.KeptNumbers.{AreAscendingNumbers, Holds, Numbers}
-use Rattle.bk_found.specs.Packed.{packed}
+use Rattle.bk_packed.specs.KeptNumbers.{AreAscendingNumbers, Holds, Numbers}
+use Rattle.bk_packed.specs.Packed.{packed}
 
 -- the order and the class that are looked for, the number from which words are kept, and what is kept
 pub record Finding : Type 0 where
@@ -52,6 +52,12 @@ pub record Wanted : Type 0 where
 
 abbrev pub wanted : Finding → Wanted
 wanted s = record { order = s.order; class = s.class; from = s.from }
+
+-- a later state: it looks for the same, what was put is there, and what was kept still is
+pub record Puts (s after : Finding) (What : Type 0) : Type 0 where
+  pub fixed : wanted after ≡ wanted s
+  pub put : What
+  pub kept : (x : ℕ) → Holds s.numbers x → Holds after.numbers x
 
 -- the number of the entry's word is held, or the word comes before those that are kept
 abbrev pub HoldsEntry : Finding → Entry → Type 0

@@ -1,12 +1,16 @@
 -- How a search goes on where a table of members stands: to the word of the least number that isn't before its place.
-use Rattle.std.specs.Prelude.{ℕ, ⊤, ◌++◌, ◌≡◌, ◌≤◌}
+use Rattle.std.specs.Prelude.{ℕ, ⊤, ◌++◌, ◌-◌, ◌≡◌, ◌≤◌}
+use Rattle.bk_tiling.specs.Tiling.{Tiling}
 use Rattle.bk_word.specs.Play.{IsLegal}
 use Rattle.bk_word.specs.Word.{Follows, Word, order_of}
 use Rattle.bk_word.specs.declared.Class.{Class}
 use Rattle.bk_catalogue.specs.Catalogue.{Entry, IsEntry}
-use Rattle.bk_found.specs.Packed.{packed}
-use Rattle.bk_walk.specs.declared.tabled.TableAnswer.{TableAnswer}
-use Rattle.bk_walk.specs.declared.tabled.TableAnswer.TheVariants.{Next, NoMore, Nothing}
+use Rattle.bk_packed.specs.Packed.{packed}
+use Rattle.bk_tree_walk.specs.Search.{SearchState, StaysOf, StepLeadsTo}
+use Rattle.bk_tree_walk.specs.declared.Went.{Went}
+use Rattle.bk_tree_walk.specs.declared.Went.TheVariants.{Met}
+use Rattle.bk_walk.specs.declared.table_answer.TableAnswer.{TableAnswer}
+use Rattle.bk_walk.specs.declared.table_answer.TableAnswer.TheVariants.{Next, NoMore, Nothing}
 
 -- the least number of a member's word that isn't below a number
 pub record IsLeastNumber (n : ℕ) (class : Class) (bound number : ℕ) : Type 0 where
@@ -51,3 +55,9 @@ pub record IsAtNumber (n : ℕ) (front : Word) (number : ℕ) : Type 0 where
   pub legal : IsLegal front
   pub order : order_of front ≡ n
   pub number_is : packed front ≡ number
+
+-- a step of a search: where it leads, that the tiling is then the member's if it met one, and what it leaves as it is
+pub record IsStep (tree after : SearchState) (before now : ℕ) (tiling : Tiling) (went : Went) : Type 0 where
+  pub leads : StepLeadsTo tree after (now - before) went
+  pub member : went ≡ Met → IsEntry tree.order tree.class (record { tiling = tiling; word = after.front })
+  pub stays : StaysOf tree after before now

@@ -5,8 +5,8 @@
 use Rattle.std.specs.List.{AllByRecursion}
 use Rattle.std.specs.Prelude.{None, ℕ, ◌<◌, ◌≡◌, ◌≤◌}
 use Rattle.bk_catalogue.specs.Catalogue.{Entry, IsEntry}
-use Rattle.bk_found.specs.KeptNumbers.{AreAscendingNumbers, IsFirstFrom}
-use Rattle.bk_found.specs.Packed.{packed}
+use Rattle.bk_packed.specs.KeptNumbers.{AreAscendingNumbers, IsFirstFrom}
+use Rattle.bk_packed.specs.Packed.{packed}
 use Rattle.bk_walk.specs.Finding.{Finding, HoldsEntry, IsMembersNumber}
 
 -- the theorem of a table of one order, class and number to begin at: each member of the order and the class whose

@@ -12,17 +12,18 @@ ghost use Rattle.bk_catalogue.specs.Catalogue.{IsMember, IsOfClass};
 ghost use Rattle.bk_word.specs.Play.{IsComplete};
 ghost use Rattle.bk_word.specs.Word.{Word as Moves, order_of};
 ghost use Rattle.bk_lay.specs.TilingWord.{IsWordOf};
-ghost use Rattle.bk_found.specs.KeptNumbers.{AreAscendingNumbers, Holds};
-ghost use Rattle.bk_found.specs.Packed.{packed};
+ghost use Rattle.bk_packed.specs.KeptNumbers.{AreAscendingNumbers, Holds};
+ghost use Rattle.bk_packed.specs.Packed.{packed};
 ghost use Rattle.bk_found.specs.Found.{IsFound, IsPlacementOf};
 ghost use Rattle.bk_found.specs.Ties.{AreTiesOf};
 ghost use Rattle.bk_free_search.specs.SeenCounts.{seen_counts};
-ghost use Rattle.bk_walk.specs.Finding.{HasMoreMembers, HasOnlyMembers, IsHeld, wanted};
+ghost use Rattle.bk_walk.specs.Finding.{HasMoreMembers, HasOnlyMembers, IsHeld, Puts, wanted};
 
 use bk_catalogue::is_simple_of;
-use bk_found::{Packed, Placed, Table, Ties, best_turn, leaf, lying_size, turned_squares};
+use bk_found::{Placed, Ties, best_turn, leaf, lying_size, turned_squares};
 use bk_free_search::{Board, Counts, Leaves};
 use bk_lay::Turns;
+use bk_packed::{NumberTable, Packed};
 use bk_sym::{canonical, is_canonical};
 use bk_tiling::Tiling;
 use bk_word::Class;
@@ -35,7 +36,7 @@ pub(crate) struct Finder<const N: usize> {
     order: u8,
     class: Class,
     from: u128,
-    table: Table<N>,
+    table: NumberTable<N>,
     turns: Turns,
 }
 
@@ -65,7 +66,7 @@ impl<const N: usize> Finder<N> {
             order,
             class,
             from,
-            table: Table::new(),
+            table: NumberTable::new(),
             turns: Turns::new(),
         }
     }
@@ -109,7 +110,7 @@ impl<const N: usize> Finder<N> {
 
     /// The table, which keeps the numbers of members alone, and dropped some only where there are more than it has room
     /// for.
-    pub fn table(&self) -> &Table<N>
+    pub fn table(&self) -> &NumberTable<N>
         ensures value { result.now ≡ self.now.numbers }
         ensures only { HasOnlyMembers self.now }
         ensures full { IsSome self.now.numbers.limit → HasMoreMembers N self.now }
@@ -130,11 +131,8 @@ impl<const N: usize> Finder<N> {
     // member. That one is made in the room. Most words are met without all this.
     #[inline(never)]
     fn meet_placed(&mut self, placed: &Placed, room: &mut Tiling)
-        ensures fixed { wanted self.new ≡ wanted self.old }
-        ensures put { (t : Tiled) (turn : Turned) → IsMember self.old.order self.old.class t
-            → IsPlacementOf (image turn t) placed.now
-            → IsHeld self.old.from self.new.numbers t }
-        ensures kept { (x : ℕ) → Holds self.old.numbers x → Holds self.new.numbers x }
+        ensures { Puts self.old self.new ((t : Tiled) (turn : Turned) → IsMember self.old.order self.old.class t
+            → IsPlacementOf (image turn t) placed.now → IsHeld self.old.from self.new.numbers t) }
     {
         let which = best_turn(placed);
         let (width, height) = lying_size(placed.width, placed.height);
@@ -147,10 +145,8 @@ impl<const N: usize> Finder<N> {
 
     // Puts the word of a tiling's canonical tiling into the table, where this is a member.
     fn meet_tiling(&mut self, tiling: &Tiling)
-        ensures fixed { wanted self.new ≡ wanted self.old }
-        ensures put { (t : Tiled) (turn : Turned) → IsMember self.old.order self.old.class t → tiling.now ≡ image turn t
-            → IsHeld self.old.from self.new.numbers t }
-        ensures kept { (x : ℕ) → Holds self.old.numbers x → Holds self.new.numbers x }
+        ensures { Puts self.old self.new ((t : Tiled) (turn : Turned) → IsMember self.old.order self.old.class t
+            → tiling.now ≡ image turn t → IsHeld self.old.from self.new.numbers t) }
     {
         if tiling.order() != usize::from(self.order) {
             return;
@@ -168,10 +164,8 @@ impl<const N: usize> Finder<N> {
     fn meet_image(&mut self, tiling: &Tiling)
         requires tiling { IsTiling tiling.now }
         requires order { order tiling.now ≡ self.old.order }
-        ensures fixed { wanted self.new ≡ wanted self.old }
-        ensures put { (t : Tiled) (turn : Turned) → IsMember self.old.order self.old.class t → tiling.now ≡ image turn t
-            → IsHeld self.old.from self.new.numbers t }
-        ensures kept { (x : ℕ) → Holds self.old.numbers x → Holds self.new.numbers x }
+        ensures { Puts self.old self.new ((t : Tiled) (turn : Turned) → IsMember self.old.order self.old.class t
+            → tiling.now ≡ image turn t → IsHeld self.old.from self.new.numbers t) }
     {
         self.meet_canonical(&canonical(tiling));
     }
@@ -181,10 +175,8 @@ impl<const N: usize> Finder<N> {
         requires tiling { IsTiling tiling.now }
         requires order { order tiling.now ≡ self.old.order }
         requires canonical { IsCanonical tiling.now }
-        ensures fixed { wanted self.new ≡ wanted self.old }
-        ensures put { IsMember self.old.order self.old.class tiling.now
-            → IsHeld self.old.from self.new.numbers tiling.now }
-        ensures kept { (x : ℕ) → Holds self.old.numbers x → Holds self.new.numbers x }
+        ensures { Puts self.old self.new (IsMember self.old.order self.old.class tiling.now
+            → IsHeld self.old.from self.new.numbers tiling.now) }
     {
         if is_simple_of(tiling, self.class) {
             self.put(tiling);
@@ -194,9 +186,7 @@ impl<const N: usize> Finder<N> {
     // Puts the word of a member into the table, where it isn't before those that are kept.
     fn put(&mut self, tiling: &Tiling)
         requires member { IsMember self.old.order self.old.class tiling.now }
-        ensures fixed { wanted self.new ≡ wanted self.old }
-        ensures put { IsHeld self.old.from self.new.numbers tiling.now }
-        ensures kept { (x : ℕ) → Holds self.old.numbers x → Holds self.new.numbers x }
+        ensures { Puts self.old self.new (IsHeld self.old.from self.new.numbers tiling.now) }
     {
         let number = Packed::of_tiling(&mut self.turns, tiling).number();
         if self.from <= number {

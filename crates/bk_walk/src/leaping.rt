@@ -6,7 +6,7 @@ ghost use Rattle.bk_tree_walk.specs.Search.{IsReady, Meets, StaysOf, place_of};
 ghost use Rattle.bk_tree_walk.specs.WholeWords.{IsMembersWord};
 ghost use Rattle.bk_walk.specs.Leaping.{GoesToWord, IsAtNumber, IsNextFrom};
 
-use bk_found::{read_next, shared_moves};
+use bk_packed::{read_next, shared_moves};
 use bk_play::Steps;
 use bk_tree_walk::TreeWalk;
 use bk_walk_cuts::first_move;

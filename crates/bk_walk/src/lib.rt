@@ -4,12 +4,12 @@
 
 mod finding;
 mod leaping;
-mod members;
+mod member_table;
 mod search;
-mod tabled;
+mod table_answer;
 mod walk;
 
 pub use bk_members::{Entry, Members, WideAt};
-pub use members::MemberTable;
-pub use tabled::MOST_MEMBERS;
+pub use member_table::MemberTable;
+pub use table_answer::MOST_MEMBERS;
 pub use walk::{TabledWalk, Walk};

@@ -3,14 +3,13 @@
 
 ghost use Rattle.std.specs.Prelude.{IsTrue, ◌-◌, ◌≡◌};
 ghost use Rattle.bk_catalogue.specs.Catalogue.{IsEntry};
-ghost use Rattle.bk_tree_walk.specs.declared.Went.TheVariants.{Met};
-ghost use Rattle.bk_tree_walk.specs.Search.{Finds, IsReady, StaysOf, StepLeadsTo, place_of};
-ghost use Rattle.bk_walk.specs.Leaping.{TellsOfPlace};
+ghost use Rattle.bk_tree_walk.specs.Search.{Finds, IsReady, StaysOf, place_of};
+ghost use Rattle.bk_walk.specs.Leaping.{IsStep, TellsOfPlace};
 
 use crate::MemberTable;
 use crate::leaping::leap;
-use crate::tabled::{LEAST_TABLED_ORDER, PATIENCE, TableAnswer, tell};
-use bk_found::number_with;
+use crate::table_answer::{LEAST_TABLED_ORDER, PATIENCE, TableAnswer, tell};
+use bk_packed::number_with;
 use bk_play::Steps;
 use bk_tiling::Tiling;
 use bk_tree_walk::{TreeWalk, Went};
@@ -48,10 +47,7 @@ fn step<const ROOM: usize, L: Ledger>(
     steps: &mut Steps<L>,
     tiling: &mut Tiling,
 ) -> Went
-    ensures leads { StepLeadsTo tree.old tree.new (steps.new - steps.old) result }
-    ensures member { result ≡ Met
-        → IsEntry tree.old.order tree.old.class (record { tiling = tiling.new; word = tree.new.front }) }
-    ensures stays { StaysOf tree.old tree.new steps.old steps.new }
+    ensures { IsStep tree.old tree.new steps.old steps.new tiling.new result }
 {
     match tree.settle() {
         Some(went) => went,
@@ -67,10 +63,7 @@ fn go_on<const ROOM: usize, L: Ledger>(
     tiling: &mut Tiling,
 ) -> Went
     requires { IsReady tree.old }
-    ensures leads { StepLeadsTo tree.old tree.new (steps.new - steps.old) result }
-    ensures member { result ≡ Met
-        → IsEntry tree.old.order tree.old.class (record { tiling = tiling.new; word = tree.new.front }) }
-    ensures stays { StaysOf tree.old tree.new steps.old steps.new }
+    ensures { IsStep tree.old tree.new steps.old steps.new tiling.new result }
 {
     match ask(tree, table) {
         TableAnswer::Nothing => tree.walk_on(steps, tiling),

@@ -22,13 +22,9 @@ use Rattle.bk_catalogue.specs.SingleValleys.{single_valleys}
 use Rattle.bk_catalogue.specs.Cuts.{IsBarren}
 use Rattle.bk_catalogue.proofs.MoveCuts.OneUnderOne.{one_under_one_is_barren}
 use Rattle.bk_word.specs.OwnSigns.{own_signs}
-use Rattle.bk_walk_cuts.specs.MoveCuts.{GrowsByAtMostOne, IsCut, IsFrontEndingEven}
-use Rattle.bk_catalogue.specs.NextMove.{IsMoveFrom, move_after, move_with_signs, signs_after}
+use Rattle.bk_walk_cuts.specs.MoveCuts.{GrowsByAtMostOne, IsCut, IsFrontEndingEven, front_signs, passed}
+use Rattle.bk_catalogue.specs.NextMove.{IsMoveFrom, move_with_signs, signs_after}
 use Rattle.bk_catalogue.specs.VerticalCut.{line_bound_of}
-
--- the move with its first signs alone
-abbrev pub front_signs : ℕ → Move → Move
-front_signs k m = record { count = m.count; signs = take k m.signs }
 
 front_from : (k : ℕ) (m other : Move) → IsMoveFrom m other → IsMoveFrom (front_signs k m) other
 front_from k m other from e = cases (less_to other (front_signs k m) e)
@@ -42,7 +38,7 @@ front_from k m other from e = cases (less_to other (front_signs k m) e)
 pub cut_by_front : (n : ℕ) (class : Class) (front : Word) (m : Move) (k : ℕ)
     → ((other : Move) → IsLegalMove (outline_of front) other → other.count ≡ m.count → Begins (take k m.signs) other.signs
     → IsBarren n class (front ++ other ∷ []))
-    → IsCut n class front m (move_after (front_signs k m))
+    → IsCut n class front m (passed k m)
 cut_by_front n class front m k barren = record {
   up = begun_before (front_signs k m) m refl (record { rest = drop k m.signs; is = sym (take-append-drop k m.signs) });
   barren = λ other legal from to. let b = moves_between (front_signs k m) other (front_from k m other from) to in barren other legal b.0 b.1;
@@ -53,7 +49,7 @@ pub near_itself : (m : Move) → GrowsByAtMostOne m m
 near_itself m = record { least = omega arith; most = omega arith; signs = omega arith }
 
 -- the move after those has few signs and at most one square more
-pub after_near : (k : ℕ) (m : Move) → GrowsByAtMostOne m (move_after (front_signs k m))
+pub after_near : (k : ℕ) (m : Move) → GrowsByAtMostOne m (passed k m)
 after_near k m = cases (signs_after (take k m.signs)) (next_short (take k m.signs))
   where
     shorter : (k : ℕ) (a : List Sign) → length (take k a) ≤ length a
@@ -91,7 +87,7 @@ get_drop (suc f) j (t ∷ a) s e = get_drop f j a s (subst (λ (k : ℕ). slice_
 
 -- the cut by two equal squares side by side under one segment
 pub even_cut : (n : ℕ) (class : Class) (front : Word) (m : Move) (kept : ℕ) → (class ≡ Perfect) ⊎ (3 ≤ n)
-    → IsFrontEndingEven (open_side (has_left_wall (outline_of front))) m.count m.signs kept → IsCut n class front m (move_after (front_signs kept m))
+    → IsFrontEndingEven (open_side (has_left_wall (outline_of front))) m.count m.signs kept → IsCut n class front m (passed kept m)
 even_cut n class front m kept which ends =
     cut_by_front n class front m kept (λ other legal count b. even_squares_are_barren n class front other which (contains other count b))
   where
@@ -112,14 +108,13 @@ even_cut n class front m kept which ends =
 
 -- the cut of one square under just one
 pub single_cut : (n : ℕ) (class : Class) (front : Word) (m : Move) → m.count ≡ 1 → length (valley_of (outline_of front)) ≡ 1
-    → IsCut n class front m (move_after (front_signs 0 m))
+    → IsCut n class front m (passed 0 m)
 single_cut n class front m one valley = cut_by_front n class front m 0 (λ other legal count b. one_under_one_is_barren n class front other (count ∙ one) valley)
 
 -- a move by itself
 pub one_cut : (n : ℕ) (class : Class) (front : Word) (m : Move) → IsLegalMove (outline_of front) m → IsBarren n class (front ++ m ∷ [])
-    → IsCut n class front m (move_after m)
-one_cut n class front m legal barren = subst (λ (f : Move). IsCut n class front m (move_after f)) (whole_front m)
-    (cut_by_front n class front m (length m.signs) itself)
+    → IsCut n class front m (passed (length m.signs) m)
+one_cut n class front m legal barren = cut_by_front n class front m (length m.signs) itself
   where
     itself : (other : Move) → IsLegalMove (outline_of front) other → other.count ≡ m.count → Begins (take (length m.signs) m.signs) other.signs
         → IsBarren n class (front ++ other ∷ [])
@@ -130,7 +125,8 @@ one_cut n class front m legal barren = subst (λ (f : Move). IsCut n class front
             (subst (λ (l : List Sign). Begins l other.signs) (take-length m.signs) b)
 
 -- the cut of the first move of two squares with the shorter one on the left
-pub first_cut : (n : ℕ) (class : Class) (m : Move) → m.count ≡ 2 → m.signs ≡ Above ∷ [] → IsLegalMove (outline_of []) m → IsCut n class [] m (move_after m)
+pub first_cut : (n : ℕ) (class : Class) (m : Move) → m.count ≡ 2 → m.signs ≡ Above ∷ [] → IsLegalMove (outline_of []) m
+    → IsCut n class [] m (passed (length m.signs) m)
 first_cut n class m two signs legal = one_cut n class [] m legal
     (subst (λ (k : Move). IsBarren n class (k ∷ [])) (sym (move_from_parts m (record { count = 2; signs = Above ∷ [] }) two signs))
     (shorter_first_is_barren n class))
@@ -142,7 +138,7 @@ one_sign (s ∷ t ∷ signs) h e = absurd (omega arith)
 
 -- the cut of a first move of two squares with the shorter one on the left, where nothing is played yet
 pub shorter_cut : (n : ℕ) (class : Class) (front : Word) (m : Move) → length front ≡ 0 → m.count ≡ 2 → slice_index_or m.signs 0 Above ≡ Above
-    → IsLegalMove (outline_of front) m → IsCut n class front m (move_after m)
+    → IsLegalMove (outline_of front) m → IsCut n class front m (passed (length m.signs) m)
 shorter_cut n class [] m none two above legal = first_cut n class m two (one_sign m.signs (omega (arith, legal.signs)) above) legal
 shorter_cut n class (k ∷ front) m none two above legal = absurd (omega arith)
 

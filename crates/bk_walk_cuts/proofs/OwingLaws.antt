@@ -11,18 +11,17 @@ use Rattle.bk_word.proofs.StoredBytes.{order_append, order_more}
 use Rattle.bk_word.proofs.PlayLaws.{after-snoc}
 use Rattle.bk_catalogue.proofs.HangingBounds.ClosingLaws.{bound-parts, unders}
 use Rattle.bk_catalogue.proofs.HangingBounds.TallyLaws.{front_owes}
-use Rattle.bk_walk_cuts.proofs.CutLaws.{cut_by_front, front_signs}
+use Rattle.bk_walk_cuts.proofs.CutLaws.{cut_by_front}
 use Rattle.bk_catalogue.proofs.MoveCuts.CuttingBounds.{too_many_to_close_is_barren}
 use Rattle.bk_catalogue.proofs.TreeOfWords.MoveOrder.{Begins}
 use Rattle.bk_catalogue.specs.ClosingBound.{closing_bound}
 use Rattle.bk_catalogue.specs.Cuts.{IsBarren}
-use Rattle.bk_walk_cuts.specs.MoveCuts.{IsCut}
-use Rattle.bk_catalogue.specs.NextMove.{move_after}
+use Rattle.bk_walk_cuts.specs.MoveCuts.{IsCut, passed}
 
 -- the cut by signs that ask for more squares than are left
 pub owing_cut : (n : ℕ) (class : Class) (front : Word) (m : Move) (kept room left under place : ℕ) → place ≡ valley_place (outline_of front).signs
     → under ≡ count_by is_under (drop (place + 1) (outline_of front).signs) → left ≡ n - order_of front - m.count → room ≡ left - under
-    → room < closing_bound (take (place - 1) (outline_of front).signs ++ take kept m.signs) → IsCut n class front m (move_after (front_signs kept m))
+    → room < closing_bound (take (place - 1) (outline_of front).signs ++ take kept m.signs) → IsCut n class front m (passed kept m)
 owing_cut n class front m kept room left under place p u l r over = cut_by_front n class front m kept (λ other legal count b. barren other count b)
   where
     barren : (other : Move) → other.count ≡ m.count → Begins (take kept m.signs) other.signs → IsBarren n class (front ++ other ∷ [])

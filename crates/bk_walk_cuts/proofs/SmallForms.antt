@@ -5,7 +5,8 @@ use Rattle.std.proofs.Common.{◌-◌, ◌<◌, ◌∷◌, ◌≡◌, ◌≤◌,
 use Rattle.std.proofs.lemmas.Bool.{cases_lt}
 use Rattle.bk_forms.specs.Form.{Form, coefficient, with_column}
 use Rattle.bk_walk_cuts.specs.SideForms.{level_of, zero_form}
-use Rattle.bk_walk_cuts.specs.Trace.{AreSmall, IsSmall}
+use Rattle.bk_walk_cuts.specs.Trace.{AreFewSmall, AreSmall, IsSmall, IsTraceOf, Trace}
+use Rattle.bk_word.specs.Word.{Word}
 use Rattle.bk_laws.proofs.ListPlaces.{get_either}
 use Rattle.bk_laws.proofs.Magnitudes.{abs_successor-le}
 
@@ -59,6 +60,14 @@ small_level bottoms (n ∷ numbers) small = cases (cases_lt (n - 1) (length bott
     cases (inl h) = small_more (suc (n - 1)) (length bottoms) (get_or bottoms (n - 1) zero_form) (omega arith)
         (small (n - 1) (get_or bottoms (n - 1) zero_form) (read bottoms (n - 1) h))
     cases (inr h) = subst (IsSmall (length bottoms)) (sym (past bottoms (n - 1) h)) (small_zero (length bottoms))
+
+-- the bottoms that a trace keeps are few and small, as they are read
+pub few_small : {w : Word} {trace : Trace} {bottoms : List Form} → IsTraceOf w trace → bottoms ≡ trace.bottoms → AreFewSmall bottoms
+few_small is e = subst AreFewSmall (sym e) (record { few = is.few; small = is.small })
+
+-- the level of a segment of such is small
+pub few_small_level : (bottoms : List Form) (numbers : List ℕ) → AreFewSmall bottoms → IsSmall 5 (level_of bottoms numbers)
+few_small_level bottoms numbers are = small_more (length bottoms) 5 (level_of bottoms numbers) are.few (small_level bottoms numbers are.small)
 
 -- the bottoms of new squares
 new_small : (numbers : List ℕ) (level : Form) (k i : ℕ) (form : Form) → IsSmall k level

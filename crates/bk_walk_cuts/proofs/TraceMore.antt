@@ -27,8 +27,8 @@ module _ (w : Word) (m : Move) (kept bottoms : List Form) (marks : List Mark)
     (kept_then : List Form) (first : KeepsFirst kept kept_then) (meets : (sides : List ℕ) → Asked w m kept bottoms sides
     → MeetsEquations 16 kept_then sides) where
   -- the mark of what was kept before the move
-  pub mark : Mark
-  mark = record { equations = length kept; squares = length bottoms }
+  pub mark_before : Mark
+  mark_before = record { equations = length kept; squares = length bottoms }
 
   whole : take (length marks) w ≡ w
   whole = take_all (length marks) w (omega (arith, all))

@@ -1,5 +1,5 @@
 -- Cuts: the legal moves at a state that are passed over, because no member's word goes on by them.
-use Rattle.std.specs.Prelude.{List, Some, [], length, slice_get, ℕ, ◌++◌, ◌+◌, ◌-◌, ◌<◌, ◌∷◌, ◌≡◌, ◌≤◌}
+use Rattle.std.specs.Prelude.{List, Some, [], length, slice_get, take, ℕ, ◌++◌, ◌+◌, ◌-◌, ◌<◌, ◌∷◌, ◌≡◌, ◌≤◌}
 use Rattle.std.specs.declared.cmp.Ordering.TheVariants.{Less}
 use Rattle.bk_word.specs.Outline.{IsLegalMove}
 use Rattle.bk_word.specs.Play.{outline_of}
@@ -8,7 +8,7 @@ use Rattle.bk_word.specs.declared.Class.{Class}
 use Rattle.bk_word.specs.declared.Sign.{Sign}
 use Rattle.bk_word.specs.declared.Sign.TheVariants.{Even}
 use Rattle.bk_catalogue.specs.Cuts.{IsBarren}
-use Rattle.bk_catalogue.specs.NextMove.{IsMoveFrom}
+use Rattle.bk_catalogue.specs.NextMove.{IsMoveFrom, move_after}
 
 -- the legal moves from the one on and before the next may be passed over, because no member's word begins with these
 -- moves and one of them
@@ -16,6 +16,14 @@ pub record IsCut (n : ℕ) (class : Class) (front : Word) (m next : Move) : Type
   pub up : move_cmp m next ≡ Less
   pub barren : (other : Move) → IsLegalMove (outline_of front) other → IsMoveFrom m other → move_cmp other next ≡ Less
       → IsBarren n class (front ++ other ∷ [])
+
+-- the move with only so many of its signs, the first ones
+abbrev pub front_signs : ℕ → Move → Move
+front_signs kept m = record { count = m.count; signs = take kept m.signs }
+
+-- the move that is next after all of the same count that begin with so many of the move's signs
+abbrev pub passed : ℕ → Move → Move
+passed kept m = move_after (front_signs kept m)
 
 -- the next move is little greater: its count is at most one more, and its signs are not more
 pub record GrowsByAtMostOne (m next : Move) : Type 0 where

@@ -19,6 +19,11 @@ IsSmall most form = AllByRecursion (λ a. nat_abs a ≤ most) form
 abbrev pub AreSmall : List Form → Type 0
 AreSmall bottoms = (i : ℕ) (form : Form) → slice_get bottoms i ≡ Some form → IsSmall (suc i) form
 
+-- at most 5 bottoms with such levels, as many as squares of the first moves that are followed
+pub record AreFewSmall (bottoms : List Form) : Type 0 where
+  pub few : length bottoms ≤ 5
+  pub small : AreSmall bottoms
+
 -- the equations, the bottoms, and how many there were of both before each move that is followed
 pub record Trace : Type 0 where
   pub kept : List Form

@@ -189,17 +189,9 @@ fn are_equal(ledger: &Ledger, i: usize, j: usize) -> bool
         → slice_index_or sides i 0 ≡ slice_index_or sides j 0 }
     ensures all { AreKnownEqual ledger.now i j → IsTrue result }
 {
-    let side = side_alone(i);
-    let other = side_alone(j);
+    let side = Form::zero().plus_side(i);
+    let other = Form::zero().plus_side(j);
     is_even(ledger.compare(&side, &other))
-}
-
-// The form of a side.
-fn side_alone(i: usize) -> Form
-    requires { i < 16 }
-    ensures { result ≡ with_column zero_form i }
-{
-    Form::zero().plus_side(i)
 }
 
 // Whether a comparison is known to be even.

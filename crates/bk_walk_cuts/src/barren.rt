@@ -8,11 +8,11 @@ ghost use Rattle.bk_word.specs.Word.{order_of};
 ghost use Rattle.bk_word.specs.declared.Class.{Class};
 ghost use Rattle.bk_word.specs.declared.Class.TheVariants.{Perfect};
 ghost use Rattle.bk_catalogue.specs.Cuts.{IsBarren};
-ghost use Rattle.bk_walk_cuts.specs.MoveCuts.{GrowsByAtMostOne, IsCut, IsFrontEndingEven};
+ghost use Rattle.bk_walk_cuts.specs.MoveCuts.{GrowsByAtMostOne, IsCut, IsFrontEndingEven, passed};
 
 use crate::lined::LinedSkel;
-use crate::moves::next_move;
-use crate::owing::skip_owing;
+use crate::moves::pass;
+use crate::owing::cut_owing;
 use bk_catalogue::single_valleys;
 use bk_play::{Skel, open_side};
 use bk_word::{Class, Move, Sign};
@@ -28,71 +28,57 @@ pub fn skip(lined: &LinedSkel, class: Class, order: u8, m: &mut Move) -> bool
     ensures near { GrowsByAtMostOne m.old m.new }
     ensures kept { result ≡ false → m.new ≡ m.old }
 {
-    if skip_by_signs(lined.skel(), class, order, m) {
-        return true;
-    }
-    skip_by_sides(lined, class, m)
-}
-
-// Passes over a move that the sides of the first squares rule out.
-fn skip_by_sides(lined: &LinedSkel, class: Class, m: &mut Move) -> bool
-    requires legal { IsLegalMove (outline_of lined.now) m.old }
-    requires count { m.old.count < 17 }
-    requires signs { length m.old.signs ≤ 18 }
-    ensures cut { IsTrue result → (n : ℕ) → IsCut n class lined.now m.old m.new }
-    ensures near { GrowsByAtMostOne m.old m.new }
-    ensures kept { result ≡ false → m.new ≡ m.old }
-{
-    if !lined.rules_out(m, class) {
-        return false;
-    }
-    next_move(m);
-    true
-}
-
-// Passes over a move that counts and signs alone rule out.
-fn skip_by_signs(skel: &Skel, class: Class, order: u8, m: &mut Move) -> bool
-    requires legal { IsLegalMove (outline_of skel.now) m.old }
-    requires count { m.old.count < 17 }
-    requires signs { length m.old.signs ≤ 18 }
-    requires small { order_of skel.now + m.old.count ≤ order }
-    ensures cut { IsTrue result → IsCut order class skel.now m.old m.new }
-    ensures near { GrowsByAtMostOne m.old m.new }
-    ensures kept { result ≡ false → m.new ≡ m.old }
-{
-    if skip_even(skel, class, order, m) {
-        return true;
-    }
-    if skip_single(skel, m) {
-        return true;
-    }
-    if skip_shorter(skel, m) {
-        return true;
-    }
-    skip_owing(skel, order, m)
-}
-
-// Passes over a move with two equal squares side by side under one segment, and over all of its count whose signs are
-// the same up to there. Where the class isn't perfect, this is a cut at orders of at least 3.
-fn skip_even(skel: &Skel, class: Class, order: u8, m: &mut Move) -> bool
-    requires count { m.old.count < 17 }
-    requires signs { length m.old.signs ≤ 18 }
-    ensures cut { IsTrue result → IsCut order class skel.now m.old m.new }
-    ensures near { GrowsByAtMostOne m.old m.new }
-    ensures kept { result ≡ false → m.new ≡ m.old }
-{
-    if !bars_even(class, order) {
-        return false;
-    }
-    let (left_wall, _) = skel.walls();
-    match first_even(m, open_side(left_wall)) {
+    match cut_front(lined, class, order, m) {
         None => false,
         Some(kept) => {
-            m.signs.truncate(kept);
-            next_move(m);
+            pass(m, kept);
             true
         }
     }
+}
+
+// With how many of the move's signs those moves of its count begin by which it is plain that no member's word goes on.
+fn cut_front(lined: &LinedSkel, class: Class, order: u8, m: &Move) -> Option<usize>
+    requires legal { IsLegalMove (outline_of lined.now) m.now }
+    requires small { order_of lined.now + m.now.count ≤ order }
+    ensures { IfSome result (λ kept. IsCut order class lined.now m.now (passed kept m.now)) }
+{
+    let by_signs = cut_by_signs(lined.skel(), class, order, m);
+    if by_signs.is_none() && lined.rules_out(m, class) {
+        return Some(m.signs.len());
+    }
+    by_signs
+}
+
+// The same, where counts and signs alone rule the moves out.
+fn cut_by_signs(skel: &Skel, class: Class, order: u8, m: &Move) -> Option<usize>
+    requires legal { IsLegalMove (outline_of skel.now) m.now }
+    requires small { order_of skel.now + m.now.count ≤ order }
+    ensures { IfSome result (λ kept. IsCut order class skel.now m.now (passed kept m.now)) }
+{
+    let even = cut_even(skel, class, order, m);
+    if even.is_some() {
+        return even;
+    }
+    if is_under_one(skel, m) {
+        return Some(0);
+    }
+    if is_shorter_first(skel, m) {
+        return Some(m.signs.len());
+    }
+    cut_owing(skel, order, m)
+}
+
+// The same for moves with two equal squares side by side under one segment. Where the class isn't perfect, this is a
+// cut at orders of at least 3.
+fn cut_even(skel: &Skel, class: Class, order: u8, m: &Move) -> Option<usize>
+    ensures { IfSome result (λ kept. IsCut order class skel.now m.now (passed kept m.now)) }
+{
+    if !bars_even(class, order) {
+        return None;
+    }
+    let (left_wall, _) = skel.walls();
+    first_even(m, open_side(left_wall))
 }
 
 // Whether no member has two equal squares side by side under one segment.
@@ -108,8 +94,7 @@ fn bars_even(class: Class, order: u8) -> bool
 // How many signs there are up to the first even one between two of the move's own squares, where its own begin at
 // `from`.
 fn first_even(m: &Move, from: usize) -> Option<usize>
-    requires count { m.now.count < 17 }
-    requires from { from ≤ 1 }
+    requires { from ≤ 1 }
     ensures { IfSome result (IsFrontEndingEven from m.now.count m.now.signs) }
 {
     let end = from + usize::from(m.count);
@@ -121,33 +106,23 @@ fn first_even(m: &Move, from: usize) -> Option<usize>
     None
 }
 
-// Passes over all moves of one square, where it would stand under just one.
-fn skip_single(skel: &Skel, m: &mut Move) -> bool
-    ensures cut { IsTrue result → (n : ℕ) (class : Class) → IsCut n class skel.now m.old m.new }
-    ensures near { GrowsByAtMostOne m.old m.new }
-    ensures kept { result ≡ false → m.new ≡ m.old }
+// Whether the move hangs one square under just one, as all moves of its count do.
+fn is_under_one(skel: &Skel, m: &Move) -> bool
+    ensures { IsTrue result → (n : ℕ) (class : Class) → IsCut n class skel.now m.now (passed 0 m.now) }
 {
-    if m.count != 1 || skel.valley_len() != 1 {
-        return false;
-    }
-    m.signs.clear();
-    next_move(m);
-    true
+    m.count == 1 && skel.valley_len() == 1
 }
 
-// Passes over the first move of two squares of which the left one is the shorter.
-fn skip_shorter(skel: &Skel, m: &mut Move) -> bool
-    requires legal { IsLegalMove (outline_of skel.now) m.old }
-    requires signs { length m.old.signs ≤ 18 }
-    ensures cut { IsTrue result → (n : ℕ) (class : Class) → IsCut n class skel.now m.old m.new }
-    ensures near { GrowsByAtMostOne m.old m.new }
-    ensures kept { result ≡ false → m.new ≡ m.old }
+// Whether the move is the first one, of two squares of which the left one is the shorter.
+fn is_shorter_first(skel: &Skel, m: &Move) -> bool
+    requires { IsLegalMove (outline_of skel.now) m.now }
+    ensures { IsTrue result
+        → (n : ℕ) (class : Class) → IsCut n class skel.now m.now (passed (length m.now.signs) m.now) }
 {
-    if skel.moves() != 0 || m.count != 2 || !m.signs.as_slice()[0].is_above() {
+    if skel.moves() != 0 || m.count != 2 {
         return false;
     }
-    next_move(m);
-    true
+    m.signs.as_slice()[0].is_above()
 }
 
 /// Whether it is plain that no member's word of the order begins with these moves, in any class.

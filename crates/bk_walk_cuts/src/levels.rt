@@ -10,7 +10,7 @@ ghost use Rattle.bk_word.specs.Word.{order_of};
 ghost use Rattle.bk_forms.specs.Form.{with_column};
 ghost use Rattle.bk_walk_cuts.specs.SideForms.{level_of as level_seen, levels_along as levels_seen};
 ghost use Rattle.bk_walk_cuts.specs.SideForms.{sum_of_sides as sum_seen, zero_form};
-ghost use Rattle.bk_walk_cuts.specs.Trace.{AreSmall, IsSmall};
+ghost use Rattle.bk_walk_cuts.specs.Trace.{AreFewSmall, IsSmall};
 
 use arrayvec::ArrayVec;
 use bk_catalogue::first_above;
@@ -93,8 +93,7 @@ fn part(squares: &[u8], start: usize, size: u8) -> &[u8]
 // The levels that a move's signs compare, where at most 5 squares hang after it.
 pub(crate) fn levels_along(bottoms: &[Form], skel: &Skel, m: &Move) -> ArrayVec<Form, MOST_LEVELS>
     requires few { order_of skel.now + m.now.count ≤ 5 }
-    requires short { length bottoms.now ≤ 5 }
-    requires small { AreSmall bottoms.now }
+    requires bottoms { AreFewSmall bottoms.now }
     ensures { result.items ≡ levels_seen (outline_of skel.now) m.now bottoms.now }
 {
     let level = level_of(bottoms, skel.valley_squares());

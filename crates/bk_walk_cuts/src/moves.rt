@@ -3,6 +3,7 @@
 
 ghost use Rattle.std.specs.Prelude.{IsTrue, None, Some, [], false, length, ◌+◌, ◌<◌, ◌≡◌, ◌≤◌};
 ghost use Rattle.bk_catalogue.specs.NextMove.{fitted, first_move as first_of_all, move_after, padded, signs_after};
+ghost use Rattle.bk_walk_cuts.specs.MoveCuts.{passed};
 
 use arrayvec::ArrayVec;
 use bk_word::{MOST_SIGNS, Move, Sign};
@@ -60,6 +61,16 @@ pub fn next_move(m: &mut Move)
     }
 }
 
+// Makes of the move the next after all of its count that begin with so many of its signs.
+pub(crate) fn pass(m: &mut Move, kept: usize)
+    requires count { m.old.count ≤ 17 }
+    requires signs { length m.old.signs ≤ 18 }
+    ensures { m.new ≡ passed kept m.old }
+{
+    m.signs.truncate(kept);
+    next_move(m);
+}
+
 // Puts signs above behind those of the move, up to so many as a legal move wants at a valley with so many open sides.
 fn pad(m: &mut Move, sides: usize)
     requires some { 0 < m.old.count }
@@ -83,8 +94,7 @@ pub fn least_legal_from(m: &mut Move, sides: usize)
 {
     let wanted = usize::from(m.count) - 1 + sides;
     if m.signs.len() > wanted {
-        m.signs.truncate(wanted);
-        next_move(m);
+        pass(m, wanted);
     }
     pad(m, sides);
 }

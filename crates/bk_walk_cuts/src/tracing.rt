@@ -71,13 +71,10 @@ impl Tracing {
             → IsTrue (brings_more m.now)
             → IsCutByForms class skel.now m.now self.now.kept self.now.bottoms → IsTrue result }
     {
-        if !self.follows(skel, m) {
-            return false;
-        }
         if !binds_earlier(m) {
             return false;
         }
-        self.refuses(skel, m, class)
+        self.would_rule_out(skel, m, class)
     }
 
     /// Whether a legal move after these moves is known to be ruled out, also where it brings no more equations than
@@ -93,17 +90,6 @@ impl Tracing {
         if !self.follows(skel, m) {
             return false;
         }
-        self.refuses(skel, m, class)
-    }
-
-    // Whether the ledger, by all that it answers, rules out a move that is followed.
-    fn refuses(&self, skel: &Skel, m: &Move, class: Class) -> bool
-        requires trace { IsTraceOf skel.now self.now }
-        requires all { length self.now.marks ≡ length skel.now }
-        requires few { order_of skel.now + m.now.count ≤ 5 }
-        ensures sound { IsTrue result → IsRuledOut class (skel.now ++ m.now ∷ []) }
-        ensures all { IsCutByForms class skel.now m.now self.now.kept self.now.bottoms → IsTrue result }
-    {
         let levels = levels_along(self.bottoms.as_slice(), skel, m);
         let mut ledger = self.ledger.copy();
         is_refused(&mut ledger, levels.as_slice(), skel, m, class)
@@ -178,7 +164,11 @@ impl Tracing {
 fn binds_earlier(m: &Move) -> bool
     ensures { result ≡ brings_more m.now }
 {
-    m.signs.iter().filter(|sign| sign.is_even()).count() >= usize::from(m.count)
+    let mut even = 0;
+    for sign in m.signs.as_slice() {
+        even += usize::from(sign.is_even());
+    }
+    even >= usize::from(m.count)
 }
 
 // Whether a move is known to be ruled out, which compares these levels. The ledger then has the move's equations too.

@@ -36,26 +36,17 @@ count_here bytes i within h = ap moves_in (drop_more bytes i 0 within) ∙ at_co
 pub sign_here : (bytes : List ℕ) (i : ℕ) → i < length bytes → is_count (get_or bytes i 0) ≡ false → moves_in (drop i bytes) ≡ moves_in (drop (i + 1) bytes)
 sign_here bytes i within h = ap moves_in (drop_more bytes i 0 within) ∙ at_sign (get_or bytes i 0) (drop (i + 1) bytes) h
 
+one_more : (t : Bool) (m : Move) (w : Word) → length (cond t (m ∷ w) w) ≡ cond {A = ℕ} t 1 0 + length w
+one_more true m w = omega arith
+one_more false m w = omega arith
+
 -- as many counts as moves
 pub counts_moves : (bytes : List ℕ) → count_by is_count bytes ≡ length (moves_in bytes)
 counts_moves [] = refl
-counts_moves (b ∷ bytes) = cases (is_count b) refl (counts_moves bytes)
-  where
-    cases : (t : Bool) → is_count b ≡ t → count_by is_count bytes ≡ length (moves_in bytes) → count_by is_count (b ∷ bytes) ≡ length (moves_in (b ∷ bytes))
-    cases true h others = omega (
-      arith,
-      sum_by-cons (λ (k : ℕ). cond {A = ℕ} (is_count k) 1 0) b bytes,
-      cond-true {A = ℕ} (is_count b) 1 0 h,
-      others,
-      ap (λ (w : Word). length w) (at_count b bytes h),
-    )
-    cases false h others = omega (
-      arith,
-      sum_by-cons (λ (k : ℕ). cond {A = ℕ} (is_count k) 1 0) b bytes,
-      cond-false {A = ℕ} (is_count b) 1 0 h,
-      others,
-      ap (λ (w : Word). length w) (at_sign b bytes h),
-    )
+counts_moves (b ∷ bytes) =
+    let moves : length (moves_in (b ∷ bytes)) ≡ cond {A = ℕ} (is_count b) 1 0 + length (moves_in bytes) =
+    one_more (is_count b) (move_of b bytes) (moves_in bytes) in
+    omega (arith, sum_by-cons (λ (k : ℕ). cond {A = ℕ} (is_count k) 1 0) b bytes, moves, counts_moves bytes)
 
 -- the move at a place
 pub first_dropped : (w : Word) (i : ℕ) (m : Move) (rest : Word) → drop i w ≡ m ∷ rest → slice_get w i ≡ Some m

@@ -19,5 +19,5 @@ after_none [] h = absurd (omega arith)
 after_none (m ∷ w) h = refl
 
 -- a word follows another where that one is greater
-pub turned : (v w : Word) → word_cmp v w ≡ Greater → Follows v w
-turned v w e = word_total.antisymm w v ∙ ap ordering_reverse e
+pub greater_follows : (v w : Word) → word_cmp v w ≡ Greater → Follows v w
+greater_follows v w e = word_total.antisymm w v ∙ ap ordering_reverse e

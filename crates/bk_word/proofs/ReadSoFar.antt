@@ -9,35 +9,35 @@ use Rattle.bk_word.specs.Word.{Move, Word}
 use Rattle.bk_word.specs.WordText.{IsTextOf, IsWordText, IsWrittenMove, letter, move_text}
 use Rattle.bk_word.specs.declared.Sign.{Sign}
 use Rattle.bk_word.specs.declared.Sign.TheVariants.{Even}
-use Rattle.bk_word.proofs.WordsRead.{behind, count_read, dotted_read, move_read, read}
+use Rattle.bk_word.proofs.WordsRead.{behind, count_read, dotted_read, move_read, word_read_from}
 use Rattle.bk_word.proofs.WordsSpelled.{CanBeRead, dotted, is_text, spelled}
 
 -- ---- what was read leads to where the reader stands
 
-dotted_leads : (v w : Word) (x : List ℕ) → AllByRecursion IsWrittenMove w → read (dotted w ++ x) (Before v) ≡ read x (Before (v ++ w))
-dotted_leads v [] x all = ap (λ (z : Word). read x (Before z)) (sym (append-nil v))
+dotted_leads : (v w : Word) (x : List ℕ) → AllByRecursion IsWrittenMove w → word_read_from (dotted w ++ x) (Before v) ≡ word_read_from x (Before (v ++ w))
+dotted_leads v [] x all = ap (λ (z : Word). word_read_from x (Before z)) (sym (append-nil v))
 dotted_leads v (m ∷ w) x all =
-    ap (λ (z : List ℕ). read z (Before v)) (append_assoc (move_text m ++ 46 ∷ []) (dotted w) x ∙ append_assoc (move_text m) (46 ∷ []) (dotted w ++ x))
+    ap (λ (z : List ℕ). word_read_from z (Before v)) (append_assoc (move_text m ++ 46 ∷ []) (dotted w) x ∙ append_assoc (move_text m) (46 ∷ []) (dotted w ++ x))
     ∙ dotted_read v m (dotted w ++ x) all.0
     ∙ dotted_leads (v ++ m ∷ []) w x all.1
-    ∙ ap (λ (z : Word). read x (Before z)) (append_assoc v (m ∷ []) w)
+    ∙ ap (λ (z : Word). word_read_from x (Before z)) (append_assoc v (m ∷ []) w)
 
 behind_signs : (w : Word) (m : Move) (ss : List Sign) → 0 < length ss → behind w m ss ≡ Signs w m
 behind_signs w m [] some = absurd (omega arith)
 behind_signs w m (s ∷ ss) some = refl
 
 -- what was read leads to where the reader stands
-pub leads : (r : Reading) (x : List ℕ) → CanBeRead r → read (spelled r ++ x) (Before []) ≡ read x r
+pub leads : (r : Reading) (x : List ℕ) → CanBeRead r → word_read_from (spelled r ++ x) (Before []) ≡ word_read_from x r
 leads (Before w) x can = dotted_leads [] w x can
 leads (Count w c) x can =
-    ap (λ (z : List ℕ). read z (Before [])) (append_assoc (dotted w) (decimal c) x)
+    ap (λ (z : List ℕ). word_read_from z (Before [])) (append_assoc (dotted w) (decimal c) x)
     ∙ dotted_leads [] w (decimal c ++ x) can.0
     ∙ count_read w c x can.1.0 can.1.1
 leads (Signs w m) x can =
-    ap (λ (z : List ℕ). read z (Before [])) (append_assoc (dotted w) (move_text m) x)
+    ap (λ (z : List ℕ). word_read_from z (Before [])) (append_assoc (dotted w) (move_text m) x)
     ∙ dotted_leads [] w (move_text m ++ x) can.0
     ∙ move_read w m x can.1.0 can.1.1 can.3
-    ∙ ap (λ (r : Reading). read x r) (behind_signs w m m.signs can.2)
+    ∙ ap (λ (r : Reading). word_read_from x r) (behind_signs w m m.signs can.2)
 
 -- ---- what was read begins a text
 

@@ -16,8 +16,8 @@ use Rattle.bk_word.specs.declared.reader.Place.{Place}
 use Rattle.bk_word.specs.declared.reader.Place.TheVariants.{BeforeCount, InCount, InSigns}
 use Rattle.bk_word.specs.declared.reading.Taken.{Taken}
 use Rattle.bk_word.proofs.StoredBytes.{short}
-use Rattle.bk_word.proofs.WordsRead.{ended, read, text_is_read}
-use Rattle.bk_word.proofs.WordsSpelled.{CanBeRead, further, spelled, text_found}
+use Rattle.bk_word.proofs.WordsRead.{ended_word, word_read_from, text_is_read}
+use Rattle.bk_word.proofs.WordsSpelled.{CanBeRead, further_is_spelled, spelled, text_found}
 use Rattle.bk_word.proofs.ReadSoFar.{begins, leads}
 
 -- ---- the place goes along with what was read
@@ -57,12 +57,12 @@ some_when : (test : Bool) (w : Word) → test ≡ true → (if test then Some w 
 some_when true w e = refl
 some_when false w e = absurd (cc)
 
-no_end : (r : Reading) → may_end (reader_place r) ≡ false → ended r ≡ None
+no_end : (r : Reading) → may_end (reader_place r) ≡ false → ended_word r ≡ None
 no_end (Before w) e = refl
 no_end (Count w c) e = none_when (nat_le c 1) (w ++ bare c ∷ []) e
 no_end (Signs w m) e = none_when ((m.count - 1 - length m.signs) == 0) (w ++ m ∷ []) e
 
-an_end : (r : Reading) → may_end (reader_place r) ≡ true → ended r ≡ Some (moves_counted r)
+an_end : (r : Reading) → may_end (reader_place r) ≡ true → ended_word r ≡ Some (moves_counted r)
 an_end (Before w) e = absurd (cc)
 an_end (Count w c) e = some_when (nat_le c 1) (w ++ bare c ∷ []) e
 an_end (Signs w m) e = some_when ((m.count - 1 - length m.signs) == 0) (w ++ m ∷ []) e
@@ -100,7 +100,7 @@ pub one_further : (bs : List ℕ) (i : ℕ) (p next : Place) (t more : Taken) �
     → Progress (take (i + 1) bs) next more
 one_further bs i p next t more within g e keeps =
     let to = step_at p next g.r (word_kind_of (get_or bs i 0)) g.can g.place e in
-    let f = further g.r to.0 (get_or bs i 0) g.can to.1 in
+    let f = further_is_spelled g.r to.0 (get_or bs i 0) g.can to.1 in
     record {
       r = to.0;
       can = f.can;
@@ -120,15 +120,15 @@ stops bs i p t within g e =
   where
     no_more : (x : List ℕ) → step g.r (word_kind_of (get_or bs i 0)) ≡ None → ¬ (IsWordText (take i bs ++ get_or bs i 0 ∷ x))
     no_more x none (w, text) =
-        let found : read (take i bs ++ get_or bs i 0 ∷ x) (Before []) ≡ Some w = text_is_read (take i bs ++ get_or bs i 0 ∷ x) w text in
-        let led : read (take i bs ++ get_or bs i 0 ∷ x) (Before []) ≡ read (get_or bs i 0 ∷ x) g.r =
-        ap (λ (z : List ℕ). read (z ++ get_or bs i 0 ∷ x) (Before [])) (sym g.spells) ∙ leads g.r (get_or bs i 0 ∷ x) g.can in
-        let stuck : read (get_or bs i 0 ∷ x) g.r ≡ None = ap (λ (o : Option Reading). option_and_then (read x) o) none in
+        let found : word_read_from (take i bs ++ get_or bs i 0 ∷ x) (Before []) ≡ Some w = text_is_read (take i bs ++ get_or bs i 0 ∷ x) w text in
+        let led : word_read_from (take i bs ++ get_or bs i 0 ∷ x) (Before []) ≡ word_read_from (get_or bs i 0 ∷ x) g.r =
+        ap (λ (z : List ℕ). word_read_from (z ++ get_or bs i 0 ∷ x) (Before [])) (sym g.spells) ∙ leads g.r (get_or bs i 0 ∷ x) g.can in
+        let stuck : word_read_from (get_or bs i 0 ∷ x) g.r ≡ None = ap (λ (o : Option Reading). option_and_then (word_read_from x) o) none in
         absurd (cc)
 
 -- once the place is at the end, all bytes are read
-pub whole : (bs : List ℕ) (i : ℕ) (p : Place) (t : Taken) → length bs ≤ i → Progress (take i bs) p t → Progress bs p t
-whole bs i p t all g = subst (λ (z : List ℕ). Progress z p t) (take_all i bs all) g
+pub progress_whole : (bs : List ℕ) (i : ℕ) (p : Place) (t : Taken) → length bs ≤ i → Progress (take i bs) p t → Progress bs p t
+progress_whole bs i p t all g = subst (λ (z : List ℕ). Progress z p t) (take_all i bs all) g
 
 -- bytes that end where no text may end leave the grammar at their end
 pub stops_at_end : (bs : List ℕ) (p : Place) (t : Taken) → Progress bs p t → may_end p ≡ false → IsNoWordText bs (length bs)
@@ -137,10 +137,10 @@ stops_at_end bs p t g e =
   where
     no_text : ¬ (IsWordText bs)
     no_text (w, text) =
-        let found : read bs (Before []) ≡ Some w = text_is_read bs w text in
-        let led : read bs (Before []) ≡ ended g.r = ap (λ (z : List ℕ). read z (Before [])) (sym g.spells ∙ sym (append-nil (spelled g.r)))
+        let found : word_read_from bs (Before []) ≡ Some w = text_is_read bs w text in
+        let led : word_read_from bs (Before []) ≡ ended_word g.r = ap (λ (z : List ℕ). word_read_from z (Before [])) (sym g.spells ∙ sym (append-nil (spelled g.r)))
         ∙ leads g.r [] g.can in
-        let stuck : ended g.r ≡ None = no_end g.r (ap may_end (sym g.place) ∙ e) in
+        let stuck : ended_word g.r ≡ None = no_end g.r (ap may_end (sym g.place) ∙ e) in
         absurd (cc)
 
 -- at an end the bytes are a text

@@ -16,7 +16,7 @@ use Rattle.bk_word.specs.declared.Sign.{Sign}
 use Rattle.bk_word.specs.declared.Sign.TheVariants.{Above, Even, Under}
 use Rattle.bk_word.specs.declared.reader.Kind.{Kind}
 use Rattle.bk_word.specs.declared.reader.Kind.TheVariants.{Digit, Dot, Letter, Other}
-use Rattle.bk_word.proofs.WordsRead.{ended}
+use Rattle.bk_word.proofs.WordsRead.{ended_word}
 
 -- moves with a dot behind each
 abbrev pub dotted : Word → List ℕ
@@ -153,8 +153,8 @@ one_further (Signs w m) Dot b can is = when ((m.count - 1 - length m.signs) == 0
 one_further (Signs w m) Other b can is = tt
 
 -- what is read with a further byte is spelled by the bytes before and that byte
-pub further : (r next : Reading) (b : ℕ) → CanBeRead r → step r (word_kind_of b) ≡ Some next → Further r next b
-further r next b can e = subst (λ (o : Option Reading). FurtherBy o r b) e (one_further r (word_kind_of b) b can (means b))
+pub further_is_spelled : (r next : Reading) (b : ℕ) → CanBeRead r → step r (word_kind_of b) ≡ Some next → Further r next b
+further_is_spelled r next b can e = subst (λ (o : Option Reading). FurtherBy o r b) e (one_further r (word_kind_of b) b can (means b))
 
 -- ---- where a word may end, and where it goes on
 
@@ -166,7 +166,7 @@ text_when : (test : Bool) (w : Word) (bytes : List ℕ) → (test ≡ true → I
 text_when true w bytes f = f refl
 text_when false w bytes f = tt
 
-text_ended : (r : Reading) → CanBeRead r → TextBy (ended r) (spelled r)
+text_ended : (r : Reading) → CanBeRead r → TextBy (ended_word r) (spelled r)
 text_ended (Before w) can = tt
 text_ended (Count w c) can = text_when (nat_le c 1) (w ++ bare c ∷ []) (dotted w ++ decimal c)
     (λ h. subst (λ (z : List ℕ). IsTextOf (dotted w ++ z) (w ++ bare c ∷ [])) (append-nil (decimal c))
@@ -175,5 +175,5 @@ text_ended (Signs w m) can = text_when ((m.count - 1 - length m.signs) == 0) (w 
     (λ h. is_text w m can.0 (move_written m can.1 can.3 (omega (arith, eqb-true (m.count - 1 - length m.signs) 0 h))))
 
 -- where the reader says that a word may end, the bytes are a text of that word
-pub text_found : (r : Reading) (w : Word) → CanBeRead r → ended r ≡ Some w → IsTextOf (spelled r) w
+pub text_found : (r : Reading) (w : Word) → CanBeRead r → ended_word r ≡ Some w → IsTextOf (spelled r) w
 text_found r w can e = subst (λ (o : Option Word). TextBy o (spelled r)) e (text_ended r can)

@@ -1,5 +1,5 @@
 -- The text of a word.
--- Example (WordExamples): the text of the staircase is 2u.2eu.1e, that of one square 1.
+-- Example (WordExamples): the text of the word of [5,3][2,1][1] is 2u.2eu.1e, that of one square 1.
 use Rattle.std.specs.List.{AllByRecursion, join_with_byte}
 use Rattle.std.specs.Prelude.{List, decimal, length, map, min, ℕ, ◌++◌, ◌<◌, ◌≡◌, ◌≤◌}
 use Rattle.bk_grammar.specs.Longest.{LeavesAt}

@@ -12,39 +12,27 @@ impl Sign {
     pub fn is_above(self) -> bool
         ensures { result ≡ is_above self }
     {
-        match self {
-            Sign::Above => true,
-            Sign::Even | Sign::Under => false,
-        }
+        matches!(self, Sign::Above)
     }
 
     /// Whether both bottoms are level.
     pub fn is_even(self) -> bool
         ensures { result ≡ is_even self }
     {
-        match self {
-            Sign::Even => true,
-            Sign::Above | Sign::Under => false,
-        }
+        matches!(self, Sign::Even)
     }
 
     /// Whether the left one of the two bottoms is lower.
     pub fn is_under(self) -> bool
         ensures { result ≡ is_under self }
     {
-        match self {
-            Sign::Under => true,
-            Sign::Above | Sign::Even => false,
-        }
+        matches!(self, Sign::Under)
     }
 
     /// Whether the sign stays between two segments: the two bottoms aren't level.
     pub fn parts(self) -> bool
         ensures { result ≡ parts self }
     {
-        match self {
-            Sign::Even => false,
-            Sign::Above | Sign::Under => true,
-        }
+        !matches!(self, Sign::Even)
     }
 }

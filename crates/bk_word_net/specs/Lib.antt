@@ -1,9 +1,8 @@
 -- What the crate says.
 pub mod FlowTiling
+pub mod LaidOutline
 pub mod LaidTiling
 pub mod Realised
 pub mod Renumbering
 pub mod WordFlow
 pub mod WordNet
--- How its code keeps it.
-pub mod LaidOutline

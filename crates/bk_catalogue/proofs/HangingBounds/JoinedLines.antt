@@ -86,27 +86,26 @@ mark_joined lines signs s segments = cond_count-le_of_implies (list_any (on_line
     (or-monotone (list_any (on_line lines) s) (next_on_line lines segments) (list_any (on_line lines) s)
     (next_on_line lines (joined signs segments)) (λ e. e) (next_joined lines signs segments))
 
+-- where joining segments doesn't lower the bound, it doesn't behind a further segment and any sign
+joined_behind : (lines : List Bool) (x : Sign) (signs : List Sign) (s : List ℕ) (segments : List (List ℕ))
+    → bound lines signs segments ≤ bound lines (filter parts signs) (joined signs segments)
+    → bound lines (x ∷ signs) (s ∷ segments) ≤ bound lines (x ∷ filter parts signs) (s ∷ joined signs segments)
+joined_behind lines x signs s segments rest = omega (
+  arith,
+  rest,
+  unders-parts signs,
+  unders-cons x signs,
+  unders-cons x (filter parts signs),
+  mark_joined lines signs s segments,
+)
+
 -- joining segments at even signs doesn't lower it
 pub joined_bound : (lines : List Bool) (signs : List Sign) (segments : List (List ℕ))
     → bound lines signs segments ≤ bound lines (filter parts signs) (joined signs segments)
 joined_bound lines signs [] = omega arith
 joined_bound lines [] (s ∷ segments) = omega arith
-joined_bound lines (Above ∷ signs) (s ∷ segments) = omega (
-  arith,
-  joined_bound lines signs segments,
-  unders-parts signs,
-  unders-cons Above signs,
-  unders-cons Above (filter parts signs),
-  mark_joined lines signs s segments,
-)
-joined_bound lines (Under ∷ signs) (s ∷ segments) = omega (
-  arith,
-  joined_bound lines signs segments,
-  unders-parts signs,
-  unders-cons Under signs,
-  unders-cons Under (filter parts signs),
-  mark_joined lines signs s segments,
-)
+joined_bound lines (Above ∷ signs) (s ∷ segments) = joined_behind lines Above signs s segments (joined_bound lines signs segments)
+joined_bound lines (Under ∷ signs) (s ∷ segments) = joined_behind lines Under signs s segments (joined_bound lines signs segments)
 joined_bound lines (Even ∷ signs) (s ∷ segments) = omega (
   arith,
   joined_bound lines signs segments,

@@ -6,7 +6,7 @@ use Rattle.bk_tiling.proofs.TilingTest.{tiling_from_test}
 use Rattle.bk_tiling.specs.Tiling.{IsTiling, Tiling}
 use Rattle.bk_simple.specs.Simple.{IsPerfect, IsSimple}
 use Rattle.bk_sym.specs.Canonical.{IsCanonical}
-use Rattle.bk_sym.specs.declared.Turn.TheVariants.{FlipX, FlipY, Half, Same, Swap, SwapFlipX, SwapFlipY, SwapHalf}
+use Rattle.bk_sym.specs.declared.Turn.TheVariants.{Same}
 use Rattle.bk_word.proofs.WordExamples.{two}
 use Rattle.bk_word.specs.Word.{Word}
 use Rattle.bk_word.specs.declared.Class.TheVariants.{Imperfect, Perfect}

@@ -10,7 +10,7 @@ use Rattle.std.proofs.Math.Nat.{mul-le-mul_right}
 use Rattle.std.proofs.lemmas.List.{length-append}
 use Rattle.bk_laws.proofs.AllOfLists.{all_append}
 use Rattle.bk_laws.proofs.Powers.{power, some_power}
-use Rattle.bk_laws.proofs.Orderings.{greater-is_not_less}
+use Rattle.bk_laws.proofs.Orderings.{eq-from_equal_is_nat_cmp, greater-is_not_less, lt-from_nat_cmp}
 use Rattle.bk_word.specs.Outline.{Outline, has_left_wall, has_right_wall, open_side, start}
 use Rattle.bk_word.specs.Play.{AreLegalFrom, IsLegal, after_move}
 use Rattle.bk_word.specs.Word.{Follows, Move, Word, move_cmp, order_of, sign_cmp, sign_place}
@@ -48,26 +48,10 @@ module _ (A : Type 0) (order : A → A → Ordering) (rank : A → ℕ) (base : 
       cases Greater f g = absurd (greater-is_not_less (sym (ap (λ z. ordering_then z (slice_cmp order xs ys)) f) ∙ e))
 
 sign_up : (a b : Sign) → sign_cmp a b ≡ Less → sign_place a < sign_place b
-sign_up Above Above e = absurd (cc)
-sign_up Above Even e = omega arith
-sign_up Above Under e = omega arith
-sign_up Even Above e = absurd (cc)
-sign_up Even Even e = absurd (cc)
-sign_up Even Under e = omega arith
-sign_up Under Above e = absurd (cc)
-sign_up Under Even e = absurd (cc)
-sign_up Under Under e = absurd (cc)
+sign_up a b = lt-from_nat_cmp (sign_place a) (sign_place b)
 
 sign_level : (a b : Sign) → sign_cmp a b ≡ Equal → sign_place a ≡ sign_place b
-sign_level Above Above e = refl
-sign_level Above Even e = absurd (cc)
-sign_level Above Under e = absurd (cc)
-sign_level Even Above e = absurd (cc)
-sign_level Even Even e = refl
-sign_level Even Under e = absurd (cc)
-sign_level Under Above e = absurd (cc)
-sign_level Under Even e = absurd (cc)
-sign_level Under Under e = refl
+sign_level a b e = eq-from_equal_is_nat_cmp (sign_place a) (sign_place b) (sym e)
 
 sign_fits : (s : Sign) → sign_place s + 2 ≤ 4
 sign_fits Above = omega arith

@@ -140,120 +140,56 @@ module _ (low : Bool) (w : Word) (asks : Asks) (within : valley_place (outline_o
       ∙ sym (ap (λ (b : Bool). cond b (false ∷ []) (wide_first (first_count w) (drop (valley_place (outline_of w).signs + 1) (outline_of w).segments)
       (touched_or_wide (first_count w) (edges_on_lines w) (drop (valley_place (outline_of w).signs + 1) (outline_of w).segments)))) apart)) a
 
--- what the segments behind the valley ask for by the lists, with their own marks, is asked for behind it
-pub told_apart : (low : Bool) (w : Word) (signs : List Sign) (sizes : List ℕ) (place : ℕ) (asks : Asks) → signs ≡ (outline_of w).signs
-    → sizes ≡ sizes_of (outline_of w)
-    → place ≡ valley_place (outline_of w).signs → place + 1 < length signs → IsLegal w
-    → AreAsks low (slice_index_or signs (place + 1) Above ∷ drop (place + 1 + 1) signs) (slice_index_or sizes (place + 1) 0 ∷ drop (place + 1 + 1) sizes)
-    (slice_index_or (marks_of_word w) (place + 1) false ∷ drop (place + 1 + 1) (marks_of_word w)) asks → AreAskedBehind low
-    (behind_marks w) w asks
-told_apart low w signs sizes place asks es ez ep h legal a = asks_apart low w asks (omega (
-  arith,
-  h,
-  ep,
-  ap (λ
-      (l : List Sign). length l) es,
-)) legal
-    (asks_same low (slice_index_or signs (place + 1) Above ∷ drop (place + 1 + 1) signs) (drop (valley_place (outline_of w).signs + 1) (outline_of w).signs)
-    (slice_index_or sizes (place + 1) 0 ∷ drop (place + 1 + 1) sizes)
-    (slice_index_or (sizes_of (outline_of w)) (valley_place (outline_of w).signs + 1) 0 ∷ drop (valley_place (outline_of w).signs + 1 + 1) (sizes_of
-    (outline_of w)))
-    (slice_index_or (marks_of_word w) (place + 1) false ∷ drop (place + 1 + 1) (marks_of_word w))
-    (slice_index_or (marks_of_word w) ((valley_place (outline_of w).signs) + 1) false ∷ drop (valley_place (outline_of w).signs + 1 + 1)
-    (marks_of_word w)) asks
-    (sym (drop_more signs (place + 1) Above h) ∙ (λ i. drop (ep i + 1) (es i)))
-    (λ i. slice_index_or (ez i) (ep i + 1) 0 ∷ drop (ep i + 1 + 1) (ez i))
-    (λ i. slice_index_or (marks_of_word w) (ep i + 1) false ∷ drop (ep i + 1 + 1) (marks_of_word w)) a)
+-- whether the segment at a place is marked
+abbrev pub own_mark : Word → ℕ → Bool
+own_mark w place = slice_index_or (marks_of_word w) place false
 
--- what the one segment behind the valley asks for by the lists, with its own mark, is asked for behind it
-pub told_apart_last : (low : Bool) (w : Word) (signs : List Sign) (sizes : List ℕ) (place : ℕ) (asks : Asks) → signs ≡ (outline_of w).signs
-    → sizes ≡ sizes_of (outline_of w) → place ≡ valley_place (outline_of w).signs → place + 1 ≡ length signs → IsLegal w
-    → AreAsks low [] (slice_index_or sizes (place + 1) 0 ∷ []) (slice_index_or (marks_of_word w)
-    (place + 1) false ∷ []) asks → AreAskedBehind low (behind_marks w) w asks
-told_apart_last low w signs sizes place asks es ez ep h legal a = asks_apart low w asks (omega (
-  arith,
-  h,
-  ep,
-  ap (λ
-      (l : List Sign). length l) es,
-)) legal
-    (asks_same low [] (drop (valley_place (outline_of w).signs + 1) (outline_of w).signs) (slice_index_or sizes (place + 1) 0 ∷ [])
-    (slice_index_or (sizes_of (outline_of w)) (valley_place (outline_of w).signs + 1) 0 ∷ drop (valley_place (outline_of w).signs + 1 + 1) (sizes_of
-    (outline_of w)))
-    (slice_index_or (marks_of_word w) (place + 1) false ∷ [])
-    (slice_index_or (marks_of_word w) ((valley_place (outline_of w).signs) + 1) false ∷ drop (valley_place (outline_of w).signs + 1 + 1)
-    (marks_of_word w)) asks
-    (sym (drop_all (valley_place (outline_of w).signs + 1) (outline_of w).signs (omega (arith, h, ep, ap (λ (l : List Sign). length l) es))))
-    (λ i. slice_index_or (ez i) (ep i + 1) 0 ∷ sym (drop_all (valley_place (outline_of w).signs + 1 + 1) (sizes_of (outline_of w))
-    (omega (arith, h, ep, ap (λ (l : List Sign). length l) es, sizes_long w legal))) i)
-    (λ i. slice_index_or (marks_of_word w) (ep i + 1) false ∷ sym (drop_all (valley_place (outline_of w).signs + 1 + 1) (marks_of_word w)
-    (omega (
-      arith,
-      h,
-      ep,
-      ap (λ (l : List Sign). length l) es,
-      wide_long (first_count w) (edges_on_lines w) (outline_of w).segments,
-      (shape_of_word w legal).many,
-    ))) i) a)
+-- whether it is with a square more
+abbrev pub wider_mark : Word → ℕ → Bool
+wider_mark w place = slice_index_or (marks_of_word w) place false || nat_le (first_count w) (slice_index_or (sizes_of (outline_of w)) place 0 + 1)
 
--- what the segments behind the valley ask for by the lists, with a square more in the first, is asked for behind it
-pub told_joined : (low : Bool) (w : Word) (signs : List Sign) (sizes : List ℕ) (place : ℕ) (asks : Asks) → signs ≡ (outline_of w).signs
-    → sizes ≡ sizes_of (outline_of w)
-    → place ≡ valley_place (outline_of w).signs → place + 1 < length signs → IsLegal w
-    → AreAsks low (slice_index_or signs (place + 1) Above ∷ drop (place + 1 + 1) signs) (slice_index_or sizes (place + 1) 0 ∷ drop (place + 1 + 1) sizes)
-    ((slice_index_or (marks_of_word w) (place + 1) false || nat_le (first_count w) (slice_index_or (sizes_of (outline_of w))
-    (place + 1) 0 + 1)) ∷ drop (place + 1 + 1) (marks_of_word w)) asks → AreAskedBehind low (joined_marks w) w asks
-told_joined low w signs sizes place asks es ez ep h legal a = asks_joined low w asks (omega (
-  arith,
-  h,
-  ep,
-  ap (λ
-      (l : List Sign). length l) es,
-)) legal
-    (asks_same low (slice_index_or signs (place + 1) Above ∷ drop (place + 1 + 1) signs) (drop (valley_place (outline_of w).signs + 1) (outline_of w).signs)
-    (slice_index_or sizes (place + 1) 0 ∷ drop (place + 1 + 1) sizes)
-    (slice_index_or (sizes_of (outline_of w)) (valley_place (outline_of w).signs + 1) 0 ∷ drop (valley_place (outline_of w).signs + 1 + 1) (sizes_of
-    (outline_of w)))
-    ((slice_index_or (marks_of_word w) (place + 1) false || nat_le (first_count w) (slice_index_or (sizes_of (outline_of w))
-    (place + 1) 0 + 1)) ∷ drop (place + 1 + 1) (marks_of_word w))
-    ((slice_index_or (marks_of_word w) ((valley_place (outline_of w).signs) + 1) false || nat_le (first_count w) (slice_index_or (sizes_of
-    (outline_of w)) ((valley_place (outline_of w).signs) + 1) 0 + 1)) ∷ drop (valley_place (outline_of w).signs + 1 + 1) (marks_of_word w)) asks
-    (sym (drop_more signs (place + 1) Above h) ∙ (λ i. drop (ep i + 1) (es i)))
-    (λ i. slice_index_or (ez i) (ep i + 1) 0 ∷ drop (ep i + 1 + 1) (ez i))
-    (λ i. (slice_index_or (marks_of_word w) (ep i + 1) false || nat_le (first_count w) (slice_index_or (sizes_of (outline_of w))
-    (ep i + 1) 0 + 1)) ∷ drop (ep i + 1 + 1) (marks_of_word w)) a)
+module _ (low : Bool) (w : Word) (signs : List Sign) (sizes : List ℕ) (place : ℕ) (asks : Asks) (es : signs ≡ (outline_of w).signs)
+    (ez : sizes ≡ sizes_of (outline_of w)) (ep : place ≡ valley_place (outline_of w).signs) (legal : IsLegal w) where
+  -- the lists by which it is said what is asked for from a mark of the segment behind the valley on
+  abbrev asks_there : List Sign → List ℕ → Bool → List Bool → Type 0
+  asks_there behind more mark marks = AreAsks low behind (slice_index_or sizes (place + 1) 0 ∷ more) (mark ∷ marks) asks
 
--- what the one segment behind the valley asks for by the lists, with a square more, is asked for behind it
-pub told_joined_last : (low : Bool) (w : Word) (signs : List Sign) (sizes : List ℕ) (place : ℕ) (asks : Asks) → signs ≡ (outline_of w).signs
-    → sizes ≡ sizes_of (outline_of w) → place ≡ valley_place (outline_of w).signs → place + 1 ≡ length signs → IsLegal w
-    → AreAsks low [] (slice_index_or sizes (place + 1) 0 ∷ []) ((slice_index_or (marks_of_word w) (place + 1) false || nat_le (first_count w)
-    (slice_index_or (sizes_of (outline_of w)) (place + 1) 0 + 1)) ∷ []) asks → AreAskedBehind low (joined_marks w) w asks
-told_joined_last low w signs sizes place asks es ez ep h legal a = asks_joined low w asks (omega (
-  arith,
-  h,
-  ep,
-  ap (λ
-      (l : List Sign). length l) es,
-)) legal
-    (asks_same low [] (drop (valley_place (outline_of w).signs + 1) (outline_of w).signs) (slice_index_or sizes (place + 1) 0 ∷ [])
-    (slice_index_or (sizes_of (outline_of w)) (valley_place (outline_of w).signs + 1) 0 ∷ drop (valley_place (outline_of w).signs + 1 + 1) (sizes_of
-    (outline_of w)))
-    ((slice_index_or (marks_of_word w) (place + 1) false || nat_le (first_count w) (slice_index_or (sizes_of (outline_of w)) (place + 1) 0 + 1)) ∷ [])
-    ((slice_index_or (marks_of_word w) ((valley_place (outline_of w).signs) + 1) false || nat_le (first_count w) (slice_index_or (sizes_of
-    (outline_of w)) ((valley_place (outline_of w).signs) + 1) 0 + 1)) ∷ drop (valley_place (outline_of w).signs + 1 + 1) (marks_of_word w)) asks
-    (sym (drop_all (valley_place (outline_of w).signs + 1) (outline_of w).signs (omega (arith, h, ep, ap (λ (l : List Sign). length l) es))))
-    (λ i. slice_index_or (ez i) (ep i + 1) 0 ∷ sym (drop_all (valley_place (outline_of w).signs + 1 + 1) (sizes_of (outline_of w))
-    (omega (arith, h, ep, ap (λ (l : List Sign). length l) es, sizes_long w legal))) i)
-    (λ i. (slice_index_or (marks_of_word w) (ep i + 1) false || nat_le (first_count w) (slice_index_or (sizes_of (outline_of w))
-    (ep i + 1) 0 + 1)) ∷ sym (drop_all (valley_place (outline_of w).signs + 1 + 1) (marks_of_word w)
-    (omega (
-      arith,
-      h,
-      ep,
-      ap (λ (l : List Sign). length l) es,
-      wide_long (first_count w) (edges_on_lines w) (outline_of w).segments,
-      (shape_of_word w legal).many,
-    ))) i) a)
+  abbrev asks_of_word : Bool → Type 0
+  asks_of_word mark = AreAsks low (drop (valley_place (outline_of w).signs + 1) (outline_of w).signs)
+      (slice_index_or (sizes_of (outline_of w)) (valley_place (outline_of w).signs + 1) 0
+      ∷ drop (valley_place (outline_of w).signs + 1 + 1) (sizes_of (outline_of w)))
+      (mark ∷ drop (valley_place (outline_of w).signs + 1 + 1) (marks_of_word w)) asks
+
+  told : (mark : ℕ → Bool) (behind : List Sign) (more : List ℕ) (marks : List Bool) → behind ≡ drop (place + 1) signs → more ≡ drop (place + 1 + 1) sizes
+      → marks ≡ drop (place + 1 + 1) (marks_of_word w) → asks_there behind more (mark (place + 1)) marks
+      → asks_of_word (mark (valley_place (outline_of w).signs + 1))
+  told mark behind more marks eb em en a = asks_same low behind (drop (valley_place (outline_of w).signs + 1) (outline_of w).signs)
+      (slice_index_or sizes (place + 1) 0 ∷ more) (slice_index_or (sizes_of (outline_of w)) (valley_place (outline_of w).signs + 1) 0
+      ∷ drop (valley_place (outline_of w).signs + 1 + 1) (sizes_of (outline_of w))) (mark (place + 1) ∷ marks)
+      (mark (valley_place (outline_of w).signs + 1) ∷ drop (valley_place (outline_of w).signs + 1 + 1) (marks_of_word w)) asks
+      (eb ∙ (λ i. drop (ep i + 1) (es i)))
+      (ap (λ l. slice_index_or sizes (place + 1) 0 ∷ l) em ∙ (λ i. slice_index_or (ez i) (ep i + 1) 0 ∷ drop (ep i + 1 + 1) (ez i)))
+      (ap (λ l. mark (place + 1) ∷ l) en ∙ (λ i. mark (ep i + 1) ∷ drop (ep i + 1 + 1) (marks_of_word w))) a
+
+  -- what the one segment behind the valley asks for by the lists, with a mark of its own, the word does with that mark
+  pub told_last : place + 1 ≡ length signs → (mark : ℕ → Bool) → asks_there [] [] (mark (place + 1)) []
+      → asks_of_word (mark (valley_place (outline_of w).signs + 1))
+  told_last h mark = told mark [] [] [] (sym (drop_all (place + 1) signs (omega arith)))
+      (sym (drop_all (place + 1 + 1) sizes (omega (arith, h, ap length es, ap length ez, sizes_long w legal))))
+      (sym (drop_all (place + 1 + 1) (marks_of_word w) (omega (
+        arith,
+        h,
+        ap length es,
+        wide_long (first_count w) (edges_on_lines w) (outline_of w).segments,
+        (shape_of_word w legal).many,
+      ))))
+
+  -- so where more segments stand behind it
+  pub told_more : place + 1 < length signs → (mark : ℕ → Bool)
+      → asks_there (slice_index_or signs (place + 1) Above ∷ drop (place + 1 + 1) signs) (drop (place + 1 + 1) sizes) (mark (place + 1))
+      (drop (place + 1 + 1) (marks_of_word w)) → asks_of_word (mark (valley_place (outline_of w).signs + 1))
+  told_more h mark = told mark (slice_index_or signs (place + 1) Above ∷ drop (place + 1 + 1) signs) (drop (place + 1 + 1) sizes)
+      (drop (place + 1 + 1) (marks_of_word w)) (sym (drop_more signs (place + 1) Above h)) refl refl
 
 -- a segment that is marked, or has as many squares as the top with one more, is marked with a square more
 pub wide_mark : (w : Word) (place : ℕ)

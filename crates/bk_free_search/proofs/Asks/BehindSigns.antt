@@ -140,6 +140,18 @@ module _ (front : Word) (m : Move) (legal : IsLegal (front ++ m ∷ [])) where
     length-drop (valley_place (outline_of front).signs - 1 + length m.signs) (sizes_apart front m),
   )
 
+  marks_behind_long : length (drop (valley_place (outline_of front).signs - 1 + length m.signs) (marks_apart front m))
+      ≡ length (behind_sizes (outline_of front))
+  marks_behind_long = omega (
+    arith,
+    behind_long,
+    signs_long front m legal,
+    marks_long front m legal,
+    ap (λ (l : List Sign). length l) (signs_behind front m legal),
+    length-drop (valley_place (outline_of front).signs - 1 + length m.signs) (signs_apart (outline_of front) m),
+    length-drop (valley_place (outline_of front).signs - 1 + length m.signs) (marks_apart front m),
+  )
+
   -- what is asked for where the move has all its signs
   pub asked_with_all : (p : Passed) (low : Bool) (marks : List Bool) (asks : Asks)
       → IsCountedTo front m (valley_place (outline_of front).signs - 1 + length m.signs) p → p.low ≡ low
@@ -150,25 +162,8 @@ module _ (front : Word) (m : Move) (legal : IsLegal (front ++ m ∷ [])) where
   asked_with_all p low marks asks counted is_low same each asked = onto
       (all_told p (behind_signs (outline_of front)) (behind_sizes (outline_of front)) marks
       (drop (valley_place (outline_of front).signs - 1 + length m.signs) (marks_apart front m)) behind_long
-      (omega (
-        arith,
-        behind_long,
-        signs_long front m legal,
-        marks_long front m legal,
-        ap (λ (l : List Sign). length l) (signs_behind front m legal),
-        length-drop (valley_place (outline_of front).signs - 1 + length m.signs) (signs_apart (outline_of front) m),
-        length-drop (valley_place (outline_of front).signs - 1 + length m.signs) (marks_apart front m),
-      ))
-      (omega (
-        arith,
-        same,
-        behind_long,
-        signs_long front m legal,
-        marks_long front m legal,
-        ap (λ (l : List Sign). length l) (signs_behind front m legal),
-        length-drop (valley_place (outline_of front).signs - 1 + length m.signs) (signs_apart (outline_of front) m),
-        length-drop (valley_place (outline_of front).signs - 1 + length m.signs) (marks_apart front m),
-      ))
+      marks_behind_long
+      (same ∙ sym marks_behind_long)
       (λ t e. get_or-drop (valley_place (outline_of front).signs - 1 + length m.signs) (marks_apart front m) t false ∙ each t e))
     where
       same_pass : pass_along p (drop (valley_place (outline_of front).signs - 1 + length m.signs) (signs_apart (outline_of front) m))
@@ -211,20 +206,23 @@ module _ (front : Word) (m : Move) (legal : IsLegal (front ++ m ∷ [])) where
   pub behind_marks_long : length (behind_marks front) ≡ length (behind_sizes (outline_of front))
   behind_marks_long = cases (has_right_wall (outline_of front)) refl
     where
+      marks_by : (b : Bool) → has_right_wall (outline_of front) ≡ b → length (behind_marks front)
+          ≡ length (cond b (false ∷ []) (touched_or_wide (first_count front) (edges_on_lines front)
+          (drop (valley_place (outline_of front).signs + 1) (outline_of front).segments)))
+      marks_by b w = ap (λ (b : Bool). length (cond b (false ∷ []) (touched_or_wide (first_count front) (edges_on_lines front)
+          (drop (valley_place (outline_of front).signs + 1) (outline_of front).segments)))) w
+
+      sizes_by : (b : Bool) → has_right_wall (outline_of front) ≡ b → length (behind_sizes (outline_of front))
+          ≡ length (cond b (1 ∷ []) (map (λ (s : List ℕ). length s) (drop (valley_place (outline_of front).signs + 1) (outline_of front).segments)))
+      sizes_by b w = ap (λ (b : Bool). length (cond b (1 ∷ []) (map (λ (s : List ℕ). length s) (drop (valley_place (outline_of front).signs + 1)
+          (outline_of front).segments)))) w
+
       cases : (b : Bool) → has_right_wall (outline_of front) ≡ b → length (behind_marks front) ≡ length (behind_sizes (outline_of front))
-      cases true w = omega (
-        arith,
-        ap (λ (b : Bool). length (cond b (false ∷ []) (touched_or_wide (first_count front) (edges_on_lines front)
-            (drop (valley_place (outline_of front).signs + 1) (outline_of front).segments)))) w,
-        ap (λ (b : Bool). length (cond b (1 ∷ []) (map (λ (s : List ℕ). length s) (drop (valley_place (outline_of front).signs + 1)
-            (outline_of front).segments)))) w,
-      )
+      cases true w = omega (arith, marks_by true w, sizes_by true w)
       cases false w = omega (
         arith,
-        ap (λ (b : Bool). length (cond b (false ∷ []) (touched_or_wide (first_count front) (edges_on_lines front)
-            (drop (valley_place (outline_of front).signs + 1) (outline_of front).segments)))) w,
-        ap (λ (b : Bool). length (cond b (1 ∷ []) (map (λ (s : List ℕ). length s) (drop (valley_place (outline_of front).signs + 1)
-            (outline_of front).segments)))) w,
+        marks_by false w,
+        sizes_by false w,
         wide_long (first_count front) (edges_on_lines front) (drop (valley_place (outline_of front).signs + 1) (outline_of front).segments),
         length-map (drop (valley_place (outline_of front).signs + 1) (outline_of front).segments) (λ (s : List ℕ). length s),
       )

@@ -1,15 +1,17 @@
 -- The segment that a move of one square joins: the squares of the segment at the left of the valley, the new one, and those at its
 -- right, where the signs there are even; and that one segment is left where all signs are even and no others stand.
 use Rattle.std.specs.List.{list_any}
-use Rattle.std.proofs.Common.{List, Some, [], ap, arith, false, filter, inl, inr, length, length-append, map, refl, slice_get}
+use Rattle.std.proofs.Common.{List, Some, [], ap, arith, count_by, false, filter, inl, inr, length, length-append, map, refl, slice_get}
 use Rattle.std.proofs.Common.{sym, true, ℕ, ◌++◌}
 use Rattle.std.proofs.Common.{◌+◌, ◌-◌, ◌<◌, ◌∙◌, ◌∷◌, ◌≡◌, ◌≤◌, ◌⊎◌}
 use Rattle.std.proofs.lemmas.Bool.{both_ways}
+use Rattle.std.proofs.lemmas.List.Sums.{count_by-le-length}
 use Rattle.bk_laws.proofs.ListPlaces.{get_after, get_append}
 use Rattle.bk_laws.proofs.ListParts.{singletons-same_item}
 use Rattle.bk_laws.proofs.Outcomes.{some-injective}
 use Rattle.bk_word.specs.Outline.{IsLegalMove, Outline, start, valley_place}
 use Rattle.bk_word.specs.Play.{IsLegal, after_move, before_first_list, joined, new_squares, numbers_from, outline_of, parts}
+use Rattle.bk_word.specs.Signs.{is_even}
 use Rattle.bk_word.specs.Word.{Move, Word}
 use Rattle.bk_word.specs.declared.Sign.{Sign}
 use Rattle.bk_word.specs.declared.Sign.TheVariants.{Above, Even, Under}
@@ -18,6 +20,7 @@ use Rattle.bk_word_net.proofs.Outlines.MovedParts.{segments_after, signs_after}
 use Rattle.bk_word_net.proofs.Outlines.OutlineParts.{left_one, left_open, many_signs, right_one, right_open}
 use Rattle.bk_word_net.proofs.Outlines.Shape.{Shaped, shaped_move, shaped_moves, shaped_start, valley_in}
 use Rattle.bk_word_net.proofs.Outlines.ValleyCut.{AtValley}
+use Rattle.bk_layout.proofs.FreeCuts.SquaresLeft.{evens-cons}
 use Rattle.bk_free_search.specs.Joining.{JoinsLeft, JoinsRight}
 
 -- ---- which squares stand side by side
@@ -181,3 +184,10 @@ one_left w m word legal one many even = omega (
     none_part (Even ∷ signs) e = none_part signs e
     none_part (Above ∷ signs) e = absurd (both_ways true e refl)
     none_part (Under ∷ signs) e = absurd (both_ways true e refl)
+
+-- signs that are all even part no segments
+pub all_even : (signs : List Sign) → count_by is_even signs ≡ length signs → list_any parts signs ≡ false
+all_even [] e = refl
+all_even (Even ∷ signs) e = all_even signs (omega (arith, e, evens-cons Even signs))
+all_even (Above ∷ signs) e = absurd (omega (arith, e, evens-cons Above signs, count_by-le-length is_even signs))
+all_even (Under ∷ signs) e = absurd (omega (arith, e, evens-cons Under signs, count_by-le-length is_even signs))

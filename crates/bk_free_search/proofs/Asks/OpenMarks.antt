@@ -3,9 +3,11 @@ use Rattle.std.specs.List.{concat, list_any}
 use Rattle.std.proofs.Common.{Bool, List, [], ap, arith, drop, false, inl, inr, length, map, nat_le, refl, slice_index_or, suc, sum, sym, take, true, zero}
 use Rattle.std.proofs.Common.{ℕ, ◌||◌, ◌+◌}
 use Rattle.std.proofs.Common.{◌<◌, ◌∙◌, ◌∷◌, ◌≡◌, ◌≤◌, ◌⊎◌}
+use Rattle.std.proofs.lemmas.Bool.{cases_lt}
 use Rattle.std.proofs.lemmas.Bool.Decides.{nat_tests}
 use Rattle.std.proofs.lemmas.List.{drop-drop, drop_all, drop_more, get_or-drop, get_or-take, length-drop, length-map, length-take}
 use Rattle.std.proofs.lemmas.List.Folds.{list_any_at}
+use Rattle.bk_laws.proofs.ListItems.{slice_index_or-beyond}
 use Rattle.bk_laws.proofs.Sums.{sum-cons_first, sum-drop_past_end, sum-drop_step}
 use Rattle.bk_word.specs.Outline.{sizes_of}
 use Rattle.bk_word.specs.Play.{outline_of}
@@ -44,38 +46,22 @@ module _ (top : ℕ) (lines : List Bool) (sizes ends : List ℕ) where
   module _ (i start : ℕ) (h : IsAt top lines sizes ends i start) (low : i < length sizes) where
     -- the squares of the segment, and of the next one, lie within all of them
     pub two_fit : start + slice_index_or sizes i 0 + slice_index_or sizes (i + 1) 0 ≤ length ends
-    two_fit = cases (two (i + 1) (length sizes))
+    two_fit = cases (cases_lt (i + 1) (length sizes))
       where
-        two : (a b : ℕ) → (a < b) ⊎ (b ≤ a)
-        two a b = grind arith
-
-        out : (xs : List ℕ) (k : ℕ) → length xs ≤ k → slice_index_or xs k 0 ≡ 0
-        out [] k g = refl
-        out (x ∷ xs) zero g = absurd (omega (arith, g))
-        out (x ∷ xs) (suc k) g = out xs k (omega (arith, g))
-
         cases : (i + 1 < length sizes) ⊎ (length sizes ≤ i + 1) → start + slice_index_or sizes i 0 + slice_index_or sizes (i + 1) 0 ≤ length ends
         cases (inl g) = omega (arith, h.within, sum-drop_step sizes i low, sum-drop_step sizes (i + 1) g)
-        cases (inr g) = omega (arith, h.within, sum-drop_step sizes i low, out sizes (i + 1) g)
+        cases (inr g) = omega (arith, h.within, sum-drop_step sizes i low, slice_index_or-beyond sizes (i + 1) 0 g)
 
     begins : next_on_line lines (segments_of (drop (i + 1) sizes) (drop (start + slice_index_or sizes i 0) ends))
         ≡ begins_on_line lines (take (slice_index_or sizes (i + 1) 0) (drop (start + slice_index_or sizes i 0) ends))
-    begins = cases (two (i + 1) (length sizes))
+    begins = cases (cases_lt (i + 1) (length sizes))
       where
-        two : (a b : ℕ) → (a < b) ⊎ (b ≤ a)
-        two a b = grind arith
-
-        out : (xs : List ℕ) (k : ℕ) → length xs ≤ k → slice_index_or xs k 0 ≡ 0
-        out [] k g = refl
-        out (x ∷ xs) zero g = absurd (omega (arith, g))
-        out (x ∷ xs) (suc k) g = out xs k (omega (arith, g))
-
         cases : (i + 1 < length sizes) ⊎ (length sizes ≤ i + 1)
             → next_on_line lines (segments_of (drop (i + 1) sizes) (drop (start + slice_index_or sizes i 0) ends))
             ≡ begins_on_line lines (take (slice_index_or sizes (i + 1) 0) (drop (start + slice_index_or sizes i 0) ends))
         cases (inl g) = next_begins lines sizes (drop (start + slice_index_or sizes i 0) ends) (i + 1) g
         cases (inr g) = none_begins lines sizes (drop (start + slice_index_or sizes i 0) ends) (i + 1) g
-            ∙ sym (ap (λ k. begins_on_line lines (take k (drop (start + slice_index_or sizes i 0) ends))) (out sizes (i + 1) g))
+            ∙ sym (ap (λ k. begins_on_line lines (take k (drop (start + slice_index_or sizes i 0) ends))) (slice_index_or-beyond sizes (i + 1) 0 g))
 
     -- its mark
     mark_is : marks_by_lists top lines (drop i sizes) (drop start ends)

@@ -21,8 +21,7 @@ use Rattle.bk_free_search.specs.NodeLines.{Has, IsLineOfOne}
 use Rattle.bk_free_search.specs.Rights.{rights_of}
 use Rattle.bk_free_search.specs.declared.line_set.LineSet.{LineSet}
 use Rattle.bk_free_search.proofs.Asks.JoinedSegments.{IsJoined, is_joined}
-use Rattle.bk_free_search.proofs.Boards.LeftLines.{index_left}
-use Rattle.bk_free_search.proofs.Boards.RightLines.{index_right}
+use Rattle.bk_free_search.proofs.Boards.LeftLines.{index_side}
 
 -- a square that stands open was hung
 open_low : (w : Word) (k i a : ℕ) (s : List ℕ) → slice_get (outline_of w).segments k ≡ Some s → slice_get s i ≡ Some a → a - 1 < length (square_lines w)
@@ -128,10 +127,10 @@ module _ (w : Word) (m : Move) (word : IsLegal w) (legal : IsLegalMove (outline_
   -- ---- by sets of lines
 
   left_line : (number line : ℕ) → slice_index_or (lefts_of w) (number - 1) 0 ≡ line → line ≡ (sides_at (square_lines w) number).0
-  left_line number line e = sym (index_left (square_lines w) (number - 1) ∙ e)
+  left_line number line e = sym (index_side (λ s. s.0) (square_lines w) (number - 1) ∙ e)
 
   right_line : (number line : ℕ) → slice_index_or (rights_of w) (number - 1) 1 ≡ line → line ≡ (sides_at (square_lines w) number).1
-  right_line number line e = sym (index_right (square_lines w) (number - 1) ∙ e)
+  right_line number line e = sym (index_side (λ s. s.1) (square_lines w) (number - 1) ∙ e)
 
   before_share : (first second : ℕ) → IsLineOfOne (lefts_of w) left 0 first → TouchOneNode w first second → ShareBefore w left second
   before_share first second a touch = record {

@@ -10,7 +10,8 @@ use Rattle.bk_free_search.specs.Rights.{rights_of}
 abbrev move : ℕ → List Sign → Move
 move count signs = record { count = count; signs = signs }
 
-abbrev front : Word
+-- the word 3aa.2ue.1ea
+abbrev pub front : Word
 front = move 3 (Above ∷ Above ∷ []) ∷ move 2 (Under ∷ Even ∷ []) ∷ move 1 (Even ∷ Above ∷ []) ∷ []
 
 lefts : lefts_of front ≡ 0 ∷ 2 ∷ 3 ∷ 0 ∷ 5 ∷ 5 ∷ []
@@ -19,23 +20,14 @@ lefts = refl
 rights : rights_of front ≡ 2 ∷ 3 ∷ 1 ∷ 5 ∷ 2 ∷ 3 ∷ []
 rights = refl
 
-first : first_count front ≡ 3
-first = refl
+abbrev counts_of : Word → List ℕ
+counts_of w = first_count w ∷ left_squares w ∷ right_squares w ∷ []
 
-at_left : left_squares front ≡ 2
-at_left = refl
-
-at_right : right_squares front ≡ 1
-at_right = refl
+counts : counts_of front ≡ 3 ∷ 2 ∷ 1 ∷ []
+counts = refl
 
 abbrev before : Word
 before = move 3 (Above ∷ Above ∷ []) ∷ move 2 (Under ∷ Even ∷ []) ∷ []
 
-first_before : first_count before ≡ 3
-first_before = refl
-
-at_left_before : left_squares before ≡ 2
-at_left_before = refl
-
-at_right_before : right_squares before ≡ 1
-at_right_before = refl
+counts_before : counts_of before ≡ 3 ∷ 2 ∷ 1 ∷ []
+counts_before = refl

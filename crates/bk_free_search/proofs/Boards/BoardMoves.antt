@@ -16,8 +16,20 @@ use Rattle.bk_free_search.specs.Lefts.{IsLeftWord, first_left}
 use Rattle.bk_free_search.specs.Joining.{TouchOneOf}
 use Rattle.bk_free_search.specs.NodeLines.{AreNodeLines, Has, HasPair, IsBesideNew, IsBesideOneOf}
 use Rattle.bk_free_search.specs.Rights.{last_right, rights_of}
+use Rattle.bk_free_search.specs.declared.board.Board.TheInside.{Inside}
 use Rattle.bk_free_search.specs.declared.board.BoardOutline.{BoardOutline}
 use Rattle.bk_free_search.specs.declared.line_set.LineSet.{LineSet}
+
+-- what a board keeps, by its fields
+abbrev pub lists_of : Inside → BoardLists
+lists_of b = record {
+  lefts = b.lefts.items;
+  rights = b.rights.items;
+  nodes = b.nodes.items;
+  first = b.first;
+  left = b.left;
+  right = b.right;
+}
 
 -- what is known of a move that is played, by what the board keeps before and after it
 pub record IsPlayed (w : Word) (m : Move) (b after : BoardLists) : Type 0 where

@@ -13,14 +13,14 @@ use Rattle.bk_word_net.proofs.WordFlows.NoLoose.{Played, hung_number}
 use Rattle.bk_word_net.proofs.Outlines.Numbering.{Numbered}
 use Rattle.bk_layout.specs.LineNumbers.{sides_after, sides_at}
 use Rattle.bk_layout.specs.NodeCut.{TouchesClosed}
-use Rattle.bk_free_search.proofs.Boards.LeftLines.{index_left, lefts_in}
-use Rattle.bk_free_search.proofs.Boards.RightLines.{index_right, rights_in}
+use Rattle.bk_free_search.proofs.Boards.LeftLines.{index_side, lefts_in}
+use Rattle.bk_free_search.proofs.Boards.RightLines.{rights_in}
 use Rattle.bk_free_search.specs.NodeLines.{IsAtSquare, IsBesideNew, IsBesideOneOf}
 
 beside_pair : (sides : List (ℕ × ℕ)) (place line : ℕ) → IsAtSquare (lefts_in sides) (rights_in sides) (suc place) line
     → ((sides_at sides (suc place)).0 ≡ line) ⊎ ((sides_at sides (suc place)).1 ≡ line)
-beside_pair sides place line (inl e) = inl (index_left sides (suc place - 1) ∙ e)
-beside_pair sides place line (inr e) = inr (index_right sides (suc place - 1) ∙ e)
+beside_pair sides place line (inl e) = inl (index_side (λ s. s.0) sides (suc place - 1) ∙ e)
+beside_pair sides place line (inr e) = inr (index_side (λ s. s.1) sides (suc place - 1) ∙ e)
 
 -- it touches the lines beside the squares that end on it
 pub touch_valley : (o : Outline) (sides : List (ℕ × ℕ)) (m : Move) (line : ℕ) → Numbered o
@@ -68,8 +68,8 @@ touch_new o sides m line b = record {
 
 pair_beside : (sides : List (ℕ × ℕ)) (place line : ℕ) → ((sides_at sides (suc place)).0 ≡ line) ⊎ ((sides_at sides (suc place)).1 ≡ line)
     → IsAtSquare (lefts_in sides) (rights_in sides) (suc place) line
-pair_beside sides place line (inl e) = inl (sym (index_left sides (suc place - 1)) ∙ e)
-pair_beside sides place line (inr e) = inr (sym (index_right sides (suc place - 1)) ∙ e)
+pair_beside sides place line (inl e) = inl (sym (index_side (λ s. s.0) sides (suc place - 1)) ∙ e)
+pair_beside sides place line (inr e) = inr (sym (index_side (λ s. s.1) sides (suc place - 1)) ∙ e)
 
 -- a closed node touches only lines beside the squares that end on it, or beside those hung under it
 pub only_touch : (o : Outline) (sides : List (ℕ × ℕ)) (m : Move) (line : ℕ) → Played o

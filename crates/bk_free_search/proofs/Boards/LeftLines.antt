@@ -2,7 +2,7 @@
 use Rattle.std.proofs.Common.{List, [], ap, append_assoc, arith, drop, length, length-append, map, refl, slice_index_or, subst, suc, sym, take, zero}
 use Rattle.std.proofs.Common.{ℕ, ◌++◌, ◌+◌, ◌-◌, ◌<◌, ◌∙◌, ◌∷◌, ◌≡◌, ◌≤◌}
 use Rattle.std.proofs.Math.Seq.{take-append_seam}
-use Rattle.std.proofs.lemmas.List.{append-nil, map-append, take-append-drop}
+use Rattle.std.proofs.lemmas.List.{append-nil, length-map, map-append, take-append-drop}
 use Rattle.bk_word.specs.Outline.{IsLegalMove, Outline, start, valley_of}
 use Rattle.bk_word.specs.Play.{IsLegal, after_move, after_moves, numbers_from, outline_of}
 use Rattle.bk_word.specs.Word.{Move, Word, order_of}
@@ -28,16 +28,16 @@ new_lefts hung (suc count) left right =
     let f : suc hung + 2 ≡ hung + 2 + 1 = omega arith in
     ap (λ l. left ∷ l) (new_lefts (suc hung) count (suc (suc hung)) right ∙ (λ i. e i ∷ numbers_from (f i) count))
 
--- a left line at a place of the pairs is that at that place of the left lines
-pub index_left : (sides : List (ℕ × ℕ)) (k : ℕ) → (slice_index_or sides k (0, 1)).0 ≡ slice_index_or (lefts_in sides) k 0
-index_left [] k = refl
-index_left (s ∷ sides) zero = refl
-index_left (s ∷ sides) (suc k) = index_left sides k
+-- a line at one side at a place of the pairs is that at that place of the lines at this side
+pub index_side : (side : ℕ × ℕ → ℕ) (sides : List (ℕ × ℕ)) (k : ℕ) → side (slice_index_or sides k (0, 1)) ≡ slice_index_or (map side sides) k (side (0, 1))
+index_side side [] k = refl
+index_side side (s ∷ sides) zero = refl
+index_side side (s ∷ sides) (suc k) = index_side side sides k
 
 -- the left end of a segment is the left line of its first square in the list of left lines
 pub end_left : (sides : List (ℕ × ℕ)) (numbers : List ℕ) → left_end sides numbers ≡ first_left (lefts_in sides) numbers
 end_left sides [] = refl
-end_left sides (number ∷ numbers) = index_left sides (number - 1)
+end_left sides (number ∷ numbers) = index_side (λ s. s.0) sides (number - 1)
 
 -- ---- along moves
 
@@ -65,6 +65,30 @@ along_more o sides (m ∷ w) =
 
 -- ---- played and taken back
 
+-- after a move the lines are the old ones and those of its squares, which stand between the ends of the valley
+pub sides_more : (w : Word) (m : Move) → 0 < m.count → square_lines (w ++ m ∷ []) ≡ square_lines w
+    ++ new_sides (order_of w) (suc (m.count - 1)) (left_end (square_lines w) (valley_of (outline_of w))) (right_end (square_lines w) (valley_of (outline_of w)))
+sides_more w m some = along_append start [] w (m ∷ []) ∙ (λ i. square_lines w ++ new_sides (hung i) (count i)
+    (left_end (square_lines w) (valley_of (outline_of w))) (right_end (square_lines w) (valley_of (outline_of w))))
+  where
+    hung : length (outline_of w).hung ≡ order_of w
+    hung = omega (arith, hung_many start w)
+
+    count : m.count ≡ suc (m.count - 1)
+    count = omega (arith, some)
+
+-- the first lines at one side of the squares are those of the first moves
+pub sides_of_front : (side : ℕ × ℕ → ℕ) (front rest : Word)
+    → take (order_of front) (map side (square_lines (front ++ rest))) ≡ map side (square_lines front)
+sides_of_front side front rest =
+    let more = along_more (outline_of front) (square_lines front) rest in
+    let before = along_more start [] front in
+    let long : length (map side (square_lines front)) ≡ order_of front = length-map (square_lines front) side ∙ ap length before.1 ∙ before.2 in
+    ap (λ l. take (order_of front) (map side l)) (along_append start [] front rest ∙ more.1)
+    ∙ ap (take (order_of front)) (map-append side (square_lines front) more.0)
+    ∙ (λ i. take (sym long i) (map side (square_lines front) ++ map side more.0))
+    ∙ take-append_seam (map side (square_lines front)) (map side more.0)
+
 -- a word has as many left lines as squares
 pub left_count : (w : Word) (lefts : List ℕ) → IsLeftWord w lefts → length lefts ≡ order_of w
 left_count w lefts left = ap length left.lefts_are ∙ as_many_lefts w
@@ -75,44 +99,24 @@ pub left_more : (w more : Word) (lefts lefts_then : List ℕ) (m : Move) (first 
     → more ≡ w ++ m ∷ [] → lefts_then ≡ lefts ++ first ∷ numbers_from (order_of w + 2) (count - 1) → IsLeftWord more lefts_then
 left_more w more lefts lefts_then m first count left legal f same e are = record {
   legal = subst IsLegal (sym e) (legal-snoc start w m left.legal legal);
-  lefts_are = are ∙ (λ i. left.lefts_are i ++ (f ∙ first_is) i ∷ numbers_from (hung i + 2) (same i - 1)) ∙ ap (λ l. lefts_of w ++ l) (sym new)
-      ∙ sym (map-append (λ s. s.0) (square_lines w) new_ones)
-      ∙ ap lefts_in (sym (along_append start [] w (m ∷ []))) ∙ ap lefts_of (sym e);
+  lefts_are = are ∙ (λ i. left.lefts_are i ++ (f ∙ first_is) i ∷ numbers_from (order_of w + 2) (same i - 1))
+      ∙ ap (λ l. lefts_of w ++ l) (sym (new_lefts (order_of w) (m.count - 1) (left_end (square_lines w) (valley_of (outline_of w)))
+      (right_end (square_lines w) (valley_of (outline_of w)))))
+      ∙ sym (ap lefts_in (sides_more w m legal.some) ∙ map-append (λ s. s.0) (square_lines w) (new_sides (order_of w) (suc (m.count - 1))
+      (left_end (square_lines w) (valley_of (outline_of w))) (right_end (square_lines w) (valley_of (outline_of w)))))
+      ∙ ap lefts_of (sym e);
 }
   where
-    new_ones : List (ℕ × ℕ)
-    new_ones = new_sides (length (outline_of w).hung) m.count (left_end (square_lines w) (valley_of (outline_of w)))
-        (right_end (square_lines w) (valley_of (outline_of w)))
-
-    hung : order_of w ≡ length (outline_of w).hung
-    hung = omega (arith, hung_many start w)
-
     first_is : first_left lefts (valley_of (outline_of w)) ≡ left_end (square_lines w) (valley_of (outline_of w))
     first_is = ap (λ l. first_left l (valley_of (outline_of w))) left.lefts_are ∙ sym (end_left (square_lines w) (valley_of (outline_of w)))
-
-    one_less : m.count ≡ suc (m.count - 1)
-    one_less = omega (arith, legal.some)
-
-    new : lefts_in new_ones ≡ left_end (square_lines w) (valley_of (outline_of w)) ∷ numbers_from (length (outline_of w).hung + 2) (m.count - 1)
-    new = ap (λ k. lefts_in (new_sides (length (outline_of w).hung) k (left_end (square_lines w) (valley_of (outline_of w)))
-        (right_end (square_lines w) (valley_of (outline_of w))))) one_less
-        ∙ new_lefts (length (outline_of w).hung) (m.count - 1) (left_end (square_lines w) (valley_of (outline_of w)))
-        (right_end (square_lines w) (valley_of (outline_of w)))
-
-lefts_of_front : (front rest : Word) → take (order_of front) (lefts_of (front ++ rest)) ≡ lefts_of front
-lefts_of_front front rest =
-    let more = along_more (outline_of front) (square_lines front) rest in
-    ap (λ l. take (order_of front) (lefts_in l)) (along_append start [] front rest ∙ more.1)
-    ∙ ap (take (order_of front)) (map-append (λ s. s.0) (square_lines front) more.0)
-    ∙ (λ i. take (sym (as_many_lefts front) i) (lefts_of front ++ lefts_in more.0))
-    ∙ take-append_seam (lefts_of front) (lefts_in more.0)
 
 -- without its last move a word's left lines are the first ones, as many as the shorter word has squares
 pub left_less : (w front : Word) (lefts lefts_then : List ℕ) (order : ℕ) → IsLeftWord w lefts → front ≡ take (length w - 1) w → order ≡ order_of front
     → lefts_then ≡ take order lefts → IsLeftWord front lefts_then
 left_less w front lefts lefts_then order left e o f = subst (λ v. IsLeftWord v lefts_then) (sym e) (record {
   legal = legal_front start (take (length w - 1) w) (drop (length w - 1) w) (subst IsLegal whole left.legal);
-  lefts_are = f ∙ (λ i. take ((o ∙ ap order_of e) i) ((left.lefts_are ∙ ap lefts_of whole) i)) ∙ lefts_of_front (take (length w - 1) w) (drop (length w - 1) w);
+  lefts_are = f ∙ (λ i. take ((o ∙ ap order_of e) i) ((left.lefts_are ∙ ap lefts_of whole) i))
+      ∙ sides_of_front (λ s. s.0) (take (length w - 1) w) (drop (length w - 1) w);
 })
   where
     whole : w ≡ take (length w - 1) w ++ drop (length w - 1) w

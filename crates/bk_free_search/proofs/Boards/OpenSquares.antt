@@ -67,3 +67,9 @@ joined_right-are_squares w m squares (inr at) = segment-are_squares w (valley_pl
 -- squares of so many are squares of more
 pub are_squares-more : (numbers : List ℕ) (few many : ℕ) → few ≤ many → AreSquares numbers few → AreSquares numbers many
 are_squares-more numbers few many within are j below = ((are j below).0, omega (arith, within, (are j below).1))
+
+-- squares of a word have lines in a list that has as many as it has squares
+pub among_lines : (w v : Word) (squares lines read : List ℕ) → length lines ≡ order_of w → read ≡ lines → w ≡ v → AreSquares squares (order_of v)
+    → AreSquares squares (length read)
+among_lines w v squares lines read many are same h =
+    are_squares-more squares (order_of v) (length read) (omega (arith, many, ap length are, ap order_of same)) h

@@ -1,14 +1,12 @@
 -- The right lines of a word's squares, as a move is played and taken back.
 use Rattle.std.proofs.Common.{List, [], ap, append_assoc, arith, drop, length, map, refl, slice_index_or, suc, sym, take, zero, ℕ}
 use Rattle.std.proofs.Common.{◌++◌, ◌+◌, ◌-◌, ◌<◌, ◌∙◌, ◌∷◌, ◌≡◌}
-use Rattle.std.proofs.Math.Seq.{take-append_seam}
 use Rattle.std.proofs.lemmas.List.{length-map, map-append, take-append-drop}
 use Rattle.bk_word.specs.Outline.{IsLegalMove, start, valley_of}
 use Rattle.bk_word.specs.Play.{numbers_from, outline_of}
 use Rattle.bk_word.specs.Word.{Move, Word, order_of}
-use Rattle.bk_word_net.proofs.Outlines.Shape.{hung_many}
 use Rattle.bk_layout.specs.LineNumbers.{left_end, new_sides, right_end, square_lines}
-use Rattle.bk_free_search.proofs.Boards.LeftLines.{along_append, along_more}
+use Rattle.bk_free_search.proofs.Boards.LeftLines.{along_more, index_side, sides_more, sides_of_front}
 use Rattle.bk_free_search.specs.Rights.{last_right, rights_of}
 
 -- ---- one move
@@ -24,16 +22,10 @@ new_rights hung (suc count) left right =
     let f : suc hung + 2 ≡ hung + 2 + 1 = omega arith in
     ap (λ l. suc (suc hung) ∷ l) (new_rights (suc hung) count (suc (suc hung)) right) ∙ (λ i. e i ∷ (numbers_from (f i) count ++ right ∷ []))
 
--- a right line at a place of the pairs is that at that place of the right lines
-pub index_right : (sides : List (ℕ × ℕ)) (k : ℕ) → (slice_index_or sides k (0, 1)).1 ≡ slice_index_or (rights_in sides) k 1
-index_right [] k = refl
-index_right (s ∷ sides) zero = refl
-index_right (s ∷ sides) (suc k) = index_right sides k
-
 -- the right end of a segment is the right line of its last square in the list of right lines
 pub end_right : (sides : List (ℕ × ℕ)) (numbers : List ℕ) → right_end sides numbers ≡ last_right (rights_in sides) numbers
 end_right sides [] = refl
-end_right sides (number ∷ []) = index_right sides (number - 1)
+end_right sides (number ∷ []) = index_side (λ s. s.1) sides (number - 1)
 end_right sides (number ∷ next ∷ numbers) = end_right sides (next ∷ numbers)
 
 -- the last of some squares
@@ -58,42 +50,21 @@ pub right_more : (w : Word) (m : Move) (rights : List ℕ) (last count : ℕ) �
     → last ≡ last_right rights (valley_of (outline_of w)) → count ≡ m.count
     → rights ++ numbers_from (order_of w + 2) (count - 1) ++ last ∷ [] ≡ rights_of (w ++ m ∷ [])
 right_more w m rights last count legal are l same =
-    (λ i. are i ++ numbers_from (hung i + 2) (same i - 1) ++ (l ∙ last_is) i ∷ [])
-    ∙ append_assoc (rights_of w) (numbers_from (length (outline_of w).hung + 2) (m.count - 1)) (right_end (square_lines w) (valley_of (outline_of w)) ∷ [])
-    ∙ ap (λ r. rights_of w ++ r) (sym new) ∙ sym (map-append (λ s. s.1) (square_lines w) new_ones) ∙ ap rights_in (sym (along_append start [] w (m ∷ [])))
+    (λ i. are i ++ numbers_from (order_of w + 2) (same i - 1) ++ (l ∙ last_is) i ∷ [])
+    ∙ append_assoc (rights_of w) (numbers_from (order_of w + 2) (m.count - 1)) (right_end (square_lines w) (valley_of (outline_of w)) ∷ [])
+    ∙ ap (λ r. rights_of w ++ r) (sym (new_rights (order_of w) (m.count - 1) (left_end (square_lines w) (valley_of (outline_of w)))
+    (right_end (square_lines w) (valley_of (outline_of w)))))
+    ∙ sym (ap rights_in (sides_more w m legal.some) ∙ map-append (λ s. s.1) (square_lines w) (new_sides (order_of w) (suc (m.count - 1))
+    (left_end (square_lines w) (valley_of (outline_of w))) (right_end (square_lines w) (valley_of (outline_of w)))))
   where
-    new_ones : List (ℕ × ℕ)
-    new_ones = new_sides (length (outline_of w).hung) m.count (left_end (square_lines w) (valley_of (outline_of w)))
-        (right_end (square_lines w) (valley_of (outline_of w)))
-
-    hung : order_of w ≡ length (outline_of w).hung
-    hung = omega (arith, hung_many start w)
-
     last_is : last_right rights (valley_of (outline_of w)) ≡ right_end (square_lines w) (valley_of (outline_of w))
     last_is = ap (λ r. last_right r (valley_of (outline_of w))) are ∙ sym (end_right (square_lines w) (valley_of (outline_of w)))
-
-    one_less : m.count ≡ suc (m.count - 1)
-    one_less = omega (arith, legal.some)
-
-    new : rights_in new_ones ≡ numbers_from (length (outline_of w).hung + 2) (m.count - 1) ++ right_end (square_lines w) (valley_of (outline_of w)) ∷ []
-    new = ap (λ k. rights_in (new_sides (length (outline_of w).hung) k (left_end (square_lines w) (valley_of (outline_of w)))
-        (right_end (square_lines w) (valley_of (outline_of w))))) one_less
-        ∙ new_rights (length (outline_of w).hung) (m.count - 1) (left_end (square_lines w) (valley_of (outline_of w)))
-        (right_end (square_lines w) (valley_of (outline_of w)))
-
-rights_of_front : (front rest : Word) → take (order_of front) (rights_of (front ++ rest)) ≡ rights_of front
-rights_of_front front rest =
-    let more = along_more (outline_of front) (square_lines front) rest in
-    ap (λ l. take (order_of front) (rights_in l)) (along_append start [] front rest ∙ more.1)
-    ∙ ap (take (order_of front)) (map-append (λ s. s.1) (square_lines front) more.0)
-    ∙ (λ i. take (sym (as_many_rights front) i) (rights_of front ++ rights_in more.0))
-    ∙ take-append_seam (rights_of front) (rights_in more.0)
 
 -- without its last move a word's right lines are the first ones, as many as the shorter word has squares
 pub right_less : (w front : Word) (rights rights_then : List ℕ) (order : ℕ) → rights ≡ rights_of w → front ≡ take (length w - 1) w
     → order ≡ order_of front → rights_then ≡ take order rights → rights_then ≡ rights_of front
 right_less w front rights rights_then order are e o f =
-    f ∙ (λ i. take ((o ∙ ap order_of e) i) ((are ∙ ap rights_of whole) i)) ∙ rights_of_front (take (length w - 1) w) (drop (length w - 1) w)
+    f ∙ (λ i. take ((o ∙ ap order_of e) i) ((are ∙ ap rights_of whole) i)) ∙ sides_of_front (λ s. s.1) (take (length w - 1) w) (drop (length w - 1) w)
     ∙ ap rights_of (sym e)
   where
     whole : w ≡ take (length w - 1) w ++ drop (length w - 1) w

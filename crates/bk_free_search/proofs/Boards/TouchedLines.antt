@@ -1,8 +1,10 @@
 -- The lines that closed nodes touch, as a move is played and taken back.
-use Rattle.std.proofs.Common.{List, Some, [], ap, arith, drop, inl, inr, length, length-append, refl, slice_get, subst, suc, sym, take, zero, ℕ, ◌++◌, ◌-◌, ◌<◌}
-use Rattle.std.proofs.Common.{◌∙◌, ◌∷◌, ◌≡◌, ◌≤◌, ◌⊎◌}
+use Rattle.std.proofs.Common.{List, Some, [], ap, arith, bit_and, drop, inl, inr, length, length-append, refl, slice_get, subst, suc, sym, take, zero, ℕ}
+use Rattle.std.proofs.Common.{◌++◌, ◌-◌, ◌<◌, ◌∙◌, ◌∷◌, ◌≡◌, ◌≤◌, ◌⊎◌}
+use Rattle.std.specs.Int.{bit_at}
 use Rattle.std.proofs.lemmas.List.{take-append-drop}
 use Rattle.std.proofs.lemmas.Option.{slice_get_within}
+use Rattle.bk_laws.proofs.Bits.{bit_at-and_left, bit_at-and_right}
 use Rattle.bk_laws.proofs.ListPlaces.{get_last, slice_get-append_front_back}
 use Rattle.bk_laws.proofs.Outcomes.{some-injective}
 use Rattle.bk_word.specs.Outline.{Outline, start, valley_of}
@@ -177,3 +179,11 @@ nodes_less w front nodes before some are e f = cases (drop (length w - 1) w) ref
       ap (λ (v : Word). length v) (whole ∙ ap (λ v. front ++ v) g),
       length-append front (m ∷ n ∷ rest),
     ))
+
+-- a line of a set that a mask without some line leaves is in the set, and isn't that one
+pub masked_line : (bits mask without line : ℕ) → bit_at mask without ≡ 0 → bit_at (bit_and bits mask) line ≡ 1
+    → (bit_at bits line ≡ 1) × (line ≡ without → ⊥)
+masked_line bits mask without line none has = (
+  bit_at-and_left bits mask line has,
+  λ e. absurd (omega (arith, none, subst (λ (k : ℕ). bit_at mask k ≡ 1) e (bit_at-and_right bits mask line has))),
+)

@@ -8,8 +8,10 @@ use Rattle.bk_laws.proofs.Sums.{sum-map_length, sum-take_and_next_le, sum-take_o
 use Rattle.bk_word.proofs.PlayLists.{place_within}
 use Rattle.bk_word.specs.Outline.{sizes_of, valley_of, valley_place}
 use Rattle.bk_word.specs.Play.{IsLegal, outline_of}
-use Rattle.bk_word.specs.Word.{Word}
+use Rattle.bk_word.specs.Word.{Word, order_of}
+use Rattle.bk_word.specs.declared.Sign.{Sign}
 use Rattle.bk_catalogue.proofs.HangingBounds.BoundsOfWords.{sizes_long}
+use Rattle.bk_free_search.proofs.NextWords.Cutting.{few_signs_open}
 use Rattle.bk_free_search.proofs.Boards.OpenSegments.{segment_read}
 use Rattle.bk_play.specs.SmallSkeleton.{IsValleyPlace}
 use Rattle.bk_play.specs.declared.small.ValleyPlace.{ValleyPlace}
@@ -17,6 +19,30 @@ use Rattle.bk_play.specs.declared.small.ValleyPlace.{ValleyPlace}
 -- the places of a valley of equal words
 pub valley_of_equal : (w v : Word) (place : ValleyPlace) → w ≡ v → IsValleyPlace w place → IsValleyPlace v place
 valley_of_equal w v place same is = subst (λ u. IsValleyPlace u place) same is
+
+-- the valley's place is not behind the signs, as a skeleton shows them
+pub valley_low : {w skel : Word} {signs : List Sign} {place : ℕ} → skel ≡ w → signs ≡ (outline_of skel).signs → place ≡ valley_place (outline_of w).signs
+    → place ≤ length signs
+valley_low {w = w} same are is =
+    omega (arith, is, place_within (outline_of w).signs, ap length are, ap (λ (v : Word). length (outline_of v).signs) same)
+
+-- a valley of at most 16 squares has a small place
+pub place_few : {w skel : Word} {signs : List Sign} {place : ℕ} → IsLegal skel → skel ≡ w → signs ≡ (outline_of skel).signs → order_of w ≤ 16
+    → place ≡ valley_place (outline_of w).signs → place ≤ 32
+place_few {skel = skel} legal same are few is =
+    omega (arith, few, valley_low same are is, few_signs_open skel legal, ap order_of same, ap length are)
+
+-- where the valley stands at no right wall, the next place is that of a segment
+pub right_low : {w : Word} {signs : List Sign} {sizes : List ℕ} {v : ValleyPlace} → IsLegal w → signs ≡ (outline_of w).signs → sizes ≡ sizes_of (outline_of w)
+    → IsValleyPlace w v → (v.place ≡ length signs → ⊥) → v.place + 1 < length sizes
+right_low {w = w} legal are sizes_are is apart = omega (
+  arith,
+  apart,
+  valley_low {w = w} refl are is.stands.place_is,
+  sizes_long w legal,
+  ap length sizes_are,
+  ap length are,
+)
 
 module _ (w : Word) (legal : IsLegal w) (sizes ends : List ℕ) (s : sizes ≡ sizes_of (outline_of w)) (e : ends ≡ concat (outline_of w).segments)
     (v : ValleyPlace) (is : IsValleyPlace w v) where
@@ -30,17 +56,12 @@ module _ (w : Word) (legal : IsLegal w) (sizes ends : List ℕ) (s : sizes ≡ s
   end_sum : v.end ≡ v.start + slice_index_or sizes v.place 0
   end_sum = is.end_is ∙ ap (λ l. v.start + slice_index_or l v.place 0) (sym s)
 
+  ends_many : length ends ≡ sum sizes
+  ends_many = omega (arith, ap length e, sum-map_length (outline_of w).segments, ap sum s)
+
   -- the valley ends within the list of the squares at the bottom
   pub ends_within : v.end ≤ length ends
-  ends_within = omega (
-    arith,
-    sum-take_and_next_le sizes v.place place_low,
-    start_sum,
-    end_sum,
-    sum-map_length (outline_of w).segments,
-    ap sum s,
-    ap length e,
-  )
+  ends_within = omega (arith, sum-take_and_next_le sizes v.place place_low, start_sum, end_sum, ends_many)
 
   -- the valley's squares
   pub valley_read : take (v.end - v.start) (drop v.start ends) ≡ valley_of (outline_of w)
@@ -84,9 +105,7 @@ module _ (w : Word) (legal : IsLegal w) (sizes ends : List ℕ) (s : sizes ≡ s
     sum-take_one_more sizes v.place place_low,
     start_sum,
     end_sum,
-    sum-map_length (outline_of w).segments,
-    ap sum s,
-    ap length e,
+    ends_many,
   )
 
   -- the segment at the valley's right is read from the list of squares, from the valley's end on

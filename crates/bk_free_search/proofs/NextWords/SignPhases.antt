@@ -4,7 +4,7 @@ use Rattle.std.proofs.Common.{List, [], ap, append_assoc, arith, count_by, false
 use Rattle.std.proofs.Common.{◌++◌, ◌+◌, ◌<◌, ◌∙◌, ◌∷◌, ◌≡◌, ◌≤◌}
 use Rattle.std.proofs.lemmas.List.{length-append}
 use Rattle.std.proofs.lemmas.List.Sums.{count_by-le-length}
-use Rattle.bk_word.specs.Outline.{IsLegalMove, has_left_wall, has_right_wall, open_side}
+use Rattle.bk_word.specs.Outline.{IsLegalMove, has_left_wall, open_side}
 use Rattle.bk_word.specs.Play.{outline_of}
 use Rattle.bk_word.specs.Signs.{is_even}
 use Rattle.bk_word.specs.Word.{Move, Word}
@@ -16,9 +16,10 @@ use Rattle.bk_free_search.proofs.Asks.AskedSigns.{begun_is_barred}
 use Rattle.bk_free_search.proofs.NextWords.Cutting.{above_is_barred, even_is_barred, normal, turned_is_barred}
 use Rattle.bk_free_search.proofs.Asks.EvenSigns.{evens_append, side_few, signs_lack_evens}
 use Rattle.bk_free_search.proofs.NextWords.NextMoves.{next_fertile}
+use Rattle.bk_free_search.proofs.NextWords.TurnsTaken.{wanted_few}
 use Rattle.bk_free_search.specs.AskedSigns.{BarsNext, BarsSigns, IsAsked, IsMoveBegun, IsNextCount, IsWithOwn}
 use Rattle.bk_free_search.specs.AskedSigns.{NeedsLeft, StandBeside}
-use Rattle.bk_free_search.specs.Sought.{GoesOnBy}
+use Rattle.bk_free_search.specs.Sought.{GoesOnBy, IsNextMove}
 use Rattle.bk_free_search.proofs.Asks.AskedNext.{few_up}
 use Rattle.bk_free_search.specs.Strong.{IsFewPassed}
 use Rattle.bk_free_search.specs.declared.asking.Asked.{Asked}
@@ -144,11 +145,15 @@ pub none_missing : {s : Search} {b : Begun} {around : Beside} → IsMoveBegun s 
 none_missing begun own wall =
     omega (arith, own, begun.next_is.own_is, begun.next_is.wanted_is, ap open_side begun.around_is.right_is, ap open_side wall)
 
--- a move with all its signs is legal
-pub whole_is_legal : {s : Search} {b : Begun} {around : Beside} (m : Move) → IsMoveBegun s b around → m.count ≡ b.m.count
-    → length m.signs ≡ b.next.wanted → IsLegalMove (outline_of s.board) m
-whole_is_legal m begun count whole =
-    record { some = omega (arith, begun.some, count); signs = omega (arith, begun.next_is.wanted_is, whole, count) }
+-- a move with all its signs is a legal next one
+pub whole_is_next : {s : Search} {b : Begun} {around : Beside} (m : Move) → IsMoveBegun s b around → m.count ≡ b.m.count
+    → length m.signs ≡ b.next.wanted → IsNextMove s.order s.board m
+whole_is_next m begun count whole = record {
+  least = begun.least;
+  most = begun.most;
+  few = omega (arith, begun.fits, count);
+  legal = record { some = omega (arith, begun.some, count); signs = omega (arith, begun.next_is.wanted_is, whole, count) };
+}
 
 -- what is barred as the first sign
 pub bars_first : (n : ℕ) (front : Word) (count : ℕ) (signs : List Sign) (sign : Sign) → signs ≡ [] → BarsSigns n front count (sign ∷ [])
@@ -168,27 +173,9 @@ own_turned_is_barred {s = s} {b = b} begun low even = own_above_is_barred s.orde
 
 -- the numbers that are counted are small
 pub few_now : {s : Search} {b : Begun} {around : Beside} {asked : Asked} (k : ℕ) → IsWithOwn s b around asked → FEW + 30 ≤ k → IsFewPassed asked.passed k
-few_now {s = s} {b = b} {asked = asked} k is many = few_up asked.passed (FEW + length b.m.signs) k (omega (
-  arith,
-  many,
-  is.begun.signs,
-  is.begun.next_is.wanted_is,
-  is.begun.fits,
-  is.begun.most,
-  side_few (has_left_wall (outline_of s.board)),
-  side_few (has_right_wall (outline_of s.board)),
-)) is.asked_is.few
+few_now {b = b} {asked = asked} k is many =
+    few_up asked.passed (FEW + length b.m.signs) k (omega (arith, many, is.begun.signs, wanted_few is.begun)) is.asked_is.few
 
 -- of the signs that a next move has so far few are even
 pub evens_now : {s : Search} {b : Begun} {around : Beside} {asked : Asked} → IsWithOwn s b around asked → asked.evens ≤ MANY
-evens_now {s = s} {b = b} is = omega (
-  arith,
-  is.asked_is.evens_are,
-  count_by-le-length is_even b.m.signs,
-  is.begun.signs,
-  is.begun.next_is.wanted_is,
-  is.begun.fits,
-  is.begun.most,
-  side_few (has_left_wall (outline_of s.board)),
-  side_few (has_right_wall (outline_of s.board)),
-)
+evens_now {b = b} is = omega (arith, is.asked_is.evens_are, count_by-le-length is_even b.m.signs, is.begun.signs, wanted_few is.begun)

@@ -19,9 +19,10 @@ as_before : (P : Search → Begun → Type 0) {s t : Search} {a b : Begun} → I
 as_before P {s = s} {t = t} {a = a} {b = b} same p =
     subst (λ (x : Search). P x b) (sym same.search) (subst (λ (x : Begun). P s x) (sym same.begun) p)
 
--- if a number falls and a claim holds, they do for a search and a move begun that are as they were
-pub handed_on : {W : Type 0} (F P : Search → Begun → Type 0) {s t : Search} {a b : Begun} → IsUnchanged s a t b → F s a → W → P s a → F t b × (W × P t b)
-handed_on F P same falls within p = (as_before F same falls, (within, as_before P same p))
+-- if a number falls and a claim holds, they do for a search and a move begun that are as they were, with what follows from the claim
+pub handed_on : {W Q : Type 0} (F P : Search → Begun → Type 0) {s t : Search} {a b : Begun} → IsUnchanged s a t b → F s a → W → P s a → (P t b → Q)
+    → F t b × (W × Q)
+handed_on F P same falls within p follows = (as_before F same falls, (within, follows (as_before P same p)))
 
 -- a search and a move begun that nothing touches are as they were
 pub untouched : (s : Search) (b : Begun) → IsUnchanged s b s b
@@ -68,17 +69,20 @@ begun_with {s = s} {b = b} c sign begun count signs next low = record {
 pub own_few : {s : Search} {b : Begun} {around : Beside} → IsMoveBegun s b around → b.next.own ≤ b.m.count
 own_few {s = s} begun = omega (arith, begun.next_is.own_is, side_few (has_left_wall (outline_of s.board)))
 
--- no sign is too many for a small move
-pub room_for_sign : {s : Search} {b : Begun} {around : Beside} → IsMoveBegun s b around → length b.m.signs < b.next.wanted → length b.m.signs < 17
-room_for_sign {s = s} begun low = omega (
+-- a move that is begun wants few signs
+pub wanted_few : {s : Search} {b : Begun} {around : Beside} → IsMoveBegun s b around → b.next.wanted ≤ 16
+wanted_few {s = s} begun = omega (
   arith,
-  low,
   begun.fits,
   begun.most,
   begun.next_is.wanted_is,
   side_few (has_left_wall (outline_of s.board)),
   side_few (has_right_wall (outline_of s.board)),
 )
+
+-- no sign is too many for a small move
+pub room_for_sign : {s : Search} {b : Begun} {around : Beside} → IsMoveBegun s b around → length b.m.signs < b.next.wanted → length b.m.signs < 17
+room_for_sign begun low = omega (arith, low, wanted_few begun)
 
 -- the sign at a left neighbour is one of the move's own
 pub first_fits : {s : Search} {b : Begun} {around : Beside} → IsMoveBegun s b around → b.m.signs ≡ [] → has_left_wall (outline_of s.board) ≡ false

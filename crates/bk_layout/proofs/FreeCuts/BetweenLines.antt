@@ -56,6 +56,18 @@ module _ (t : Tiling) (tiling : IsTiling t) (simple : IsSimple t) where
           ∙ ap (λ (n : ℕ). line_number t n upper.level) same
           ∙ passes t tiling g z u v upper lower c d upper.level (omega arith) high))
 
+  -- lines in one column that touch two nodes of one level, of which the second doesn't begin before the first ends, are one
+  one_line : (f g u v : ℕ) (first : IsNode t u) (second : IsNode t v) (x z : ℕ) → IsMark t f x u first → IsMark t f x v second
+      → IsMark t g z u first → IsMark t g z v second → first.level ≡ second.level → z ≡ x → first.right ≤ second.left → f ≡ g
+  one_line f g u v first second x z a b c d level same order = number_there t tiling x u v first second level end begin f u first refl a
+      ∙ sym (number_there t tiling x u v first second level end begin g u first refl (subst (λ (i : ℕ). IsMark t g i u first) same c))
+    where
+      end : first.right ≡ x
+      end = omega (arith, order, a.to_right, b.from_left)
+
+      begin : second.left ≡ x
+      begin = omega (arith, order, a.to_right, b.from_left)
+
   -- two nodes of one level that both lines touch are one, or the lines are
   pub level_nodes : (f g u v : ℕ) (first : IsNode t u) (second : IsNode t v) (x z : ℕ) → IsMark t f x u first → IsMark t f x v second
       → IsMark t g z u first → IsMark t g z v second → first.level ≡ second.level → (f ≡ g → ⊥) → (u ≡ v → ⊥) → ⊥
@@ -77,25 +89,5 @@ module _ (t : Tiling) (tiling : IsTiling t) (simple : IsSimple t) where
       cases (inl h) k m n = over x a.from_left (omega (arith, h, c.to_right)) b.from_left (omega (arith, h, d.to_right))
       cases (inr h) (inl k) m n = over z c.from_left (omega (arith, k, a.to_right)) d.from_left (omega (arith, k, b.to_right))
       cases (inr h) (inr k) (inl m) (inl n) = meeting m n
-      cases (inr h) (inr k) (inr m) n = lines (number_there t tiling x u v first second level end begin f u first refl a
-          ∙ sym (number_there t tiling x u v first second level end begin g u first refl (subst (λ (i : ℕ). IsMark t g i u first) same c)))
-        where
-          same : z ≡ x
-          same = omega arith
-
-          end : first.right ≡ x
-          end = omega (arith, m, a.to_right, b.from_left)
-
-          begin : second.left ≡ x
-          begin = omega (arith, m, a.to_right, b.from_left)
-      cases (inr h) (inr k) (inl m) (inr n) = lines (number_there t tiling x v u second first (sym level) end begin f v second refl b
-          ∙ sym (number_there t tiling x v u second first (sym level) end begin g v second refl (subst (λ (i : ℕ). IsMark t g i v second) same d)))
-        where
-          same : z ≡ x
-          same = omega arith
-
-          end : second.right ≡ x
-          end = omega (arith, n, b.to_right, a.from_left)
-
-          begin : first.left ≡ x
-          begin = omega (arith, n, b.to_right, a.from_left)
+      cases (inr h) (inr k) (inr m) n = lines (one_line f g u v first second x z a b c d level (omega (arith, h, k)) m)
+      cases (inr h) (inr k) (inl m) (inr n) = lines (one_line f g v u second first x z b a d c (sym level) (omega (arith, h, k)) n)

@@ -81,9 +81,10 @@ module _ (n : ℕ) (front : Word) (s : ShareANode front) (l : Layout) (w rest : 
   right_is : l.right (word.square (s.b - 1)) ≡ numbered_line l word.square (sides_at (square_lines front) s.b).1
   right_is = (lines_at s.b (omega (arith, b_low.0, b_low.1))).1
 
-  beside : (line : ℕ) (t : TouchesClosed (outline_of front) (square_lines front) line s.node)
-      → (l.left (word.square t.place) ≡ numbered_line l word.square line) ⊎ (l.right (word.square t.place) ≡ numbered_line l word.square line)
-  beside line t = cases t.beside
+  -- a square that touches a closed node beside a line has the line that the number stands for
+  beside : (line m : ℕ) (t : TouchesClosed (outline_of front) (square_lines front) line s.node) → m ≡ numbered_line l word.square line
+      → (l.left (word.square t.place) ≡ m) ⊎ (l.right (word.square t.place) ≡ m)
+  beside line m t is_m = cases t.beside
     where
       place : suc t.place - 1 ≡ t.place
       place = omega arith
@@ -93,31 +94,16 @@ module _ (n : ℕ) (front : Word) (s : ShareANode front) (l : Layout) (w rest : 
       at = lines_at (suc t.place) (omega (arith, (t.at).within))
 
       cases : ((sides_at (square_lines front) (suc t.place)).0 ≡ line) ⊎ ((sides_at (square_lines front) (suc t.place)).1 ≡ line)
-          → (l.left (word.square t.place) ≡ numbered_line l word.square line) ⊎ (l.right (word.square t.place) ≡ numbered_line l word.square line)
-      cases (inl e) = inl (ap (λ (k : ℕ). l.left (word.square k)) (sym place) ∙ at.0 ∙ ap (numbered_line l word.square) e)
-      cases (inr e) = inr (ap (λ (k : ℕ). l.right (word.square k)) (sym place) ∙ at.1 ∙ ap (numbered_line l word.square) e)
-
-  onto : (m line other : ℕ) → m ≡ line → other ≡ line → other ≡ m
-  onto m line other e f = f ∙ sym e
+          → (l.left (word.square t.place) ≡ m) ⊎ (l.right (word.square t.place) ≡ m)
+      cases (inl e) = inl (ap (λ (k : ℕ). l.left (word.square k)) (sym place) ∙ at.0 ∙ ap (numbered_line l word.square) e ∙ sym is_m)
+      cases (inr e) = inr (ap (λ (k : ℕ). l.right (word.square k)) (sym place) ∙ at.1 ∙ ap (numbered_line l word.square) e ∙ sym is_m)
 
   beside_left : (l.left (word.square (s.left).place) ≡ l.left (word.square (s.a - 1))) ⊎ (l.right (word.square (s.left).place) ≡ l.left (word.square (s.a - 1)))
-  beside_left = cases (beside (sides_at (square_lines front) s.a).0 s.left)
-    where
-      cases : (l.left (word.square (s.left).place) ≡ numbered_line l word.square (sides_at (square_lines front) s.a).0)
-          ⊎ (l.right (word.square (s.left).place) ≡ numbered_line l word.square (sides_at (square_lines front) s.a).0)
-          → (l.left (word.square (s.left).place) ≡ l.left (word.square (s.a - 1))) ⊎ (l.right (word.square (s.left).place) ≡ l.left (word.square (s.a - 1)))
-      cases (inl e) = inl (e ∙ sym left_is)
-      cases (inr e) = inr (e ∙ sym left_is)
+  beside_left = beside (sides_at (square_lines front) s.a).0 (l.left (word.square (s.a - 1))) s.left left_is
 
   beside_right : (l.left (word.square (s.right).place) ≡ l.right (word.square (s.b - 1)))
       ⊎ (l.right (word.square (s.right).place) ≡ l.right (word.square (s.b - 1)))
-  beside_right = cases (beside (sides_at (square_lines front) s.b).1 s.right)
-    where
-      cases : (l.left (word.square (s.right).place) ≡ numbered_line l word.square (sides_at (square_lines front) s.b).1)
-          ⊎ (l.right (word.square (s.right).place) ≡ numbered_line l word.square (sides_at (square_lines front) s.b).1)
-          → (l.left (word.square (s.right).place) ≡ l.right (word.square (s.b - 1))) ⊎ (l.right (word.square (s.right).place) ≡ l.right (word.square (s.b - 1)))
-      cases (inl e) = inl (e ∙ sym right_is)
-      cases (inr e) = inr (e ∙ sym right_is)
+  beside_right = beside (sides_at (square_lines front) s.b).1 (l.right (word.square (s.b - 1))) s.right right_is
 
   -- two lines that are the walls have their numbers
   no_walls : l.left (word.square (s.a - 1)) ≡ 0 → l.right (word.square (s.b - 1)) ≡ 1

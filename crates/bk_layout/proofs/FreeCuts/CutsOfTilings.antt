@@ -2,7 +2,7 @@
 use Rattle.std.proofs.Common.{refl, [], arith, length, ℕ, ◌++◌, ◌+◌, ◌<◌, ◌∙◌, ◌∷◌, ◌≡◌, ◌≤◌}
 use Rattle.std.proofs.lemmas.List.{append_assoc}
 use Rattle.bk_tiling.proofs.TilingLaws.{side_of, within_of}
-use Rattle.bk_tiling.specs.Tiling.{IsTiling, Tiling}
+use Rattle.bk_tiling.specs.Tiling.{IsTiling, Tiling, square_of}
 use Rattle.bk_word.specs.Word.{Move, Word}
 use Rattle.bk_layout.proofs.Sweeps.LayoutNet.{a_layout_has_a_free_word}
 use Rattle.bk_layout.specs.Layout.{Fits}
@@ -10,7 +10,7 @@ use Rattle.bk_layout.proofs.TilingLayouts.LineNumbers.{number_column, number_one
 use Rattle.bk_layout.proofs.FreeCuts.SimpleFits.{a_simple_tiling_has_a_simple_layout}
 use Rattle.bk_layout.proofs.TilingLayouts.TilingFits.{a_tiling_has_a_layout}
 use Rattle.bk_layout.proofs.TilingLayouts.TilingSquares.{in_square}
-use Rattle.bk_layout.specs.TilingLayout.{layout_of, square_of}
+use Rattle.bk_layout.specs.TilingLayout.{layout_of}
 use Rattle.bk_layout.proofs.TilingLayouts.ApartLines.{lines_of_a_tiling_are_apart}
 use Rattle.bk_layout.proofs.FreeCuts.CutsOfLayouts.{evens_fit, free_fits, lines_fit, one_segment_fits, pairs_fit}
 use Rattle.bk_layout.specs.FreeCuts.{ASimpleTilingHasASoundLayout, AreOuterWalls, EvenSquaresAreFreeBarren, OneSegmentIsFreeBarren}

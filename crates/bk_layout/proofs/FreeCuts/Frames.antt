@@ -95,28 +95,18 @@ module _ (t : Tiling) (tiling : IsTiling t) (simple : IsSimple t) (left right to
   -- a square that shares a cell with the frame lies in it
   pub inside_or_out : (q : Square) → IsOneOf q t.squares → q.x < right → left < q.x + q.s → q.y < bottom → top < q.y + q.s → IsInside left right top bottom q
   inside_or_out q h a b c d = record {
-    left_in = one (cases_lt q.x left);
-    right_in = two (cases_lt right (q.x + q.s));
-    top_in =
-        three (cases_lt q.y top);
-    bottom_in = four (cases_lt bottom (q.y + q.s));
+    left_in = not_less q.x left (λ e. frame.at_left q h e b c d);
+    right_in = not_less right (q.x + q.s) (λ e. frame.at_right q h a e c d);
+    top_in = not_less q.y top (λ e. frame.at_top q h e d a b);
+    bottom_in = not_less bottom (q.y + q.s) (λ e. frame.at_bottom q h c e a b);
   }
     where
-      one : (q.x < left) ⊎ (left ≤ q.x) → left ≤ q.x
-      one (inl e) = absurd (frame.at_left q h e b c d)
-      one (inr e) = e
-
-      two : (right < q.x + q.s) ⊎ (q.x + q.s ≤ right) → q.x + q.s ≤ right
-      two (inl e) = absurd (frame.at_right q h a e c d)
-      two (inr e) = e
-
-      three : (q.y < top) ⊎ (top ≤ q.y) → top ≤ q.y
-      three (inl e) = absurd (frame.at_top q h e d a b)
-      three (inr e) = e
-
-      four : (bottom < q.y + q.s) ⊎ (q.y + q.s ≤ bottom) → q.y + q.s ≤ bottom
-      four (inl e) = absurd (frame.at_bottom q h c e a b)
-      four (inr e) = e
+      not_less : (m n : ℕ) → (m < n → ⊥) → n ≤ m
+      not_less m n never = by (cases_lt m n)
+        where
+          by : (m < n) ⊎ (n ≤ m) → n ≤ m
+          by (inl e) = absurd (never e)
+          by (inr e) = e
 
   test_from : (q : Square) → IsInside left right top bottom q → is_inside rect q ≡ true
   test_from q i = inside_to rect q i.left_in (omega (arith, width_is, i.right_in)) i.top_in (omega (arith, height_is, i.bottom_in))

@@ -101,16 +101,16 @@ module _ (t : Tiling) (tiling : IsTiling t) where
             from z = by (cases_lt z.square.x x)
               where
                 top : z.square.y ≡ first.level
-                top = omega (arith, z.level, e.right_bottom)
+                top = omega (arith, z.has, e.right_bottom)
 
                 by : (z.square.x < x) ⊎ (x ≤ z.square.x) → ⊥
-                by (inr h) = first.beyond_right z.square z.is top (omega (arith, h, z.left, end))
+                by (inr h) = first.beyond_right z.square z.is top (omega (arith, h, z.on.left, end))
                 by (inl h) = omega (
                   arith,
                   end,
-                  z.right,
+                  z.on.right,
                   (first.hang_to z.square z.is (first.hang_from z.square (x - 1) z.is top (omega (arith, first.some, end))
-                      (omega (arith, first.some, end)) (omega arith) (omega (arith, z.right)))).2,
+                      (omega (arith, first.some, end)) (omega arith) (omega (arith, z.on.right)))).2,
                 )
 
     -- so a mark's line is that at their level

@@ -284,45 +284,46 @@ module _ (o : Outline) (sides : List (ℕ × ℕ)) (m : Move) (legal : IsLegalMo
 
 -- ---- counts
 
-new_lefts : (hung count left right : ℕ) → 0 < count → count_by (λ (s : ℕ × ℕ). nat_eq s.0 0) (new_sides hung count left right) ≡ cond (nat_eq left 0) 1 0
-new_lefts hung zero left right some = absurd (omega arith)
-new_lefts hung (suc zero) left right some = sum_by-cons (λ (s : ℕ × ℕ). cond {A = ℕ} (nat_eq s.0 0) 1 0) (left, right) [] ∙ omega arith
-new_lefts hung (suc (suc more)) left right some = omega (
-  arith,
-  sum_by-cons (λ (s : ℕ × ℕ). cond {A = ℕ} (nat_eq s.0 0) 1 0) (left, suc (suc hung)) (new_sides (suc hung) (suc more) (suc (suc hung)) right),
-  new_lefts (suc hung) (suc more) (suc (suc hung)) right (omega arith),
-  none,
+-- of new sides only the first can begin at the left wall, and only the last end at the right wall
+new_walls : (hung count left right : ℕ) → 0 < count
+    → (count_by (λ (s : ℕ × ℕ). nat_eq s.0 0) (new_sides hung count left right) ≡ cond (nat_eq left 0) 1 0)
+    × (count_by (λ (s : ℕ × ℕ). nat_eq s.1 1) (new_sides hung count left right) ≡ cond (nat_eq right 1) 1 0)
+new_walls hung zero left right some = absurd (omega arith)
+new_walls hung (suc zero) left right some = (
+  sum_by-cons (λ (s : ℕ × ℕ). cond {A = ℕ} (nat_eq s.0 0) 1 0) (left, right) [] ∙ omega arith,
+  sum_by-cons (λ (s : ℕ × ℕ). cond {A = ℕ} (nat_eq s.1 1) 1 0) (left, right) [] ∙ omega arith,
+)
+new_walls hung (suc (suc more)) left right some = let rest = new_walls (suc hung) (suc more) (suc (suc hung)) right (omega arith) in (
+  omega (
+    arith,
+    sum_by-cons (λ (s : ℕ × ℕ). cond {A = ℕ} (nat_eq s.0 0) 1 0) (left, suc (suc hung)) (new_sides (suc hung) (suc more) (suc (suc hung)) right),
+    rest.0,
+    none 0 (omega arith),
+  ),
+  omega (
+    arith,
+    sum_by-cons (λ (s : ℕ × ℕ). cond {A = ℕ} (nat_eq s.1 1) 1 0) (left, suc (suc hung)) (new_sides (suc hung) (suc more) (suc (suc hung)) right),
+    rest.1,
+    none 1 (omega arith),
+  ),
 )
   where
-    none : ◌≡◌ {A = ℕ} (cond (nat_eq (suc (suc hung)) 0) 1 0) 0
-    none = grind (arith, nat_tests)
-
-new_rights : (hung count left right : ℕ) → 0 < count → count_by (λ (s : ℕ × ℕ). nat_eq s.1 1) (new_sides hung count left right) ≡ cond (nat_eq right 1) 1 0
-new_rights hung zero left right some = absurd (omega arith)
-new_rights hung (suc zero) left right some = sum_by-cons (λ (s : ℕ × ℕ). cond {A = ℕ} (nat_eq s.1 1) 1 0) (left, right) [] ∙ omega arith
-new_rights hung (suc (suc more)) left right some = omega (
-  arith,
-  sum_by-cons (λ (s : ℕ × ℕ). cond {A = ℕ} (nat_eq s.1 1) 1 0) (left, suc (suc hung)) (new_sides (suc hung) (suc more) (suc (suc hung)) right),
-  new_rights (suc hung) (suc more) (suc (suc hung)) right (omega arith),
-  none,
-)
-  where
-    none : ◌≡◌ {A = ℕ} (cond (nat_eq (suc (suc hung)) 1) 1 0) 0
-    none = grind (arith, nat_tests)
+    none : (wall : ℕ) → wall < 2 → ◌≡◌ {A = ℕ} (cond (nat_eq (suc (suc hung)) wall) 1 0) 0
+    none wall low = grind (arith, nat_tests)
 
 module _ (o : Outline) (sides : List (ℕ × ℕ)) (m : Move) (some : 0 < m.count) (c : IsCut sides o) where
   left_more : count_by (λ s. nat_eq s.0 0) (sides_after o sides m) ≡ count_by (λ s. nat_eq s.0 0) sides + cond (has_left_wall o) 1 0
   left_more = sum_by-append (λ (s : ℕ × ℕ). cond {A = ℕ} (nat_eq s.0 0) 1 0) sides
       (new_sides (length o.hung) m.count (left_end sides (valley_of o)) (right_end sides (valley_of o)))
       ∙ ap (λ (n : ℕ). count_by (λ s. nat_eq s.0 0) sides + n)
-      (new_lefts (length o.hung) m.count (left_end sides (valley_of o)) (right_end sides (valley_of o)) some
+      ((new_walls (length o.hung) m.count (left_end sides (valley_of o)) (right_end sides (valley_of o)) some).0
       ∙ ap (λ (b : Bool). cond {A = ℕ} b 1 0) (nat_eq-same_of_iff (left_end sides (valley_of o)) (valley_place o.signs) 0 c.at_left))
 
   right_more : count_by (λ s. nat_eq s.1 1) (sides_after o sides m) ≡ count_by (λ s. nat_eq s.1 1) sides + cond (has_right_wall o) 1 0
   right_more = sum_by-append (λ (s : ℕ × ℕ). cond {A = ℕ} (nat_eq s.1 1) 1 0) sides
       (new_sides (length o.hung) m.count (left_end sides (valley_of o)) (right_end sides (valley_of o)))
       ∙ ap (λ (n : ℕ). count_by (λ s. nat_eq s.1 1) sides + n)
-      (new_rights (length o.hung) m.count (left_end sides (valley_of o)) (right_end sides (valley_of o)) some
+      ((new_walls (length o.hung) m.count (left_end sides (valley_of o)) (right_end sides (valley_of o)) some).1
       ∙ ap (λ (b : Bool). cond {A = ℕ} b 1 0) wall)
     where
       cases : (right_end sides (valley_of o) ≡ 1) ⊎ (right_end sides (valley_of o) ≡ 1 → ⊥) → nat_eq (right_end sides (valley_of o)) 1 ≡ has_right_wall o

@@ -1,21 +1,22 @@
 -- The layout of a simple tiling has no parts but single squares and the whole, no twins and no pairs.
-use Rattle.std.proofs.Common.{Some, arith, inl, inr, length, refl, slice_get, subst, suc, sym, true, ℕ, ◌+◌, ◌<◌, ◌==◌, ◌∙◌, ◌≡◌, ◌≤◌, ◌⊎◌}
+use Rattle.std.proofs.Common.{Some, arith, inl, inr, length, refl, slice_get, subst, suc, sym, ℕ, ◌+◌, ◌<◌, ◌==◌, ◌∙◌, ◌≡◌, ◌≤◌, ◌⊎◌}
 use Rattle.std.proofs.lemmas.Bool.{cases_lt}
 use Rattle.bk_laws.proofs.ListPlaces.{get_some}
 use Rattle.bk_tiling.specs.SquareGroups.{square_groups}
-use Rattle.bk_tiling.specs.Tiling.{IsOneOf, IsTiling, Tiling, order}
+use Rattle.bk_tiling.specs.Tiling.{IsOneOf, IsTiling, Tiling, order, square_of}
 use Rattle.bk_simple.specs.Simple.{IsSimple}
 use Rattle.bk_net.specs.Diagram.{node_below}
 use Rattle.bk_layout.proofs.Lists.AscendingPlaces.{AreNext, next_from, stands_in}
 use Rattle.bk_layout.proofs.TilingLayouts.LineEdges.{IsMark}
 use Rattle.bk_layout.proofs.Sweeps.NodeLaws.{beside}
 use Rattle.bk_layout.proofs.TilingLayouts.Nodes.{most_nodes}
+use Rattle.bk_layout.proofs.TilingLayouts.NodeColumns.{hung_fill}
 use Rattle.bk_layout.proofs.TilingLayouts.NodeCorners.{first_of_ended, first_of_hung, last_of_ended, last_of_hung, over_hung}
 use Rattle.bk_layout.proofs.TilingLayouts.TilingSquares.{ended, ended_from, ended_one, hung, hung_from, hung_node, hung_one, in_square, key, node_at}
 use Rattle.bk_layout.proofs.FreeCuts.Twins.{none_below, none_beside}
 use Rattle.bk_layout.specs.Layout.{HasNoTwins}
 use Rattle.bk_layout.specs.SimpleLayout.{ASimpleTilingHasASimpleLayout, AreOutermost, HasNoPairs, HasNoParts, HasOneBetween}
-use Rattle.bk_layout.specs.TilingLayout.{from_left, layout_of, node_above, square_of}
+use Rattle.bk_layout.specs.TilingLayout.{from_left, layout_of, node_above}
 use Rattle.bk_layout.proofs.FreeCuts.BetweenLines.{by_columns, level_nodes, nodes_turned}
 use Rattle.bk_layout.proofs.FreeCuts.TouchedNodes.{HasMark, mark_of, one_column, touched_node}
 use Rattle.bk_layout.proofs.TilingLayouts.GroupNodes.{IsNode}
@@ -74,8 +75,8 @@ module _ (t : Tiling) (tiling : IsTiling t) where
           r_in = in_square t tiling r n.second_in.0
 
           edge : (square_of t q).x + (square_of t q).s ≡ (square_of t r).x
-          edge = beside t tiling v node (square_of t q) (square_of t r) q_in r_in (hung_from t tiling v q n.first_in.1)
-              (hung_from t tiling v r n.second_in.1) n.less
+          edge = beside t tiling v node (λ w. node_above (square_groups t.squares) w ≡ v) (hung_fill t tiling v node) (square_of t q)
+              (square_of t r) q_in r_in (hung_from t tiling v q n.first_in.1) (hung_from t tiling v r n.second_in.1) n.less
               (over_hung t tiling v (λ w. (w.x ≤ (square_of t q).x) ⊎ ((square_of t r).x ≤ w.x)) n.between)
 
           level : (square_of t q).y ≡ (square_of t r).y
@@ -99,37 +100,16 @@ module _ (t : Tiling) (tiling : IsTiling t) where
         where
           from : (p : ℕ) × (slice_get (from_left t (λ q. node_below (square_groups t.squares) (square_of t q) == v)) 0 ≡ Some p) → (q : ℕ)
               × (slice_get (from_left t (λ q. node_above (square_groups t.squares) (square_of t q) == v)) 0 ≡ Some q) → ⊥
-          from (p, e) (q, h) = none_below t tiling simple many (square_of t p) (square_of t q) p_in q_in level (a.2 node ∙ sym (c.2 node))
-              (b.2 node ∙ sym (d.2 node))
-            where
-              a : (p < length t.squares) × (node_below (square_groups t.squares) (square_of t p) == v ≡ true)
-                  × ((node : IsNode t v) → (square_of t p).x ≡ node.left)
-              a = first_of_ended t tiling v p e
-
-              b : (p < length t.squares) × (node_below (square_groups t.squares) (square_of t p) == v ≡ true)
-                  × ((node : IsNode t v) → (square_of t p).x + (square_of t p).s ≡ node.right)
-              b = last_of_ended t tiling v p (0, sym one_above, e)
-
-              c : (q < length t.squares) × (node_above (square_groups t.squares) (square_of t q) == v ≡ true)
-                  × ((node : IsNode t v) → (square_of t q).x ≡ node.left)
-              c = first_of_hung t tiling v q h
-
-              d : (q < length t.squares) × (node_above (square_groups t.squares) (square_of t q) == v ≡ true)
-                  × ((node : IsNode t v) → (square_of t q).x + (square_of t q).s ≡ node.right)
-              d = last_of_hung t tiling v q (0, sym one_under, h)
-
-              node : IsNode t v
-              node = hung_node t tiling v q c.0 c.1
-
-              p_in : IsOneOf (square_of t p) t.squares
-              p_in = in_square t tiling p a.0
-
-              q_in : IsOneOf (square_of t q) t.squares
-              q_in = in_square t tiling q c.0
-
-              level : (square_of t p).y + (square_of t p).s ≡ (square_of t q).y
-              level = (node.end_to (square_of t p) p_in (ended_from t tiling v p a.1)).0
-                  ∙ sym (node.hang_to (square_of t q) q_in (hung_from t tiling v q c.1)).0
+          from (p, e) (q, h) = let a = first_of_ended t tiling v p e in
+              let b = last_of_ended t tiling v p (0, sym one_above, e) in
+              let c = first_of_hung t tiling v q h in
+              let d = last_of_hung t tiling v q (0, sym one_under, h) in
+              let node = hung_node t tiling v q c.0 c.1 in
+              let p_in = in_square t tiling p a.0 in
+              let q_in = in_square t tiling q c.0 in
+              none_below t tiling simple many (square_of t p) (square_of t q) p_in q_in
+              ((node.end_to (square_of t p) p_in (ended_from t tiling v p a.1)).0 ∙ sym (node.hang_to (square_of t q) q_in (hung_from t tiling v q c.1)).0)
+              (a.2 node ∙ sym (c.2 node)) (b.2 node ∙ sym (d.2 node))
 
 -- the law: parts, twins and pairs of the layout would be parts of the tiling
 pub a_simple_tiling_has_a_simple_layout : ASimpleTilingHasASimpleLayout

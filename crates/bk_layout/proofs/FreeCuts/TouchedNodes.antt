@@ -1,16 +1,16 @@
 -- Nodes that a line of the layout touches, and the column where it does.
 use Rattle.std.proofs.Common.{arith, inl, inr, refl, sym, ℕ, ◌+◌, ◌∙◌, ◌≡◌, ◌≤◌, ◌⊎◌}
 use Rattle.bk_tiling.specs.SquareGroups.{square_groups}
-use Rattle.bk_tiling.specs.Tiling.{IsOneOf, IsTiling, Tiling}
+use Rattle.bk_tiling.specs.Tiling.{IsOneOf, IsTiling, Tiling, square_of}
 use Rattle.bk_tiling.specs.declared.Square.{Square}
 use Rattle.bk_net.specs.Diagram.{node_below}
 use Rattle.bk_layout.proofs.TilingLayouts.Edges.{bottom_within}
 use Rattle.bk_layout.proofs.TilingLayouts.LineNumbers.{number_column}
-use Rattle.bk_layout.proofs.TilingLayouts.LineEdges.{IsMark}
+use Rattle.bk_layout.proofs.TilingLayouts.LineEdges.{IsBeside, IsMark}
 use Rattle.bk_layout.proofs.TilingLayouts.Nodes.{above_bottom, most_nodes}
 use Rattle.bk_layout.proofs.TilingLayouts.TilingSquares.{in_square, node_at}
 use Rattle.bk_layout.specs.SimpleLayout.{Touches}
-use Rattle.bk_layout.specs.TilingLayout.{layout_of, line_number, node_above, square_of}
+use Rattle.bk_layout.specs.TilingLayout.{layout_of, line_number, node_above}
 use Rattle.bk_layout.proofs.TilingLayouts.GroupNodes.{IsNode}
 
 module _ (t : Tiling) (tiling : IsTiling t) where
@@ -46,36 +46,17 @@ module _ (t : Tiling) (tiling : IsTiling t) where
           by (inl e) = let k = node.hang_to (square_of t touch.square) q_in e in (inl k.0, k.1, k.2)
           by (inr e) = let k = node.end_to (square_of t touch.square) q_in e in (inr k.0, k.1, k.2)
 
+      marked : (column : ℕ) → IsBeside column (square_of t touch.square) → line_number t column (square_of t touch.square).y ≡ f → node.left ≤ column
+          → column ≤ node.right → HasMark f u node
+      marked column beside line from to = record {
+        column = column;
+        mark = record { square = square_of t touch.square; is = q_in; beside = beside; line = line; at = spans.0; from_left = from; to_right = to };
+      }
+
       cases : (line_number t (square_of t touch.square).x (square_of t touch.square).y ≡ f)
           ⊎ (line_number t ((square_of t touch.square).x + (square_of t touch.square).s) (square_of t touch.square).y ≡ f) → HasMark f u node
-      cases (inl e) = record {
-        column = (square_of t touch.square).x;
-        mark =
-            record {
-              square = square_of t touch.square;
-              is = q_in;
-              beside = inl refl;
-              line = e;
-              at = spans.0;
-              from_left = spans.1;
-              to_right =
-                  omega (arith, spans.2);
-            };
-      }
-      cases (inr e) = record {
-        column = (square_of t touch.square).x + (square_of t touch.square).s;
-        mark =
-            record {
-              square = square_of t touch.square;
-              is = q_in;
-              beside = inr refl;
-              line = e;
-              at = spans.0;
-              from_left =
-                  omega (arith, spans.1);
-              to_right = spans.2;
-            };
-      }
+      cases (inl e) = marked (square_of t touch.square).x (inl refl) e spans.1 (omega (arith, spans.2))
+      cases (inr e) = marked ((square_of t touch.square).x + (square_of t touch.square).s) (inr refl) e (omega (arith, spans.1)) spans.2
 
   low_square : (q : Square) → IsOneOf q t.squares → q.y ≤ t.height
   low_square q h = omega (arith, bottom_within t tiling q h)

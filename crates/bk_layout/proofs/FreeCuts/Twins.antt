@@ -2,13 +2,12 @@
 use Rattle.std.proofs.Common.{ap, arith, inl, inr, length, subst, sym, ℕ, ◌+◌, ◌-◌, ◌<◌, ◌∙◌, ◌≡◌, ◌≤◌, ◌⊎◌}
 use Rattle.std.proofs.lemmas.Bool.{cases_lt}
 use Rattle.bk_laws.proofs.NumberOrder.{meeting_intervals-common}
-use Rattle.bk_tiling.specs.Tiling.{IsOneOf, IsTiling, Tiling, order}
+use Rattle.bk_tiling.specs.Tiling.{IsOneOf, IsTiling, Tiling, order, square_of}
 use Rattle.bk_tiling.specs.declared.Square.{Square}
 use Rattle.bk_simple.specs.Simple.{IsSimple}
 use Rattle.bk_layout.proofs.TilingLayouts.Edges.{IsOn, bottom_within, meet, right_within, side}
 use Rattle.bk_layout.proofs.FreeCuts.Frames.{IsAll, IsFrame, IsInside, IsOne, one_or_all}
 use Rattle.bk_layout.proofs.TilingLayouts.TilingSquares.{in_square, one_number}
-use Rattle.bk_layout.specs.TilingLayout.{square_of}
 
 module _ (t : Tiling) (tiling : IsTiling t) (simple : IsSimple t) (many : 3 ≤ order t) where
   -- two squares that cover a rectangle

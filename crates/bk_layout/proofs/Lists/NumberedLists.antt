@@ -64,3 +64,17 @@ pub reversed_numbers : (turned : ℕ → Bool) (f : ℕ → ℕ × ℕ) (g : ℕ
 reversed_numbers turned f g b zero each = refl
 reversed_numbers turned f g b (suc n) each =
     λ i. each b (omega arith) (omega arith) i ∷ reversed_numbers turned f g (b + 1) n (λ k lo hi. each k (omega arith) (omega arith)) i
+
+-- what holds of numbers in a row holds of each of them
+pub each_from : (P : ℕ → Type 0) (b n : ℕ) → AllByRecursion P (numbers_from b n) → (v : ℕ) → b ≤ v → v < b + n → P v
+each_from P b zero all v lo hi = absurd (omega (arith, lo, hi))
+each_from P b (suc n) all v lo hi = cases (cases_lt b v) (each_from P (b + 1) n all.1 v)
+  where
+    cases : (b < v) ⊎ (v ≤ b) → (b + 1 ≤ v → v < b + 1 + n → P v) → P v
+    cases (inl m) rest = rest (omega (arith, m)) (omega (arith, hi))
+    cases (inr m) rest = subst P (omega (arith, lo, m)) all.0
+
+-- wires are others with numbers of their own: they stand for these, in this order, and their ends for these nodes
+abbrev pub AreRenumbered : (wires others : List (ℕ × ℕ)) (places nodes : List ℕ) → Type 0
+AreRenumbered wires others places nodes = map {B = ℕ × ℕ} (λ w. (slice_index_or nodes w.0 0, slice_index_or nodes w.1 0)) wires
+    ≡ map (λ k. slice_index_or others k (0, 0)) places

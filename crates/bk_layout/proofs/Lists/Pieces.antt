@@ -1,12 +1,10 @@
 -- Lists without their first or last, or with one more at an end, and functions changed at one number.
-use Rattle.std.proofs.Common.{Bool, List, Some, [], ap, arith, cond, inl, inr, length, nat_eq, refl, slice_get, suc, zero, ℕ}
-use Rattle.std.proofs.Common.{◌+◌, ◌<◌, ◌∙◌, ◌∷◌, ◌≡◌, ◌≤◌, ◌⊎◌}
-use Rattle.std.proofs.lemmas.Bool.{cases_eq}
-use Rattle.bk_laws.proofs.Occurrences.{slice_get-of_times_positive, times, times-positive_of_slice_get, unique_place-of_times_le_one}
+use Rattle.std.proofs.Common.{Bool, List, Some, [], ap, arith, cond, length, nat_eq, refl, slice_get, suc, zero, ℕ}
+use Rattle.std.proofs.Common.{◌+◌, ◌<◌, ◌∙◌, ◌∷◌, ◌≡◌}
+use Rattle.bk_laws.proofs.Occurrences.{times}
 use Rattle.bk_laws.proofs.ListPlaces.{got_low}
 use Rattle.bk_laws.proofs.NumberTests.{nat_eq-of_different, nat_eq-of_equal}
 use Rattle.bk_laws.proofs.Outcomes.{some-injective}
-use Rattle.bk_laws.proofs.TestsAsNumbers.{cond_count-nat_eq_other, cond_count-nat_eq_same}
 use Rattle.bk_layout.specs.Layout.{IsFirst}
 use Rattle.bk_layout.specs.Reversal.{put, without_first, without_last}
 
@@ -21,6 +19,11 @@ pub put_other : {A : Type 0} (k : ℕ) (x : A) (f : ℕ → A) (n : ℕ) → (n 
 put_other {A} k x f n e = ap (λ (b : Bool). cond {A = A} b x (f n)) (nat_eq-of_different n k e)
 
 -- ---- lists
+
+-- a list of length 0 is empty
+pub empty-of_length_zero : {A : Type 0} (xs : List A) → length xs ≡ 0 → xs ≡ []
+empty-of_length_zero [] e = refl
+empty-of_length_zero (x ∷ xs) e = absurd (omega arith)
 
 -- a list without its first, by places
 pub tail_got : (xs : List ℕ) (k : ℕ) → slice_get (without_first xs) k ≡ slice_get xs (suc k)
@@ -66,33 +69,3 @@ times_init (y ∷ []) q zero x h e = ap (λ (z : ℕ). cond {A = ℕ} (nat_eq x 
 times_init (y ∷ []) q (suc k) x h e = absurd (omega (arith, h))
 times_init (y ∷ z ∷ xs) q zero x h e = absurd (omega (arith, h))
 times_init (y ∷ z ∷ xs) q (suc k) x h e = omega (arith, times_init (z ∷ xs) q k x (omega (arith, h)) e)
-
--- ---- lists by a function
-
--- each number below a bound stands once in the list of its value, and no other number does anywhere
-pub record Sorted (n : ℕ) (a : ℕ → ℕ) (h : ℕ → List ℕ) : Type 0 where
-  pub counted : (x w : ℕ) → x < n → times x (h w) ≡ cond {A = ℕ} (nat_eq (a x) w) 1 0
-  pub low : (x w : ℕ) → 0 < times x (h w) → x < n
-
--- what stands in the list of a node has this node
-pub sorted_is : (n : ℕ) (a : ℕ → ℕ) (h : ℕ → List ℕ) → Sorted n a h → (v k q : ℕ) → slice_get (h v) k ≡ Some q → (q < n) × (a q ≡ v)
-sorted_is n a h s v k q e = (below, cases (cases_eq (a q) v))
-  where
-    below : q < n
-    below = s.low q v (times-positive_of_slice_get (h v) k q e)
-
-    cases : (a q ≡ v) ⊎ (a q ≡ v → ⊥) → a q ≡ v
-    cases (inl f) = f
-    cases (inr f) = absurd (omega (arith, times-positive_of_slice_get (h v) k q e, s.counted q v below, cond_count-nat_eq_other (a q) v f))
-
--- each square stands in the list of its node
-pub sorted_has : (n : ℕ) (a : ℕ → ℕ) (h : ℕ → List ℕ) → Sorted n a h → (q : ℕ) → q < n → (k : ℕ) × (slice_get (h (a q)) k ≡ Some q)
-sorted_has n a h s q low = slice_get-of_times_positive (h (a q)) q (omega (arith, s.counted q (a q) low, cond_count-nat_eq_same (a q) (a q) refl))
-
--- a square stands at one place only in the list of its node
-pub sorted_once : (n : ℕ) (a : ℕ → ℕ) (h : ℕ → List ℕ) → Sorted n a h → (v j k q : ℕ) → slice_get (h v) j ≡ Some q → slice_get (h v) k ≡ Some q → j ≡ k
-sorted_once n a h s v j k q e f = unique_place-of_times_le_one (h v) q (few (cases_eq (a q) v)) j k e f
-  where
-    few : (a q ≡ v) ⊎ (a q ≡ v → ⊥) → times q (h v) ≤ 1
-    few (inl g) = omega (arith, s.counted q v (s.low q v (times-positive_of_slice_get (h v) j q e)), cond_count-nat_eq_same (a q) v g)
-    few (inr g) = omega (arith, s.counted q v (s.low q v (times-positive_of_slice_get (h v) j q e)), cond_count-nat_eq_other (a q) v g)

@@ -16,6 +16,7 @@ use Rattle.bk_word_net.proofs.Outlines.OutlineParts.{left_open, many_segments, r
 use Rattle.bk_word_net.proofs.Outlines.Shape.{Shaped, shaped_move, valley_in}
 use Rattle.bk_word_net.proofs.Outlines.ValleyCut.{AtValley, Beside}
 use Rattle.bk_catalogue.proofs.HangingBounds.ClosingLaws.{unders-cons}
+use Rattle.bk_layout.proofs.Lists.Pieces.{empty-of_length_zero}
 use Rattle.bk_layout.proofs.FreeCuts.SquaresLeft.{wall_or_side}
 use Rattle.bk_layout.specs.WordNumbers.{right_moves_from}
 use Rattle.bk_layout.proofs.NormalCuts.StrongMoves.{all_under, singles, weight_wall}
@@ -93,22 +94,14 @@ module _ (o : Outline) (m : Move) (rest : Word) (r : AreByRules o (m ∷ rest)) 
   pub at_right : ◌≡◌ {A = ℕ} (cond (has_right_wall o) 1 0) 1
   at_right = omega (arith, right_wall, wall_or_side (has_right_wall o))
 
-  none : (xs : List (List ℕ)) → length xs ≡ 0 → xs ≡ []
-  none [] e = refl
-  none (x ∷ xs) e = absurd (omega arith)
-
-  none_signs : (xs : List Sign) → length xs ≡ 0 → xs ≡ []
-  none_signs [] e = refl
-  none_signs (x ∷ xs) e = absurd (omega arith)
-
   right_none : v.right ≡ []
-  right_none = none v.right (omega (arith, right_open o v, right_wall))
+  right_none = empty-of_length_zero v.right (omega (arith, right_open o v, right_wall))
 
   after_none : v.after ≡ []
   after_none = v.no_after right_none
 
   after_signs_none : v.after_signs ≡ []
-  after_signs_none = none_signs v.after_signs (omega (arith, v.after_many, ap length after_none))
+  after_signs_none = empty-of_length_zero v.after_signs (omega (arith, v.after_many, ap length after_none))
 
   -- all signs before the valley are under
   pub before_under : AllUnder v.before_signs
@@ -220,7 +213,7 @@ module _ (o : Outline) (m : Move) (rest : Word) (r : AreByRules o (m ∷ rest)) 
   ))
     where
       before_none : v.before_signs ≡ []
-      before_none = none_signs v.before_signs (omega (arith, v.before_many, ap length (v.no_before e)))
+      before_none = empty-of_length_zero v.before_signs (omega (arith, v.before_many, ap length (v.no_before e)))
 
       low_here : bound m.signs (singles (x ∷ numbers)) < length o.segments
       low_here = subst (λ (k : ℕ). k < length o.segments) (λ i. bound (before_none i ++ m.signs) (v.no_before e i ++ (e i ++ singles (g i)))) low

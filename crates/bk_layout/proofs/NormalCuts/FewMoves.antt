@@ -1,6 +1,6 @@
 -- The moves at the walls in two parts of a word, and how many moves a word of a normal layout has at most.
 use Rattle.std.proofs.Common.{Bool, [], ap, arith, cond, false, inl, inr, length, max, nat_lt, refl, slice_get, subst, true, ℕ, ◌*◌, ◌++◌, ◌+◌, ◌<◌}
-use Rattle.std.proofs.Common.{◌∷◌, ◌≡◌, ◌≤◌, ◌⊎◌}
+use Rattle.std.proofs.Common.{◌∙◌, ◌∷◌, ◌≡◌, ◌≤◌, ◌⊎◌}
 use Rattle.std.specs.Prelude.{◌/◌}
 use Rattle.std.proofs.lemmas.Bool.Decides.{nat_tests}
 use Rattle.bk_word.specs.Outline.{Outline, start}
@@ -15,7 +15,7 @@ use Rattle.bk_layout.proofs.NormalCuts.NumbersShown.{left_is, moves_is, right_is
 use Rattle.bk_layout.proofs.FreeCuts.RunsOfLines.{wall_moves_hang_one}
 use Rattle.bk_layout.specs.NormalCuts.{AreMostMoves, MostMovesAreMost, MostMovesStay}
 use Rattle.bk_layout.specs.NormalLayout.{IsNormalLayout}
-use Rattle.bk_layout.specs.WordNumbers.{AMoveHangsAtWalls, first_count, left_moves_from, left_squares, right_moves_from, right_squares}
+use Rattle.bk_layout.specs.WordNumbers.{AMoveHangsAtWalls, HasOneForEachWallMove, first_count, left_moves_from, left_squares, right_moves_from, right_squares}
 
 -- the moves at a wall in two parts
 pub left_moves_append : (o : Outline) (front rest : Word) → left_moves_from o (front ++ rest)
@@ -41,21 +41,16 @@ module _ (n : ℕ) (l : Layout) (w : Word) (sound : IsSound n l) (normal : IsNor
       → ((counts_of_layout l).left ≡ left_moves_from start front + left_moves_from (outline_of front) rest)
       × ((counts_of_layout l).right ≡ right_moves_from start front + right_moves_from (outline_of front) rest)
   walls_at front rest is = (
-    omega (
-      arith,
-      left_is l w sound.fits sound.walls word,
-      (wall_moves_hang_one w (word.complete).legal).left,
-      ap (left_moves_from start) is,
-      left_moves_append start front rest,
-    ),
-    omega (
-      arith,
-      right_is l w sound.fits sound.walls word,
-      (wall_moves_hang_one w (word.complete).legal).right,
-      ap (right_moves_from start) is,
-      right_moves_append start front rest,
-    ),
+    in_parts left_moves_from (left_moves_append start front rest) (omega (arith, left_is l w sound.fits sound.walls word, hung.left)),
+    in_parts right_moves_from (right_moves_append start front rest) (omega (arith, right_is l w sound.fits sound.walls word, hung.right)),
   )
+    where
+      hung : HasOneForEachWallMove w
+      hung = wall_moves_hang_one w (word.complete).legal
+
+      in_parts : (moves : Outline → Word → ℕ) {total : ℕ} → moves start (front ++ rest) ≡ moves start front + moves (outline_of front) rest
+          → total ≡ moves start w → total ≡ moves start front + moves (outline_of front) rest
+      in_parts moves parts e = e ∙ ap (moves start) is ∙ parts
 
   -- in a word of a normal layout at most as many moves are at the left wall as at the right
   pub walls_left : (front rest : Word) → w ≡ front ++ rest

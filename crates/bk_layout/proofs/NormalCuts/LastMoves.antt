@@ -225,7 +225,7 @@ nothing_left n l v w rest sound word is whole = at rest is (legal n l w sound wo
 
 -- a word that ends with more squares in its last segment than its first move hangs is normal barren
 pub too_wide_bottom_is_normal_barren : TooWideBottomIsNormalBarren
-too_wide_bottom_is_normal_barren n v whole over l w rest sound normal word keeps is = omega (
+too_wide_bottom_is_normal_barren n v whole over l w rest sound normal word keeps is = let same = nothing_left n l v w rest sound word is whole in omega (
   arith,
   over,
   ap first_count same,
@@ -234,13 +234,10 @@ too_wide_bottom_is_normal_barren n v whole over l w rest sound normal word keeps
   bottom_is l w word,
   ap (λ (u : Word). length (slice_index_or (outline_of u).segments 0 [])) same,
 )
-  where
-    same : w ≡ v
-    same = nothing_left n l v w rest sound word is whole
 
 -- a word with more squares at the left wall than at the right is normal barren
 pub too_many_at_left_is_normal_barren : TooManyAtLeftIsNormalBarren
-too_many_at_left_is_normal_barren n v whole over l w rest sound normal word keeps is = omega (
+too_many_at_left_is_normal_barren n v whole over l w rest sound normal word keeps is = let same = nothing_left n l v w rest sound word is whole in omega (
   arith,
   over,
   normal.across,
@@ -249,13 +246,10 @@ too_many_at_left_is_normal_barren n v whole over l w rest sound normal word keep
   ap left_squares same,
   ap right_squares same,
 )
-  where
-    same : w ≡ v
-    same = nothing_left n l v w rest sound word is whole
 
 -- a word with half of n + 3 nodes and more squares at the right wall than at the top is normal barren
 pub too_many_at_right_is_normal_barren : TooManyAtRightIsNormalBarren
-too_many_at_right_is_normal_barren n v whole half over l w rest sound normal word keeps is = omega (
+too_many_at_right_is_normal_barren n v whole half over l w rest sound normal word keeps is = let same = nothing_left n l v w rest sound word is whole in omega (
   arith,
   over,
   normal.half (omega (arith, half, sound.squares, moves_is l w word, ap length same)),
@@ -264,6 +258,3 @@ too_many_at_right_is_normal_barren n v whole half over l w rest sound normal wor
   ap first_count same,
   ap right_squares same,
 )
-  where
-    same : w ≡ v
-    same = nothing_left n l v w rest sound word is whole

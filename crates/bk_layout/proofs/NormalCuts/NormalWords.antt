@@ -1,15 +1,12 @@
 -- What no word of a normal layout begins with, and that a normal tiling has a word of which no beginning is so.
-use Rattle.std.specs.List.{AllByRecursion}
 use Rattle.std.proofs.Common.{◌∙◌, ◌≡◌}
 use Rattle.bk_tiling.specs.Tiling.{order}
 use Rattle.bk_word.specs.Word.{Word}
 use Rattle.bk_layout.specs.TilingLayout.{layout_of}
 use Rattle.bk_layout.proofs.NormalImages.LayoutCounts.{the_layout_has_the_counts}
 use Rattle.bk_layout.specs.Normal.{counts_of}
-use Rattle.bk_layout.specs.RuleR.{BeginsNoEvenAbove}
-use Rattle.bk_layout.proofs.Reversals.SoundWords.{a_simple_tiling_is_sound_around, a_sound_layout_has_a_sound_word_by_rule_r}
-use Rattle.bk_layout.specs.NodeCorners.{HasSoundWordByRuleR, IsSoundAround}
-use Rattle.bk_layout.proofs.SignedWords.SignedTilingWords.{a_word_up_to_reversals_is_signed}
+use Rattle.bk_layout.specs.NodeCorners.{HasSoundWordByRuleR}
+use Rattle.bk_layout.proofs.FreeCuts.NetWords.{HasSignedWord, a_simple_tiling_has_a_signed_word}
 use Rattle.bk_layout.proofs.Reversals.NumbersKept.{a_normal_tiling_has_a_normal_layout, reversals_keep_counts, reversals_keep_normal}
 use Rattle.bk_layout.proofs.NormalCuts.NumbersShown.{a_word_shows_numbers}
 use Rattle.bk_layout.specs.NormalCuts.{ANetBarrenWordIsNormalBarren, ANormalTilingHasANormalWord, IsNormalWordOf}
@@ -22,30 +19,29 @@ a_net_barren_word_is_normal_barren n front barren l w rest sound normal word kee
 
 -- a normal and simple tiling has such a word
 pub a_normal_tiling_has_a_normal_word : ANormalTilingHasANormalWord
-a_normal_tiling_has_a_normal_word t tiling simple many normal = from (a_sound_layout_has_a_sound_word_by_rule_r (order t) (layout_of t) around)
+a_normal_tiling_has_a_normal_word t tiling simple many normal = from (a_simple_tiling_has_a_signed_word t tiling simple many)
   where
-    around : IsSoundAround (order t) (layout_of t)
-    around = a_simple_tiling_is_sound_around t tiling simple many
-
-    from : HasSoundWordByRuleR (order t) (layout_of t) → (w : Word) × IsNormalWordOf t w
-    from h = (
-      h.by_rule.word,
+    from : HasSignedWord t → (w : Word) × IsNormalWordOf t w
+    from s = (
+      sound_word.by_rule.word,
       record {
-        signed = (a_word_up_to_reversals_is_signed t h.by_rule.turned h.by_rule.word tiling h.by_rule.fits h.by_rule.same h.by_rule.is_word).0;
-        keeps = keeps;
+        signed = s.signed;
+        keeps = s.keeps;
         counts = counts;
-        no_barren = λ front rest is barren. barren h.by_rule.turned h.by_rule.word rest h.around.sound normal_turned h.by_rule.is_word keeps is;
+        no_barren = λ front rest is barren. barren sound_word.by_rule.turned sound_word.by_rule.word rest sound_word.around.sound normal_turned
+            sound_word.by_rule.is_word s.keeps is;
       },
     )
       where
-        keeps : AllByRecursion BeginsNoEvenAbove h.by_rule.word
-        keeps = h.by_rule.none around.sound.simple.twins
+        sound_word : HasSoundWordByRuleR (order t) (layout_of t)
+        sound_word = s.sound_word
 
-        normal_turned : IsNormalLayout h.by_rule.turned
-        normal_turned = reversals_keep_normal (layout_of t) h.by_rule.turned around.sound.fits around.sound.walls
-            h.around.sound.fits h.around.sound.walls h.by_rule.same (a_normal_tiling_has_a_normal_layout t tiling normal)
+        normal_turned : IsNormalLayout sound_word.by_rule.turned
+        normal_turned = reversals_keep_normal (layout_of t) sound_word.by_rule.turned s.around.sound.fits s.around.sound.walls
+            sound_word.around.sound.fits sound_word.around.sound.walls sound_word.by_rule.same (a_normal_tiling_has_a_normal_layout t tiling normal)
 
-        counts : counts_of_word h.by_rule.word ≡ counts_of t
-        counts = (a_word_shows_numbers h.by_rule.turned h.by_rule.word h.around.sound.fits h.around.sound.walls h.by_rule.is_word).counts
-            ∙ (reversals_keep_counts (layout_of t) h.by_rule.turned around.sound.fits around.sound.walls h.around.sound.fits h.around.sound.walls
-            h.by_rule.same).counts ∙ the_layout_has_the_counts t tiling
+        counts : counts_of_word sound_word.by_rule.word ≡ counts_of t
+        counts = (a_word_shows_numbers sound_word.by_rule.turned sound_word.by_rule.word sound_word.around.sound.fits sound_word.around.sound.walls
+            sound_word.by_rule.is_word).counts
+            ∙ (reversals_keep_counts (layout_of t) sound_word.by_rule.turned s.around.sound.fits s.around.sound.walls sound_word.around.sound.fits
+            sound_word.around.sound.walls sound_word.by_rule.same).counts ∙ the_layout_has_the_counts t tiling

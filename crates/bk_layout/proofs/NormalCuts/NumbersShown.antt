@@ -14,7 +14,7 @@ use Rattle.bk_layout.proofs.FreeCuts.SharedLines.{hung_w, square_apart, square_l
 use Rattle.bk_layout.specs.FreeCuts.{AreOuterWalls}
 use Rattle.bk_layout.specs.LineNumbers.{numbered_line, square_lines}
 use Rattle.bk_layout.proofs.Lists.Totals.{renumbered, total_from}
-use Rattle.bk_layout.proofs.FreeCuts.LineGaps.{AreLineNumbers, IsLine, along_long, lines_along}
+use Rattle.bk_layout.proofs.FreeCuts.LineGaps.{AreLineNumbers, IsGap, IsLine, along_long, lines_along}
 use Rattle.bk_layout.specs.LayoutCounts.{counts_of_layout}
 use Rattle.bk_layout.specs.WordNumbers.{AWordShowsNumbers, first_count, left_squares, right_squares}
 
@@ -69,29 +69,31 @@ module _ (l : Layout) (w : Word) (fits : Fits l) (walls : AreOuterWalls l) (word
   low : (k : ℕ) → k < length (outline_of w).hung → word.square k < l.squares
   low k h = square_low l fits w word k h
 
+  -- the lines of a square are those that its numbers stand for
+  lines_of : (k f g : ℕ) → slice_get (square_lines w) k ≡ Some (f, g)
+      → (l.left (word.square k) ≡ numbered_line l word.square f) × (l.right (word.square k) ≡ numbered_line l word.square g)
+  lines_of = line_numbers_are_lines l w fits word
+
+  -- a line that is no gap is the wall
+  no_gap : {wall f : ℕ} → IsLine wall (square_lines w) f → (IsGap (square_lines w) f → ⊥) → f ≡ wall
+  no_gap (inl e) none = e
+  no_gap (inr gap) none = absurd (none gap)
+
   -- line 0 at the left of a square stands for the left wall, and no other line there does
   at_left : (k f g : ℕ) → slice_get (square_lines w) k ≡ Some (f, g) → (f ≡ 0) ↔ (l.left (word.square k) ≡ 0)
-  at_left k f g e = (λ h. lines.0 ∙ ap (numbered_line l word.square) h, back (all k (f, g) e).0)
-    where
-      lines : (l.left (word.square k) ≡ numbered_line l word.square f) × (l.right (word.square k) ≡ numbered_line l word.square g)
-      lines = line_numbers_are_lines l w fits word k f g e
-
-      back : IsLine 0 (square_lines w) f → l.left (word.square k) ≡ 0 → f ≡ 0
-      back (inl h) d = h
-      back (inr h) d = absurd (walls.not_before (word.square h.place) (low h.place (omega (arith, hung (suc h.place) (f, h.right) h.behind)))
-          (sym (ap (numbered_line l word.square) h.is) ∙ sym lines.0 ∙ d))
+  at_left k f g e = (
+    λ h. (lines_of k f g e).0 ∙ ap (numbered_line l word.square) h,
+    λ d. no_gap (all k (f, g) e).0 (λ h. walls.not_before (word.square h.place) (low h.place (omega (arith, hung (suc h.place) (f, h.right) h.behind)))
+        (sym (ap (numbered_line l word.square) h.is) ∙ sym (lines_of k f g e).0 ∙ d)),
+  )
 
   -- line 1 at the right of a square stands for the right wall, and no other line there does
   at_right : (k f g : ℕ) → slice_get (square_lines w) k ≡ Some (f, g) → (g ≡ 1) ↔ (l.right (word.square k) ≡ 1)
-  at_right k f g e = (λ h. lines.1 ∙ ap (numbered_line l word.square) h, back (all k (f, g) e).1)
-    where
-      lines : (l.left (word.square k) ≡ numbered_line l word.square f) × (l.right (word.square k) ≡ numbered_line l word.square g)
-      lines = line_numbers_are_lines l w fits word k f g e
-
-      back : IsLine 1 (square_lines w) g → l.right (word.square k) ≡ 1 → g ≡ 1
-      back (inl h) d = h
-      back (inr h) d = absurd (walls.not_beyond (word.square (suc h.place)) (low (suc h.place) (hung (suc h.place) (g, h.right) h.behind))
-          ((line_numbers_are_lines l w fits word (suc h.place) g h.right h.behind).0 ∙ sym lines.1 ∙ d))
+  at_right k f g e = (
+    λ h. (lines_of k f g e).1 ∙ ap (numbered_line l word.square) h,
+    λ d. no_gap (all k (f, g) e).1 (λ h. walls.not_beyond (word.square (suc h.place)) (low (suc h.place) (hung (suc h.place) (g, h.right) h.behind))
+        ((lines_of (suc h.place) g h.right h.behind).0 ∙ sym (lines_of k f g e).1 ∙ d)),
+  )
 
   -- a count of the word's squares is one of the layout's
   counted : (P : ℕ × ℕ → Bool) (r : ℕ → Bool) → ((k : ℕ) (p : ℕ × ℕ) → slice_get (square_lines w) k ≡ Some p → r (word.square k) ≡ P p)

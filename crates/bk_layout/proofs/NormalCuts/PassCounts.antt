@@ -102,43 +102,33 @@ wide_under low other (Above ∷ signs) wide next sizes joined mark marks h =
 wide_under low other (Even ∷ signs) wide next sizes joined mark marks h = omega (arith, cond_count-le_one joined, unders-cons Even signs)
 wide_under low other (Under ∷ signs) wide next sizes joined mark marks h = omega (arith, cond_count-le_one joined, unders-cons Under signs)
 
+-- a pass with a wide first segment counts no more than one that has counted as much and sees a bound as great
+no_more : (p q : Passed) (signs : List Sign) (wide next : ℕ) (sizes : List ℕ) (joined mark : Bool) (marks : List Bool) → 1 < wide
+    → length sizes ≡ length signs → length marks ≡ length sizes → p.most ≤ q.most → p.more ≤ q.more
+    → p.aboves + strong_from p.low signs (wide ∷ sizes) (joined ∷ marks)
+    ≤ max (q.most + count_by is_under signs + weight_from q.low signs (next ∷ sizes)) (q.aboves + strong_from q.low signs (next ∷ sizes) (mark ∷ marks))
+    → IsNoMore (pass_along p signs (wide ∷ sizes) (joined ∷ marks)) (pass_along q signs (next ∷ sizes) (mark ∷ marks))
+no_more p q signs wide next sizes joined mark marks h many long most more bound =
+    onto (the_pass_is_strong p signs (wide ∷ sizes) (joined ∷ marks) (omega (arith, many)) (omega (arith, long)))
+    (the_pass_is_strong q signs (next ∷ sizes) (mark ∷ marks) (omega (arith, many)) (omega (arith, long)))
+    (wide_weight p.low q.low signs wide next sizes h)
+  where
+    onto : IsCounted p signs (wide ∷ sizes) (joined ∷ marks) → IsCounted q signs (next ∷ sizes) (mark ∷ marks)
+        → weight_from p.low signs (wide ∷ sizes) ≤ weight_from q.low signs (next ∷ sizes)
+        → IsNoMore (pass_along p signs (wide ∷ sizes) (joined ∷ marks)) (pass_along q signs (next ∷ sizes) (mark ∷ marks))
+    onto c d w = record { most = omega (arith, c.most, d.most, w, most, bound); more = omega (arith, c.more, d.more, w, more) }
+
 -- with one segment between
 one_asks_more : (p : Passed) (sign : Sign) (signs : List Sign) (size wide next : ℕ) (sizes : List ℕ) (own joined mark : Bool) (marks : List Bool)
     → (sign ≡ Even → ⊥) → 1 < wide → length sizes ≡ length signs → length marks ≡ length sizes
     → IsNoMore (pass_along p signs (wide ∷ sizes) (joined ∷ marks)) (pass_along (pass p sign size own) signs (next ∷ sizes) (mark ∷ marks))
 one_asks_more p Even signs size wide next sizes own joined mark marks parts h many long = absurd (parts refl)
 one_asks_more p Above signs size wide next sizes own joined mark marks parts h many long =
-    onto (the_pass_is_strong p signs (wide ∷ sizes) (joined ∷ marks) (omega (arith, many)) (omega (arith, long)))
-    (the_pass_is_strong (pass p Above size own) signs (next ∷ sizes) (mark ∷ marks) (omega (arith, many)) (omega (arith, long)))
-  where
-    onto : IsCounted p signs (wide ∷ sizes) (joined ∷ marks) → IsCounted (pass p Above size own) signs (next ∷ sizes) (mark ∷ marks)
-        → IsNoMore (pass_along p signs (wide ∷ sizes) (joined ∷ marks)) (pass_along (pass p Above size own) signs (next ∷ sizes) (mark ∷ marks))
-    onto c d = record {
-      most = omega (
-        arith,
-        c.most,
-        d.most,
-        wide_weight p.low false signs wide next sizes h,
-        wide_bound p.low false signs wide next sizes joined mark marks h,
-      );
-      more = omega (arith, c.more, d.more, wide_weight p.low false signs wide next sizes h);
-    }
+    no_more p (pass p Above size own) signs wide next sizes joined mark marks h many long (omega arith) (omega arith)
+    (omega (arith, wide_bound p.low false signs wide next sizes joined mark marks h))
 one_asks_more p Under signs size wide next sizes own joined mark marks parts h many long =
-    onto (the_pass_is_strong p signs (wide ∷ sizes) (joined ∷ marks) (omega (arith, many)) (omega (arith, long)))
-    (the_pass_is_strong (pass p Under size own) signs (next ∷ sizes) (mark ∷ marks) (omega (arith, many)) (omega (arith, long)))
-  where
-    onto : IsCounted p signs (wide ∷ sizes) (joined ∷ marks) → IsCounted (pass p Under size own) signs (next ∷ sizes) (mark ∷ marks)
-        → IsNoMore (pass_along p signs (wide ∷ sizes) (joined ∷ marks)) (pass_along (pass p Under size own) signs (next ∷ sizes) (mark ∷ marks))
-    onto c d = record {
-      most = omega (
-        arith,
-        c.most,
-        d.most,
-        wide_weight p.low true signs wide next sizes h,
-        wide_under p.low true signs wide next sizes joined mark marks h,
-      );
-      more = omega (arith, c.more, d.more, wide_weight p.low true signs wide next sizes h);
-    }
+    no_more p (pass p Under size own) signs wide next sizes joined mark marks h many long (omega arith) (omega arith)
+    (omega (arith, wide_under p.low true signs wide next sizes joined mark marks h))
 
 -- a segment joined by the sign even asks for no more than one with any segments between
 pub even_asks_least : EvenAsksLeast

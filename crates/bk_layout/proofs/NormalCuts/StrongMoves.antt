@@ -22,6 +22,7 @@ use Rattle.bk_catalogue.specs.SingleValleys.{single_valley}
 use Rattle.bk_catalogue.specs.WordBounds.{HangsNoPair}
 use Rattle.bk_layout.specs.FreeWord.{HangsNoTwins, IsFreeMove}
 use Rattle.bk_layout.specs.RuleR.{BeginsNoEvenAbove}
+use Rattle.bk_layout.proofs.Lists.Pieces.{empty-of_length_zero}
 use Rattle.bk_layout.proofs.NormalCuts.StrongParts.{first_sees, mark, seen, seen_behind, strong, strong_behind, strong_joined, weight, weight_behind}
 use Rattle.bk_layout.proofs.NormalCuts.StrongParts.{weight_joined}
 
@@ -328,14 +329,6 @@ module _ (P : List ℕ → Bool) (gl : (s t : List ℕ) → P t ≡ true → P (
         at true h = absurd (omega (arith, h))
         at false h = refl
 
-    none : (xs : List (List ℕ)) → length xs ≡ 0 → xs ≡ []
-    none [] e = refl
-    none (x ∷ xs) e = absurd (omega arith)
-
-    none_signs : (xs : List Sign) → length xs ≡ 0 → xs ≡ []
-    none_signs [] e = refl
-    none_signs (x ∷ xs) e = absurd (omega arith)
-
     abbrev news : List (List ℕ)
     news = singles (new_squares o m)
 
@@ -365,7 +358,7 @@ module _ (P : List ℕ → Bool) (gl : (s t : List ℕ) → P t ≡ true → P (
         rest_none = v.no_after c
 
         after_none : v.after_signs ≡ []
-        after_none = none_signs v.after_signs (omega (arith, v.after_many, ap length rest_none))
+        after_none = empty-of_length_zero v.after_signs (omega (arith, v.after_many, ap length rest_none))
     middle (inr (s, a, b)) (inr (r, c, d)) = falls_same (length (new_squares o m)) (v.left_signs ++ (v.right_signs ++ v.after_signs))
         (Under ∷ Above ∷ v.after_signs) (m.signs ++ v.after_signs) (m.signs ++ v.after_signs)
         (v.left ++ (v.valley ∷ (v.right ++ v.after))) (s ∷ v.valley ∷ r ∷ v.after)
@@ -393,7 +386,7 @@ module _ (P : List ℕ → Bool) (gl : (s t : List ℕ) → P t ≡ true → P (
         rest_none = v.no_after c
 
         after_none : v.after_signs ≡ []
-        after_none = none_signs v.after_signs (omega (arith, v.after_many, ap length rest_none))
+        after_none = empty-of_length_zero v.after_signs (omega (arith, v.after_many, ap length rest_none))
 
     -- by the parts of the outline
     falls : Falls (length (new_squares o m)) o.signs o.segments (signs_apart o m) (segments_apart o m)

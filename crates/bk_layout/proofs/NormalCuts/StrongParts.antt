@@ -2,6 +2,7 @@
 use Rattle.std.proofs.Common.{Bool, List, [], arith, cond, false, filter, length, map, true, ℕ, ◌++◌, ◌+◌, ◌∷◌, ◌≡◌, ◌≤◌}
 use Rattle.bk_laws.proofs.TestsAsNumbers.{cond_count-le_of_implies}
 use Rattle.bk_word.specs.Play.{before_first_list, joined, parts}
+use Rattle.bk_word.specs.Signs.{is_under}
 use Rattle.bk_word.specs.declared.Sign.{Sign}
 use Rattle.bk_word.specs.declared.Sign.TheVariants.{Above, Even, Under}
 use Rattle.bk_catalogue.proofs.HangingBounds.ClosingLaws.{unders, unders-append, unders-cons, unders-parts}
@@ -11,13 +12,44 @@ use Rattle.bk_layout.specs.StrongBound.{strong_from, weight_from}
 abbrev pub weight : Bool → List Sign → List (List ℕ) → ℕ
 weight low signs segments = weight_from low signs (map length segments)
 
+-- where the sign behind a segment is above, the bound behind it counts one more
+abbrev pub rise : Sign → ℕ
+rise Above = 1
+rise Even = 0
+rise Under = 0
+
+-- a segment with any sign and mark counts for no less than what stands behind it, in the weight and in the strong bound
+pub behind_first : (b : Bool) (x : Sign) (signs : List Sign) (size : ℕ) (sizes : List ℕ) (mark : Bool) (marks : List Bool)
+    → (weight_from (is_under x) signs sizes ≤ weight_from b (x ∷ signs) (size ∷ sizes))
+    × (rise x + strong_from (is_under x) signs sizes marks ≤ strong_from b (x ∷ signs) (size ∷ sizes) (mark ∷ marks))
+behind_first b Above signs size sizes mark marks = (omega arith, omega arith)
+behind_first b Even signs size sizes mark marks = (omega arith, omega arith)
+behind_first b Under signs size sizes mark marks = (omega arith, omega arith)
+
+-- nor does a first segment that may be a valley count for less, with marks by a test
+low_first : (P : List ℕ → Bool) (b : Bool) (signs : List Sign) (segments : List (List ℕ)) → (weight false signs segments ≤ weight b signs segments)
+    × (strong_from false signs (map length segments) (map P segments) ≤ strong_from b signs (map length segments) (map P segments))
+low_first P b signs [] = (omega arith, omega arith)
+low_first P b [] (s ∷ segments) = (omega arith, omega arith)
+low_first P b (Above ∷ signs) (s ∷ segments) = (omega arith, omega arith)
+low_first P b (Even ∷ signs) (s ∷ segments) = (omega arith, omega arith)
+low_first P b (Under ∷ signs) (s ∷ segments) = (omega arith, omega arith)
+
+-- so more segments in front make what is counted no smaller
+behind : (count : Bool → List Sign → List (List ℕ) → ℕ)
+    → ((b : Bool) (signs : List Sign) (segments : List (List ℕ)) → count false signs segments ≤ count b signs segments)
+    → ((b : Bool) (x : Sign) (signs : List Sign) (s : List ℕ) (segments : List (List ℕ))
+    → count (is_under x) signs segments ≤ count b (x ∷ signs) (s ∷ segments))
+    → (b : Bool) (xs ys : List Sign) (ss ts : List (List ℕ)) → length xs ≡ length ss → count false ys ts ≤ count b (xs ++ ys) (ss ++ ts)
+behind count low step b [] ys [] ts e = low b ys ts
+behind count low step b [] ys (s ∷ ss) ts e = absurd (omega arith)
+behind count low step b (x ∷ xs) ys [] ts e = absurd (omega arith)
+behind count low step b (x ∷ xs) ys (s ∷ ss) ts e =
+    omega (arith, behind count low step (is_under x) xs ys ss ts (omega arith), step b x (xs ++ ys) s (ss ++ ts))
+
 -- a first segment that may be a valley counts for no less
 pub weight_low : (b : Bool) (signs : List Sign) (segments : List (List ℕ)) → weight false signs segments ≤ weight b signs segments
-weight_low b signs [] = omega arith
-weight_low b [] (s ∷ segments) = omega arith
-weight_low b (Above ∷ signs) (s ∷ segments) = omega arith
-weight_low b (Even ∷ signs) (s ∷ segments) = omega arith
-weight_low b (Under ∷ signs) (s ∷ segments) = omega arith
+weight_low b signs segments = (low_first (λ s. false) b signs segments).0
 
 -- where the first segment is no valley, its squares do not count
 weight_grown : (x : List ℕ) (signs : List Sign) (segments : List (List ℕ)) → weight false signs (before_first_list x segments) ≡ weight false signs segments
@@ -45,12 +77,7 @@ weight_joined b (Even ∷ signs) (s ∷ segments) = omega (
 
 -- nor does what stands before
 pub weight_behind : (b : Bool) (xs ys : List Sign) (ss ts : List (List ℕ)) → length xs ≡ length ss → weight false ys ts ≤ weight b (xs ++ ys) (ss ++ ts)
-weight_behind b [] ys [] ts e = omega (arith, weight_low b ys ts)
-weight_behind b [] ys (s ∷ ss) ts e = absurd (omega arith)
-weight_behind b (x ∷ xs) ys [] ts e = absurd (omega arith)
-weight_behind b (Above ∷ xs) ys (s ∷ ss) ts e = omega (arith, weight_behind false xs ys ss ts (omega arith))
-weight_behind b (Even ∷ xs) ys (s ∷ ss) ts e = omega (arith, weight_behind false xs ys ss ts (omega arith))
-weight_behind b (Under ∷ xs) ys (s ∷ ss) ts e = omega (arith, weight_behind true xs ys ss ts (omega arith))
+weight_behind = behind weight weight_low (λ b x signs s segments. (behind_first b x signs (length s) (map length segments) false []).0)
 
 -- what a part adds to the segments before it
 abbrev pub seen : Bool → List Sign → List (List ℕ) → ℕ
@@ -74,11 +101,7 @@ module _ (P : List ℕ → Bool) (grows_left : (s t : List ℕ) → P t ≡ true
 
   -- the strong bound is no smaller where a sign under stands before the first segment
   pub strong_low : (b : Bool) (signs : List Sign) (segments : List (List ℕ)) → strong false signs segments ≤ strong b signs segments
-  strong_low b signs [] = omega arith
-  strong_low b [] (s ∷ segments) = omega arith
-  strong_low b (Above ∷ signs) (s ∷ segments) = omega arith
-  strong_low b (Even ∷ signs) (s ∷ segments) = omega arith
-  strong_low b (Under ∷ signs) (s ∷ segments) = omega arith
+  strong_low b signs segments = (low_first P b signs segments).1
 
   mark_left : (s t : List ℕ) → mark t ≤ mark (s ++ t)
   mark_left s t = cond_count-le_of_implies (P t) (P (s ++ t)) (grows_left s t)
@@ -126,12 +149,8 @@ module _ (P : List ℕ → Bool) (grows_left : (s t : List ℕ) → P t ≡ true
 
   -- nor does what stands before
   pub strong_behind : (b : Bool) (xs ys : List Sign) (ss ts : List (List ℕ)) → length xs ≡ length ss → strong false ys ts ≤ strong b (xs ++ ys) (ss ++ ts)
-  strong_behind b [] ys [] ts e = omega (arith, strong_low b ys ts)
-  strong_behind b [] ys (s ∷ ss) ts e = absurd (omega arith)
-  strong_behind b (x ∷ xs) ys [] ts e = absurd (omega arith)
-  strong_behind b (Above ∷ xs) ys (s ∷ ss) ts e = omega (arith, strong_behind false xs ys ss ts (omega arith))
-  strong_behind b (Even ∷ xs) ys (s ∷ ss) ts e = omega (arith, strong_behind false xs ys ss ts (omega arith))
-  strong_behind b (Under ∷ xs) ys (s ∷ ss) ts e = omega (arith, strong_behind true xs ys ss ts (omega arith))
+  strong_behind = behind strong strong_low
+      (λ b x signs s segments. omega (arith, (behind_first b x signs (length s) (map length segments) (P s) (map P segments)).1))
 
   -- the first of some segments sees what stands behind them
   pub first_sees : (b : Bool) (x : Sign) (xs ys : List Sign) (s : List ℕ) (ss ts : List (List ℕ)) → length xs ≡ length ss

@@ -1,10 +1,10 @@
 -- The strong bound and the weight along a word of a normal layout, and the cuts by them.
 use Rattle.std.specs.List.{AllByRecursion, list_any}
-use Rattle.std.proofs.Common.{Bool, List, Some, [], ap, arith, cond, false, length, map, nat_eq, refl, slice_get, slice_index_or, subst, suc}
-use Rattle.std.proofs.Common.{true, ℕ, ◌||◌, ◌++◌, ◌+◌, ◌<◌, ◌∙◌, ◌∷◌, ◌≡◌, ◌≤◌}
+use Rattle.std.proofs.Common.{Bool, List, Some, [], ap, arith, cond, false, length, map, max, nat_eq, refl, slice_get, slice_index_or, subst, suc, sym}
+use Rattle.std.proofs.Common.{true, zero, ℕ, ◌||◌, ◌++◌, ◌+◌, ◌<◌, ◌∙◌, ◌∷◌, ◌≡◌, ◌≤◌}
 use Rattle.std.proofs.lemmas.Bool.{or_left, or_right}
 use Rattle.std.proofs.lemmas.Bool.Decides.{nat_tests}
-use Rattle.std.proofs.lemmas.List.{length-append}
+use Rattle.std.proofs.lemmas.List.{length-append, length-map}
 use Rattle.std.proofs.lemmas.List.Folds.{list_any-append}
 use Rattle.bk_laws.proofs.AllOfLists.{all_right, list_any-slice_get}
 use Rattle.bk_word.specs.Outline.{Outline, start}
@@ -26,8 +26,10 @@ use Rattle.bk_layout.proofs.NormalCuts.ClosedSegments.{closed_square}
 use Rattle.bk_layout.proofs.NormalCuts.MovesLeft.{at_end, legal, shaped}
 use Rattle.bk_layout.proofs.NormalCuts.FewMoves.{few_moves}
 use Rattle.bk_layout.proofs.FreeCuts.SquaresLeft.{twins_then}
+use Rattle.bk_layout.proofs.NormalCuts.PassCounts.{fewer_marks_ask_less}
+use Rattle.bk_word.specs.Signs.{is_under}
 use Rattle.bk_layout.proofs.NormalCuts.StrongMoves.{strong_after, weight_after}
-use Rattle.bk_layout.proofs.NormalCuts.StrongParts.{strong, weight}
+use Rattle.bk_layout.proofs.NormalCuts.StrongParts.{behind_first, rise, strong, weight}
 use Rattle.bk_layout.proofs.NormalCuts.WideSegments.{last_two, no_sign, orders, pairs_from, wide_long}
 use Rattle.bk_layout.specs.NormalCuts.{touched_or_wide}
 use Rattle.bk_layout.specs.WordNumbers.{first_count}
@@ -120,49 +122,51 @@ abbrev OneMarked : ℕ → ℕ → Bool → List Sign → List (List ℕ) → Li
 OneMarked n c low signs segments marks = (i : ℕ) (s : List ℕ) → slice_get segments i ≡ Some s → slice_index_or marks i false ≡ true
     → (z : ℕ) × (has z s ≡ true) × (strong_from low signs (map length segments) (map (has z) segments) + c ≤ n)
 
+-- the bound is that with other marks behind the first segment, or that of what stands behind it
+bound_with : (low : Bool) (x : Sign) (signs : List Sign) (size : ℕ) (sizes : List ℕ) (b : Bool) (marks others : List Bool)
+    → strong_from low (x ∷ signs) (size ∷ sizes) (b ∷ marks)
+    ≤ max (strong_from low (x ∷ signs) (size ∷ sizes) (b ∷ others)) (rise x + strong_from (is_under x) signs sizes marks)
+bound_with low Above signs size sizes b marks others = omega arith
+bound_with low Even signs size sizes b marks others = omega arith
+bound_with low Under signs size sizes b marks others = omega arith
+
+-- with the first of the marks alone it is one with the mark of one square, or with none
+first_marked : (n c : ℕ) (low : Bool) (signs : List Sign) (s : List ℕ) (segments : List (List ℕ)) (b : Bool) (marks : List Bool)
+    → strong_from low signs (map length (s ∷ segments)) (map none_of (s ∷ segments)) + c ≤ n → OneMarked n c low signs (s ∷ segments) (b ∷ marks)
+    → strong_from low signs (map length (s ∷ segments)) (b ∷ map none_of segments) + c ≤ n
+first_marked n c low signs s segments false marks none each = none
+first_marked n c low signs s segments true marks none each = let r = each 0 s refl refl in
+    omega (
+      arith,
+      r.2,
+      fewer_marks_ask_less low signs (map length (s ∷ segments)) (true ∷ map none_of segments) (map (has r.0) (s ∷ segments))
+          (ap suc (length-map segments none_of ∙ sym (length-map segments (has r.0)))) (fewer r.0 r.1),
+    )
+  where
+    no_mark : {A : Type 0} (segments : List (List ℕ)) (i : ℕ) → slice_index_or (map none_of segments) i false ≡ true → A
+    no_mark [] i e = absurd (cc)
+    no_mark (t ∷ segments) zero e = absurd (cc)
+    no_mark (t ∷ segments) (suc i) e = no_mark segments i e
+
+    fewer : (z : ℕ) → has z s ≡ true → (i : ℕ) → slice_index_or (true ∷ map none_of segments) i false ≡ true
+        → slice_index_or (map (has z) (s ∷ segments)) i false ≡ true
+    fewer z e zero f = e
+    fewer z e (suc i) f = no_mark segments i f
+
 one_marked : (n c : ℕ) (low : Bool) (signs : List Sign) (segments : List (List ℕ)) (marks : List Bool) → length marks ≡ length segments
     → strong_from low signs (map length segments) (map none_of segments) + c ≤ n → OneMarked n c low signs segments marks
     → strong_from low signs (map length segments) marks + c ≤ n
 one_marked n c low signs [] marks long none each = none
 one_marked n c low signs (s ∷ segments) [] long none each = absurd (omega arith)
-one_marked n c low [] (s ∷ segments) (false ∷ marks) long none each = none
-one_marked n c low [] (s ∷ segments) (true ∷ marks) long none each = let r = each 0 s refl refl in
-    omega (arith, none, r.2, ap (λ (b : Bool). cond {A = ℕ} b 1 0) r.1)
-one_marked n c low (Above ∷ signs) (s ∷ segments) (false ∷ marks) long none each = omega (
+one_marked n c low [] (s ∷ segments) (b ∷ marks) long none each = first_marked n c low [] s segments b marks none each
+one_marked n c low (x ∷ signs) (s ∷ segments) (b ∷ marks) long none each = omega (
   arith,
-  none,
-  one_marked n (c + 1) false signs segments marks (omega arith) (omega (arith, none)) (λ i t e f. let r = each (suc i) t e f in (r.0, r.1, omega (arith, r.2))),
-)
-one_marked n c low (Above ∷ signs) (s ∷ segments) (true ∷ marks) long none each = let r = each 0 s refl refl in omega (
-  arith,
-  none,
-  r.2,
-  ap (λ (b : Bool). cond {A = ℕ} b 1 0) r.1,
-  one_marked n (c + 1) false signs segments marks (omega arith) (omega (arith, none)) (λ i t e f. let q = each (suc i) t e f in (q.0, q.1, omega (arith, q.2))),
-)
-one_marked n c low (Even ∷ signs) (s ∷ segments) (false ∷ marks) long none each = omega (
-  arith,
-  none,
-  one_marked n c false signs segments marks (omega arith) (omega (arith, none)) (λ i t e f. let r = each (suc i) t e f in (r.0, r.1, omega (arith, r.2))),
-)
-one_marked n c low (Even ∷ signs) (s ∷ segments) (true ∷ marks) long none each = let r = each 0 s refl refl in omega (
-  arith,
-  none,
-  r.2,
-  ap (λ (b : Bool). cond {A = ℕ} b 1 0) r.1,
-  one_marked n c false signs segments marks (omega arith) (omega (arith, none)) (λ i t e f. let q = each (suc i) t e f in (q.0, q.1, omega (arith, q.2))),
-)
-one_marked n c low (Under ∷ signs) (s ∷ segments) (false ∷ marks) long none each = omega (
-  arith,
-  none,
-  one_marked n c true signs segments marks (omega arith) (omega (arith, none)) (λ i t e f. let r = each (suc i) t e f in (r.0, r.1, omega (arith, r.2))),
-)
-one_marked n c low (Under ∷ signs) (s ∷ segments) (true ∷ marks) long none each = let r = each 0 s refl refl in omega (
-  arith,
-  none,
-  r.2,
-  ap (λ (b : Bool). cond {A = ℕ} b 1 0) r.1,
-  one_marked n c true signs segments marks (omega arith) (omega (arith, none)) (λ i t e f. let q = each (suc i) t e f in (q.0, q.1, omega (arith, q.2))),
+  first_marked n c low (x ∷ signs) s segments b marks none each,
+  bound_with low x signs (length s) (map length segments) b marks (map none_of segments),
+  one_marked n (rise x + c) (is_under x) signs segments marks (omega arith)
+      (omega (arith, none, (behind_first low x signs (length s) (map length segments) false (map none_of segments)).1))
+      (λ i t e f. let r = each (suc i) t e f in
+      (r.0, r.1, omega (arith, r.2, (behind_first low x signs (length s) (map length segments) (has r.0 s) (map (has r.0) segments)).1))),
 )
 
 -- ---- a word of a normal layout

@@ -1,6 +1,6 @@
 -- Each tiling has a normal image: of the tiling and of it with columns and levels exchanged one has few nodes, and two flips do the rest.
 use Rattle.std.proofs.Common.{arith, inl, inr, max, min, subst, sym, ℕ, ◌*◌, ◌+◌, ◌<◌, ◌≡◌, ◌≤◌, ◌⊎◌}
-use Rattle.bk_laws.proofs.NumberOrder.{le_or_ge, lt_or_gt_or_eq, max-of_equal, max_min-of_le, min-of_equal}
+use Rattle.bk_laws.proofs.NumberOrder.{le_or_ge, lt_or_gt_or_eq, max_min-of_le}
 use Rattle.bk_tiling.specs.Tiling.{IsTiling, Tiling, order}
 use Rattle.bk_sym.proofs.Composing.{image-Same, images_of_images}
 use Rattle.bk_sym.proofs.Images.{images_are_tilings}
@@ -9,10 +9,10 @@ use Rattle.bk_sym.specs.Turns.{after}
 use Rattle.bk_sym.specs.declared.Turn.{Turn}
 use Rattle.bk_sym.specs.declared.Turn.TheVariants.{FlipX, FlipY, Same, Swap}
 use Rattle.bk_layout.proofs.NormalImages.FewNodes.{AreFew, IsNoGreater, as_many_x, as_many_y, few_from, few_kept, fewer_across, fewer_level, first}
+use Rattle.bk_layout.proofs.NormalImages.FewNodes.{max_min-of_these}
 use Rattle.bk_layout.proofs.NormalImages.FewNodes.{more_across, more_level, no_greater, second, third}
-use Rattle.bk_layout.proofs.NormalImages.ImageCorners.{corner_x_bottom, corner_x_left, corner_x_right, corner_x_top, corner_y_bottom, corner_y_top}
-use Rattle.bk_layout.proofs.NormalImages.ImageCounts.{flip_x_bottom, flip_x_left, flip_x_right, flip_x_top, flip_y_bottom, flip_y_top}
-use Rattle.bk_layout.proofs.NormalImages.ImageCounts.{image_order, swap_bottom, swap_left, swap_right, swap_top}
+use Rattle.bk_layout.proofs.NormalImages.ImageCorners.{corner_x_bottom, corner_x_top, corners_x, corners_y}
+use Rattle.bk_layout.proofs.NormalImages.ImageCounts.{flip_x_sides, flip_y_sides, image_order, swap_sides}
 use Rattle.bk_layout.proofs.NormalImages.UpendedGroups.{both_groups, groups_of}
 use Rattle.bk_layout.specs.Normal.{AreTiesSettled, EachTilingHasANormalImage, HasNormalImage, IsNormal, counts_of, is_in_bottom_corner}
 use Rattle.bk_layout.specs.Normal.{is_in_left_corner, is_in_right_corner, is_in_top_corner, longest}
@@ -74,10 +74,10 @@ flip_across t tiling f l = cases (lt_or_gt_or_eq (counts_of t).left (counts_of t
     flipped a = from_image t tiling FlipX (as_it_is (image FlipX t) (images_are_tilings t FlipX tiling)
         (few_kept t (image FlipX t) (as_many_x t tiling) f)
         (record {
-          level = omega (arith, l.level, flip_x_top t tiling, flip_x_bottom t tiling);
+          level = omega (arith, l.level, (flip_x_sides t tiling).at_top, (flip_x_sides t tiling).at_bottom);
           tie = λ e. omega (
             arith,
-            l.tie (omega (arith, e, flip_x_top t tiling, flip_x_bottom t tiling)),
+            l.tie (omega (arith, e, (flip_x_sides t tiling).at_top, (flip_x_sides t tiling).at_bottom)),
             corner_x_top t tiling,
             corner_x_bottom t tiling,
           );
@@ -89,13 +89,13 @@ flip_across t tiling f l = cases (lt_or_gt_or_eq (counts_of t).left (counts_of t
         ⊎ (longest (is_in_left_corner t.height) t.squares ≤ longest (is_in_right_corner t.width t.height) t.squares) → HasNormalImage t
     cases (inl h) o = as_it_is t tiling f l (record { across = omega (arith, h); tie = λ e. absurd (omega (arith, h, e)) })
     cases (inr (inl h)) o = flipped (record {
-      across = omega (arith, h, flip_x_left t tiling, flip_x_right t tiling);
-      tie = λ e. absurd (omega (arith, h, e, flip_x_left t tiling, flip_x_right t tiling));
+      across = omega (arith, h, (flip_x_sides t tiling).at_left, (flip_x_sides t tiling).at_right);
+      tie = λ e. absurd (omega (arith, h, e, (flip_x_sides t tiling).at_left, (flip_x_sides t tiling).at_right));
     })
     cases (inr (inr h)) (inl o) = as_it_is t tiling f l (record { across = omega (arith, h); tie = λ e. o })
     cases (inr (inr h)) (inr o) = flipped (record {
-      across = omega (arith, h, flip_x_left t tiling, flip_x_right t tiling);
-      tie = λ e. omega (arith, o, corner_x_left t tiling, corner_x_right t tiling);
+      across = omega (arith, h, (flip_x_sides t tiling).at_left, (flip_x_sides t tiling).at_right);
+      tie = λ e. omega (arith, o, (corners_x t tiling).0, (corners_x t tiling).1);
     })
 
 -- top and bottom exchanged before, or not
@@ -112,13 +112,13 @@ flip_level t tiling f = cases (lt_or_gt_or_eq (counts_of t).bottom (counts_of t)
         ⊎ (longest (is_in_top_corner t.width) t.squares ≤ longest (is_in_bottom_corner t.width t.height) t.squares) → HasNormalImage t
     cases (inl h) o = flip_across t tiling f (record { level = omega (arith, h); tie = λ e. absurd (omega (arith, h, e)) })
     cases (inr (inl h)) o = flipped (record {
-      level = omega (arith, h, flip_y_top t tiling, flip_y_bottom t tiling);
-      tie = λ e. absurd (omega (arith, h, e, flip_y_top t tiling, flip_y_bottom t tiling));
+      level = omega (arith, h, (flip_y_sides t tiling).at_top, (flip_y_sides t tiling).at_bottom);
+      tie = λ e. absurd (omega (arith, h, e, (flip_y_sides t tiling).at_top, (flip_y_sides t tiling).at_bottom));
     })
     cases (inr (inr h)) (inl o) = flip_across t tiling f (record { level = omega (arith, h); tie = λ e. o })
     cases (inr (inr h)) (inr o) = flipped (record {
-      level = omega (arith, h, flip_y_top t tiling, flip_y_bottom t tiling);
-      tie = λ e. omega (arith, o, corner_y_top t tiling, corner_y_bottom t tiling);
+      level = omega (arith, h, (flip_y_sides t tiling).at_top, (flip_y_sides t tiling).at_bottom);
+      tie = λ e. omega (arith, o, (corners_y t tiling).0, (corners_y t tiling).1);
     })
 
 -- the tiling, or it with columns and levels exchanged
@@ -131,20 +131,12 @@ module _ (t : Tiling) (tiling : IsTiling t) where
   swapped h = same h
     where
       across : (more_across (image Swap t) ≡ more_level t) × (fewer_across (image Swap t) ≡ fewer_level t)
-      across = (
-        max-of_equal (counts_of t).top (counts_of t).bottom (counts_of (image Swap t)).left (counts_of (image Swap t)).right
-            (swap_left t tiling) (swap_right t tiling),
-        min-of_equal (counts_of t).top (counts_of t).bottom (counts_of (image Swap t)).left (counts_of (image Swap t)).right
-            (swap_left t tiling) (swap_right t tiling),
-      )
+      across = max_min-of_these (counts_of t).top (counts_of t).bottom (counts_of (image Swap t)).left (counts_of (image Swap t)).right
+          (inl ((swap_sides t tiling).at_left, (swap_sides t tiling).at_right))
 
       level : (more_level (image Swap t) ≡ more_across t) × (fewer_level (image Swap t) ≡ fewer_across t)
-      level = (
-        max-of_equal (counts_of t).left (counts_of t).right (counts_of (image Swap t)).top (counts_of (image Swap t)).bottom
-            (swap_top t tiling) (swap_bottom t tiling),
-        min-of_equal (counts_of t).left (counts_of t).right (counts_of (image Swap t)).top (counts_of (image Swap t)).bottom
-            (swap_top t tiling) (swap_bottom t tiling),
-      )
+      level = max_min-of_these (counts_of t).left (counts_of t).right (counts_of (image Swap t)).top (counts_of (image Swap t)).bottom
+          (inl ((swap_sides t tiling).at_top, (swap_sides t tiling).at_bottom))
 
       same : IsNoGreater (more_level t) (fewer_level t) t.width (more_across t) (fewer_across t) t.height
           → IsNoGreater (more_across (image Swap t)) (fewer_across (image Swap t)) t.width (more_level (image Swap t)) (fewer_level (image Swap t)) t.height

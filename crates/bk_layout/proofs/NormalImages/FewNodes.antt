@@ -4,9 +4,7 @@ use Rattle.bk_laws.proofs.NumberOrder.{le_or_ge, lt_or_gt_or_eq, max-of_equal, m
 use Rattle.bk_tiling.specs.Tiling.{IsTiling, Tiling, order}
 use Rattle.bk_sym.specs.Image.{image}
 use Rattle.bk_sym.specs.declared.Turn.TheVariants.{FlipX, FlipY}
-use Rattle.bk_layout.proofs.NormalImages.ImageCounts.{flip_x_bottom, flip_x_left, flip_x_right, flip_x_top, flip_y_bottom, flip_y_left, flip_y_right}
-use Rattle.bk_layout.proofs.NormalImages.ImageCounts.{flip_y_top}
-use Rattle.bk_layout.proofs.NormalImages.ImageCounts.{image_order}
+use Rattle.bk_layout.proofs.NormalImages.ImageCounts.{flip_x_sides, flip_y_sides, image_order}
 use Rattle.bk_layout.proofs.NormalImages.MirroredGroups.{flip_x_groups}
 use Rattle.bk_layout.proofs.NormalImages.UpendedGroups.{flip_y_groups, groups_of}
 use Rattle.bk_layout.specs.Normal.{IsHalf, counts_of}
@@ -62,39 +60,45 @@ few_kept t u s f = record {
 
 -- ---- what a flip keeps
 
+-- two numbers are these, in one order or the other
+abbrev pub AreThese : ℕ → ℕ → ℕ → ℕ → Type 0
+AreThese a b c d = ((c ≡ a) × (d ≡ b)) ⊎ ((c ≡ b) × (d ≡ a))
+
+-- then the greater of them is the same, and the smaller is
+pub max_min-of_these : (a b c d : ℕ) → AreThese a b c d → (max c d ≡ max a b) × (min c d ≡ min a b)
+max_min-of_these a b c d (inl (e, f)) = (max-of_equal a b c d e f, min-of_equal a b c d e f)
+max_min-of_these a b c d (inr (e, f)) = (max-of_swapped a b c d e f, min-of_swapped a b c d e f)
+
+-- with as many squares at the left and the right, in one order or the other, and at the top and the bottom, all these are as many
+as_many : (t u : Tiling) → order u ≡ order t → groups_of u ≡ groups_of t
+    → AreThese (counts_of t).left (counts_of t).right (counts_of u).left (counts_of u).right
+    → AreThese (counts_of t).top (counts_of t).bottom (counts_of u).top (counts_of u).bottom → u.height ≡ t.height → u.width ≡ t.width → AreAsMany t u
+as_many t u squares moves across level high wide = record {
+  squares = squares;
+  moves = moves;
+  more_across_same = sides.0;
+  fewer_across_same = sides.1;
+  more_level_same = ends.0;
+  fewer_level_same = ends.1;
+  height = high;
+  width = wide;
+}
+  where
+    sides : (more_across u ≡ more_across t) × (fewer_across u ≡ fewer_across t)
+    sides = max_min-of_these (counts_of t).left (counts_of t).right (counts_of u).left (counts_of u).right across
+
+    ends : (more_level u ≡ more_level t) × (fewer_level u ≡ fewer_level t)
+    ends = max_min-of_these (counts_of t).top (counts_of t).bottom (counts_of u).top (counts_of u).bottom level
+
 -- with left and right exchanged
 pub as_many_x : (t : Tiling) → IsTiling t → AreAsMany t (image FlipX t)
-as_many_x t tiling = record {
-  squares = image_order t FlipX;
-  moves = flip_x_groups t tiling;
-  more_across_same = max-of_swapped (counts_of t).left (counts_of t).right (counts_of (image FlipX t)).left (counts_of (image FlipX t)).right
-      (flip_x_left t tiling) (flip_x_right t tiling);
-  fewer_across_same = min-of_swapped (counts_of t).left (counts_of t).right (counts_of (image FlipX t)).left (counts_of (image FlipX t)).right
-      (flip_x_left t tiling) (flip_x_right t tiling);
-  more_level_same = max-of_equal (counts_of t).top (counts_of t).bottom (counts_of (image FlipX t)).top (counts_of (image FlipX t)).bottom
-      (flip_x_top t tiling) (flip_x_bottom t tiling);
-  fewer_level_same = min-of_equal (counts_of t).top (counts_of t).bottom (counts_of (image FlipX t)).top (counts_of (image FlipX t)).bottom
-      (flip_x_top t tiling) (flip_x_bottom t tiling);
-  height = refl;
-  width = refl;
-}
+as_many_x t tiling = let s = flip_x_sides t tiling in
+    as_many t (image FlipX t) (image_order t FlipX) (flip_x_groups t tiling) (inr (s.at_left, s.at_right)) (inl (s.at_top, s.at_bottom)) refl refl
 
 -- with top and bottom exchanged
 pub as_many_y : (t : Tiling) → IsTiling t → AreAsMany t (image FlipY t)
-as_many_y t tiling = record {
-  squares = image_order t FlipY;
-  moves = flip_y_groups t tiling;
-  more_across_same = max-of_equal (counts_of t).left (counts_of t).right (counts_of (image FlipY t)).left (counts_of (image FlipY t)).right
-      (flip_y_left t tiling) (flip_y_right t tiling);
-  fewer_across_same = min-of_equal (counts_of t).left (counts_of t).right (counts_of (image FlipY t)).left (counts_of (image FlipY t)).right
-      (flip_y_left t tiling) (flip_y_right t tiling);
-  more_level_same = max-of_swapped (counts_of t).top (counts_of t).bottom (counts_of (image FlipY t)).top (counts_of (image FlipY t)).bottom
-      (flip_y_top t tiling) (flip_y_bottom t tiling);
-  fewer_level_same = min-of_swapped (counts_of t).top (counts_of t).bottom (counts_of (image FlipY t)).top (counts_of (image FlipY t)).bottom
-      (flip_y_top t tiling) (flip_y_bottom t tiling);
-  height = refl;
-  width = refl;
-}
+as_many_y t tiling = let s = flip_y_sides t tiling in
+    as_many t (image FlipY t) (image_order t FlipY) (flip_y_groups t tiling) (inl (s.at_left, s.at_right)) (inr (s.at_top, s.at_bottom)) refl refl
 
 -- numbers by which one is no greater, or the other, the first that differ deciding
 pub data IsNoGreater (a b c d e f : ℕ) : Type 0 where

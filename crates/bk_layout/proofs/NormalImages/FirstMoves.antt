@@ -8,7 +8,7 @@ use Rattle.bk_laws.proofs.Truth.{same_test-of_implications}
 use Rattle.bk_laws.proofs.NumberTests.{eq-from_nat_eq, nat_eq-of_equal}
 use Rattle.bk_tiling.proofs.Cells.{count-cons}
 use Rattle.bk_tiling.specs.SquareGroups.{square_groups}
-use Rattle.bk_tiling.specs.Tiling.{IsOneOf, IsTiling, Tiling}
+use Rattle.bk_tiling.specs.Tiling.{IsOneOf, IsTiling, Tiling, square_of}
 use Rattle.bk_tiling.specs.declared.Segment.{Segment}
 use Rattle.bk_tiling.specs.declared.Square.{Square}
 use Rattle.bk_word.specs.Play.{numbers_from}
@@ -18,7 +18,7 @@ use Rattle.bk_lay.proofs.LaidRuns.{one_of}
 use Rattle.bk_word_net.proofs.TilingWords.AlongWord.{top_valley}
 use Rattle.bk_layout.proofs.TilingLayouts.Edges.{right_within, side}
 use Rattle.bk_layout.proofs.TilingLayouts.TilingSquares.{node_at}
-use Rattle.bk_layout.specs.TilingLayout.{layout_of, node_above, put_by, sorted_by, square_of}
+use Rattle.bk_layout.specs.TilingLayout.{layout_of, node_above, put_by, sorted_by}
 use Rattle.bk_layout.proofs.TilingLayouts.GroupNodes.{IsNode}
 
 put_long : (f : ℕ → ℕ) (q : ℕ) (xs : List ℕ) → length (put_by f q xs) ≡ suc (length xs)

@@ -44,6 +44,18 @@ module _ (t : Tiling) (tiling : IsTiling t) where
       ∙ longest_moved c d (image_square turn t.width t.height) t.squares
       (λ q h. each q (within_of t tiling q h).right (within_of t tiling q h).bottom) side
 
+  -- two sides that a turn exchanges, each with what it keeps at both of them
+  exchanged : (turn : Turn) (c d ends : Square → Bool) → ((q : Square) → (image_square turn t.width t.height q).s ≡ q.s)
+      → ((q : Square) → ends (image_square turn t.width t.height q) ≡ ends q)
+      → ((q : Square) → q.x + q.s ≤ 0 + t.width → q.y + q.s ≤ 0 + t.height → c (image_square turn t.width t.height q) ≡ d q)
+      → ((q : Square) → q.x + q.s ≤ 0 + t.width → q.y + q.s ≤ 0 + t.height → d (image_square turn t.width t.height q) ≡ c q)
+      → (longest (λ q. c q && ends q) (image turn t).squares ≡ longest (λ q. d q && ends q) t.squares)
+      × (longest (λ q. d q && ends q) (image turn t).squares ≡ longest (λ q. c q && ends q) t.squares)
+  exchanged turn c d ends side keeps to back = (
+    longest_image turn (λ q. c q && ends q) (λ q. d q && ends q) side (λ q a b i. to q a b i && keeps q i),
+    longest_image turn (λ q. d q && ends q) (λ q. c q && ends q) side (λ q a b i. back q a b i && keeps q i),
+  )
+
   -- the walls, mirrored
   mirrored_walls : (q : Square) → q.x + q.s ≤ 0 + t.width
       → (is_at_left (image_square FlipX t.width t.height q) || is_at_right t.width (image_square FlipX t.width t.height q))
@@ -63,24 +75,14 @@ module _ (t : Tiling) (tiling : IsTiling t) where
   corner_x_bottom = longest_image FlipX (is_in_bottom_corner t.width t.height) (is_in_bottom_corner t.width t.height) (λ q. refl)
       (λ q a b. ap (λ (c : Bool). is_at_bottom t.height q && c) (mirrored_walls q a))
 
-  -- at the left it is the one that was at the right
-  pub corner_x_left : longest (is_in_left_corner t.height) (image FlipX t).squares ≡ longest (is_in_right_corner t.width t.height) t.squares
-  corner_x_left = longest_image FlipX (is_in_left_corner t.height) (is_in_right_corner t.width t.height) (λ q. refl)
-      (λ q a b. ap (λ (c : Bool). c && (is_at_top q || is_at_bottom t.height q)) (eq_test-counted_back_start t.width q.x q.s a))
+  -- at the left it is the one that was at the right, and the other way round
+  pub corners_x : (longest (is_in_left_corner t.height) (image FlipX t).squares ≡ longest (is_in_right_corner t.width t.height) t.squares)
+      × (longest (is_in_right_corner t.width t.height) (image FlipX t).squares ≡ longest (is_in_left_corner t.height) t.squares)
+  corners_x = exchanged FlipX is_at_left (is_at_right t.width) (λ q. is_at_top q || is_at_bottom t.height q) (λ q. refl) (λ q. refl)
+      (λ q a b. eq_test-counted_back_start t.width q.x q.s a) (λ q a b. eq_test-counted_back_end t.width q.x q.s a)
 
-  -- the longest in a corner at the right is the one that was at the left
-  pub corner_x_right : longest (is_in_right_corner t.width t.height) (image FlipX t).squares ≡ longest (is_in_left_corner t.height) t.squares
-  corner_x_right = longest_image FlipX (is_in_right_corner t.width t.height) (is_in_left_corner t.height) (λ q. refl)
-      (λ q a b. ap (λ (c : Bool). c && (is_at_top q || is_at_bottom t.height q)) (eq_test-counted_back_end t.width q.x q.s a))
-
-  -- ---- top and bottom exchanged
-
-  -- at the top it is the one that was at the bottom
-  pub corner_y_top : longest (is_in_top_corner t.width) (image FlipY t).squares ≡ longest (is_in_bottom_corner t.width t.height) t.squares
-  corner_y_top = longest_image FlipY (is_in_top_corner t.width) (is_in_bottom_corner t.width t.height) (λ q. refl)
-      (λ q a b. ap (λ (c : Bool). c && (is_at_left q || is_at_right t.width q)) (eq_test-counted_back_start t.height q.y q.s b))
-
-  -- the longest in a corner at the bottom is the one that was at the top
-  pub corner_y_bottom : longest (is_in_bottom_corner t.width t.height) (image FlipY t).squares ≡ longest (is_in_top_corner t.width) t.squares
-  corner_y_bottom = longest_image FlipY (is_in_bottom_corner t.width t.height) (is_in_top_corner t.width) (λ q. refl)
-      (λ q a b. ap (λ (c : Bool). c && (is_at_left q || is_at_right t.width q)) (eq_test-counted_back_end t.height q.y q.s b))
+  -- with top and bottom exchanged, the one at the top was at the bottom, and the other way round
+  pub corners_y : (longest (is_in_top_corner t.width) (image FlipY t).squares ≡ longest (is_in_bottom_corner t.width t.height) t.squares)
+      × (longest (is_in_bottom_corner t.width t.height) (image FlipY t).squares ≡ longest (is_in_top_corner t.width) t.squares)
+  corners_y = exchanged FlipY is_at_top (is_at_bottom t.height) (λ q. is_at_left q || is_at_right t.width q) (λ q. refl) (λ q. refl)
+      (λ q a b. eq_test-counted_back_start t.height q.y q.s b) (λ q a b. eq_test-counted_back_end t.height q.y q.s b)

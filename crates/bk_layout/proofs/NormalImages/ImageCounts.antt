@@ -11,7 +11,14 @@ use Rattle.bk_sym.specs.Image.{image, image_square}
 use Rattle.bk_sym.specs.declared.Turn.{Turn}
 use Rattle.bk_sym.specs.declared.Turn.TheVariants.{FlipX, FlipY, Swap}
 use Rattle.bk_dual.proofs.PointSums.{sum_same_in}
-use Rattle.bk_layout.specs.Normal.{is_at_bottom, is_at_left, is_at_right, is_at_top}
+use Rattle.bk_layout.specs.Normal.{Counts, counts_of, is_at_bottom, is_at_left, is_at_right, is_at_top}
+
+-- so many squares lie at each side
+pub record HasSides (c : Counts) (top bottom left right : ℕ) : Type 0 where
+  pub at_top : c.top ≡ top
+  pub at_bottom : c.bottom ≡ bottom
+  pub at_left : c.left ≡ left
+  pub at_right : c.right ≡ right
 
 -- tests that agree on all squares count alike
 pub count_same_in : (f g : Square → Bool) (squares : List Square) → ((q : Square) → IsOneOf q squares → f q ≡ g q) → count_by f squares ≡ count_by g squares
@@ -34,56 +41,29 @@ module _ (t : Tiling) (tiling : IsTiling t) where
   image_count_as turn c d each = image_count t turn c ∙ count_same_in (λ p. c (image_square turn t.width t.height p)) d t.squares
       (λ q h. each q (within_of t tiling q h).right (within_of t tiling q h).bottom)
 
-  -- ---- left and right exchanged
+  -- with left and right exchanged
+  pub flip_x_sides : HasSides (counts_of (image FlipX t)) (counts_of t).top (counts_of t).bottom (counts_of t).right (counts_of t).left
+  flip_x_sides = record {
+    at_top = image_count_as FlipX is_at_top is_at_top (λ q a b. refl);
+    at_bottom = image_count_as FlipX (is_at_bottom t.height) (is_at_bottom t.height) (λ q a b. refl);
+    at_left = image_count_as FlipX is_at_left (is_at_right t.width) (λ q a b. eq_test-counted_back_start t.width q.x q.s a);
+    at_right = image_count_as FlipX (is_at_right t.width) is_at_left (λ q a b. eq_test-counted_back_end t.width q.x q.s a);
+  }
 
-  -- as many lie at the top
-  pub flip_x_top : count_by is_at_top (image FlipX t).squares ≡ count_by is_at_top t.squares
-  flip_x_top = image_count_as FlipX is_at_top is_at_top (λ q a b. refl)
+  -- with top and bottom exchanged
+  pub flip_y_sides : HasSides (counts_of (image FlipY t)) (counts_of t).bottom (counts_of t).top (counts_of t).left (counts_of t).right
+  flip_y_sides = record {
+    at_top = image_count_as FlipY is_at_top (is_at_bottom t.height) (λ q a b. eq_test-counted_back_start t.height q.y q.s b);
+    at_bottom = image_count_as FlipY (is_at_bottom t.height) is_at_top (λ q a b. eq_test-counted_back_end t.height q.y q.s b);
+    at_left = image_count_as FlipY is_at_left is_at_left (λ q a b. refl);
+    at_right = image_count_as FlipY (is_at_right t.width) (is_at_right t.width) (λ q a b. refl);
+  }
 
-  -- flipped along x, as many squares lie at the bottom
-  pub flip_x_bottom : count_by (is_at_bottom t.height) (image FlipX t).squares ≡ count_by (is_at_bottom t.height) t.squares
-  flip_x_bottom = image_count_as FlipX (is_at_bottom t.height) (is_at_bottom t.height) (λ q a b. refl)
-
-  -- as many at the left as lay at the right
-  pub flip_x_left : count_by is_at_left (image FlipX t).squares ≡ count_by (is_at_right t.width) t.squares
-  flip_x_left = image_count_as FlipX is_at_left (is_at_right t.width) (λ q a b. eq_test-counted_back_start t.width q.x q.s a)
-
-  -- flipped along x, as many squares lie at the right as lay at the left
-  pub flip_x_right : count_by (is_at_right t.width) (image FlipX t).squares ≡ count_by is_at_left t.squares
-  flip_x_right = image_count_as FlipX (is_at_right t.width) is_at_left (λ q a b. eq_test-counted_back_end t.width q.x q.s a)
-
-  -- ---- top and bottom exchanged
-
-  -- as many lie at the left
-  pub flip_y_left : count_by is_at_left (image FlipY t).squares ≡ count_by is_at_left t.squares
-  flip_y_left = image_count_as FlipY is_at_left is_at_left (λ q a b. refl)
-
-  -- flipped along y, as many squares lie at the right
-  pub flip_y_right : count_by (is_at_right t.width) (image FlipY t).squares ≡ count_by (is_at_right t.width) t.squares
-  flip_y_right = image_count_as FlipY (is_at_right t.width) (is_at_right t.width) (λ q a b. refl)
-
-  -- as many at the top as lay at the bottom
-  pub flip_y_top : count_by is_at_top (image FlipY t).squares ≡ count_by (is_at_bottom t.height) t.squares
-  flip_y_top = image_count_as FlipY is_at_top (is_at_bottom t.height) (λ q a b. eq_test-counted_back_start t.height q.y q.s b)
-
-  -- flipped along y, as many squares lie at the bottom as lay at the top
-  pub flip_y_bottom : count_by (is_at_bottom t.height) (image FlipY t).squares ≡ count_by is_at_top t.squares
-  flip_y_bottom = image_count_as FlipY (is_at_bottom t.height) is_at_top (λ q a b. eq_test-counted_back_end t.height q.y q.s b)
-
-  -- ---- columns and levels exchanged
-
-  -- as many lie at the top as lay at the left
-  pub swap_top : count_by is_at_top (image Swap t).squares ≡ count_by is_at_left t.squares
-  swap_top = image_count_as Swap is_at_top is_at_left (λ q a b. refl)
-
-  -- at the bottom as lay at the right
-  pub swap_bottom : count_by (is_at_bottom t.width) (image Swap t).squares ≡ count_by (is_at_right t.width) t.squares
-  swap_bottom = image_count_as Swap (is_at_bottom t.width) (is_at_right t.width) (λ q a b. refl)
-
-  -- at the left as lay at the top
-  pub swap_left : count_by is_at_left (image Swap t).squares ≡ count_by is_at_top t.squares
-  swap_left = image_count_as Swap is_at_left is_at_top (λ q a b. refl)
-
-  -- swapped, as many squares lie at the right as lay at the bottom
-  pub swap_right : count_by (is_at_right t.height) (image Swap t).squares ≡ count_by (is_at_bottom t.height) t.squares
-  swap_right = image_count_as Swap (is_at_right t.height) (is_at_bottom t.height) (λ q a b. refl)
+  -- with columns and levels exchanged
+  pub swap_sides : HasSides (counts_of (image Swap t)) (counts_of t).left (counts_of t).right (counts_of t).top (counts_of t).bottom
+  swap_sides = record {
+    at_top = image_count_as Swap is_at_top is_at_left (λ q a b. refl);
+    at_bottom = image_count_as Swap (is_at_bottom t.width) (is_at_right t.width) (λ q a b. refl);
+    at_left = image_count_as Swap is_at_left is_at_top (λ q a b. refl);
+    at_right = image_count_as Swap (is_at_right t.height) (is_at_bottom t.height) (λ q a b. refl);
+  }

@@ -6,7 +6,7 @@ use Rattle.std.proofs.lemmas.Option.{get_or_from_slice_get, slice_get_within}
 use Rattle.bk_laws.proofs.Counts.{count_by-map}
 use Rattle.bk_laws.proofs.NumberTests.{eq_test-of_iff}
 use Rattle.bk_tiling.specs.SquareGroups.{square_groups}
-use Rattle.bk_tiling.specs.Tiling.{IsTiling, Tiling}
+use Rattle.bk_tiling.specs.Tiling.{IsTiling, Tiling, square_of}
 use Rattle.bk_tiling.specs.declared.Square.{Square}
 use Rattle.bk_net.specs.Diagram.{node_below}
 use Rattle.bk_word.specs.Play.{numbers_from}
@@ -14,7 +14,7 @@ use Rattle.bk_layout.proofs.Lists.Ascending.{sorted_from, sorted_to}
 use Rattle.bk_layout.proofs.TilingLayouts.NodesFit.{lists}
 use Rattle.bk_layout.proofs.TilingLayouts.TilingNet.{numbers_map}
 use Rattle.bk_layout.proofs.TilingLayouts.TilingSquares.{in_square}
-use Rattle.bk_layout.specs.TilingLayout.{from_left, layout_of, node_above, square_of}
+use Rattle.bk_layout.specs.TilingLayout.{from_left, layout_of, node_above}
 use Rattle.bk_layout.proofs.NormalImages.LayoutSides.{at_left_wall, at_right_wall, at_top, on_bottom}
 use Rattle.bk_layout.proofs.Lists.SameNumbers.{Once, once_filter, once_numbers, once_places, same_long}
 use Rattle.bk_layout.specs.Normal.{counts_of, is_at_bottom, is_at_left, is_at_right, is_at_top}

@@ -26,9 +26,19 @@ pub record Bad (l : Layout) (o : Outline) (st : State l o) (q r : ℕ) : Type 0 
   pub v_not : times (l.below q) st.done ≡ 0
 
 module _ (l : Layout) (fits : Fits l) (o : Outline) (st : State l o) (c : AtValley o) (at : ValleyAt l o st.laid c)
-    (low : l.below at.q < l.bottom) (h : Hung l (l.below at.q)) (s : List ℕ) (one : c.left ≡ s ∷ [])
-    (two : 0 < length h.more) (even : slice_get (move l fits o st c at low h).signs 0 ≡ Some Even)
-    (over : slice_get (move l fits o st c at low h).signs 1 ≡ Some Above) where
+    (low : l.below at.q < l.bottom) (h : Hung l (l.below at.q)) where
+  -- a segment stands at the left, and the move hangs two squares or more and begins with even and above
+  pub record BeginsEvenAbove : Type 0 where
+    pub s : List ℕ
+    pub one : c.left ≡ s ∷ []
+    pub two : 0 < length h.more
+    pub even : slice_get (move l fits o st c at low h).signs 0 ≡ Some Even
+    pub over : slice_get (move l fits o st c at low h).signs 1 ≡ Some Above
+
+module _ (l : Layout) (fits : Fits l) (o : Outline) (st : State l o) (c : AtValley o) (at : ValleyAt l o st.laid c)
+    (low : l.below at.q < l.bottom) (h : Hung l (l.below at.q)) (begins : BeginsEvenAbove l fits o st c at low h) where
+  open begins use {s, one, two, even, over}
+
   abbrev q : ℕ
   q = h.first
 

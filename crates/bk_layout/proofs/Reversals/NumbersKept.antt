@@ -73,29 +73,28 @@ module _ (l m : Layout) (fits : Fits l) (walls : AreOuterWalls l) (fits_m : Fits
 
   -- ---- the walls
 
+  -- a line of a square stays at a wall, if a reversed square has neither line there
+  at_wall : (q wall : ℕ) {a b c d : ℕ} → (same.turned q ≡ false → c ≡ a) → (same.turned q ≡ true → c ≡ b) → (same.turned q ≡ true → d ≡ a)
+      → (b ≡ wall → ⊥) → (d ≡ wall → ⊥) → (c ≡ wall) ↔ (a ≡ wall)
+  at_wall q wall {a} {b} {c} {d} kept turned other no_b no_d = (back (cases_Bool (same.turned q)), over (cases_Bool (same.turned q)))
+    where
+      back : (same.turned q ≡ true) ⊎ (same.turned q ≡ false) → c ≡ wall → a ≡ wall
+      back (inl t) e = absurd (no_b (sym (turned t) ∙ e))
+      back (inr t) e = sym (kept t) ∙ e
+
+      over : (same.turned q ≡ true) ⊎ (same.turned q ≡ false) → a ≡ wall → c ≡ wall
+      over (inl t) e = absurd (no_d (other t ∙ e))
+      over (inr t) e = kept t ∙ e
+
   -- no reversed square stands at a wall, in neither layout
   pub at_left : (q : ℕ) → q < l.squares → (m.left q ≡ 0) ↔ (l.left q ≡ 0)
-  at_left q low = (back (cases_Bool (same.turned q)), over (cases_Bool (same.turned q)))
-    where
-      back : (same.turned q ≡ true) ⊎ (same.turned q ≡ false) → m.left q ≡ 0 → l.left q ≡ 0
-      back (inl t) e = absurd (walls.not_before q low (sym (same.left_turned q low t) ∙ e))
-      back (inr t) e = sym (same.left_kept q low t) ∙ e
-
-      over : (same.turned q ≡ true) ⊎ (same.turned q ≡ false) → l.left q ≡ 0 → m.left q ≡ 0
-      over (inl t) e = absurd (walls_m.not_before q (low_m q low) (same.right_turned q low t ∙ e))
-      over (inr t) e = same.left_kept q low t ∙ e
+  at_left q low = at_wall q 0 (same.left_kept q low) (same.left_turned q low) (same.right_turned q low) (walls.not_before q low)
+      (walls_m.not_before q (low_m q low))
 
   -- a square is at the right wall in one layout exactly if it is in the other
   pub at_right : (q : ℕ) → q < l.squares → (m.right q ≡ 1) ↔ (l.right q ≡ 1)
-  at_right q low = (back (cases_Bool (same.turned q)), over (cases_Bool (same.turned q)))
-    where
-      back : (same.turned q ≡ true) ⊎ (same.turned q ≡ false) → m.right q ≡ 1 → l.right q ≡ 1
-      back (inl t) e = absurd (walls.not_beyond q low (sym (same.right_turned q low t) ∙ e))
-      back (inr t) e = sym (same.right_kept q low t) ∙ e
-
-      over : (same.turned q ≡ true) ⊎ (same.turned q ≡ false) → l.right q ≡ 1 → m.right q ≡ 1
-      over (inl t) e = absurd (walls_m.not_beyond q (low_m q low) (same.left_turned q low t ∙ e))
-      over (inr t) e = same.right_kept q low t ∙ e
+  at_right q low = at_wall q 1 (same.right_kept q low) (same.right_turned q low) (same.left_turned q low) (walls.not_beyond q low)
+      (walls_m.not_beyond q (low_m q low))
 
   left_kept : (counts_of_layout m).left ≡ (counts_of_layout l).left
   left_kept = ap (λ (n : ℕ). count_by (λ q. nat_eq (m.left q) 0) (numbers_from 0 n)) same.squares

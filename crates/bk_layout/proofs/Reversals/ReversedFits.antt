@@ -7,14 +7,14 @@ use Rattle.bk_laws.proofs.Outcomes.{some-injective}
 use Rattle.bk_laws.proofs.TestsAsNumbers.{cond_count-nat_eq_other}
 use Rattle.bk_layout.proofs.Lists.Drops.{Drops}
 use Rattle.bk_layout.proofs.Lists.SquareLists.{lists_at}
-use Rattle.bk_layout.proofs.Reversals.ReversedLists.{Around, Places, around, lists_then, places}
+use Rattle.bk_layout.proofs.Reversals.ReversedLists.{lists_then, scene}
 use Rattle.bk_layout.proofs.Reversals.ReversedParts.{go_on_then, goes_left_x, goes_right_p, goes_right_x, last_is_q, lines_then, nodes_then, only_p}
 use Rattle.bk_layout.proofs.Reversals.ReversedParts.{only_q, top_is}
 use Rattle.bk_layout.proofs.Sweeps.Chains.{Chain, Known, Run, chain_known, known_first, known_last, last_from, sign}
 use Rattle.bk_layout.proofs.Sweeps.Sweep.{State}
 use Rattle.bk_layout.proofs.Sweeps.Turning.{AtLeft}
 use Rattle.bk_layout.specs.Layout.{AreNeighbours, Fits, HasNoTwins, IsLast, Layout}
-use Rattle.bk_layout.specs.Reversal.{CanReverse, IsUpToReversals, reversed}
+use Rattle.bk_layout.specs.Reversal.{CanReverse, IsUpToReversals}
 use Rattle.bk_layout.specs.ReversalLaws.{AReversedLayoutFits}
 use Rattle.bk_word.specs.Outline.{Outline}
 use Rattle.bk_word.specs.declared.Sign.{Sign}
@@ -30,20 +30,7 @@ last_not w x [] t e = times-head_differs w x [] t e
 last_not w x (y ∷ xs) t e = last_not w y xs (omega (arith, t)) e
 
 module _ (l : Layout) (fits : Fits l) (q p r : ℕ) (can : CanReverse l q p r) where
-  abbrev m : Layout
-  m = reversed l q p r
-
-  abbrev u : ℕ
-  u = l.above q
-
-  abbrev v : ℕ
-  v = l.below q
-
-  abbrev about : Around l fits q p r can
-  about = around l fits q p r can
-
-  abbrev by_place : Places l fits q p r can
-  by_place = places l fits q p r can
+  open (scene l fits q p r can) use {m, u, v, about, by_place}
 
   -- the reversed layout fits
   pub fits_then : Fits m

@@ -2,27 +2,14 @@
 use Rattle.bk_laws.proofs.ListPlaces.{got_low, slice_get-snoc_cases}
 use Rattle.bk_laws.proofs.Outcomes.{some-injective}
 use Rattle.bk_layout.proofs.Lists.Pieces.{put_at, put_other}
-use Rattle.bk_layout.proofs.Reversals.ReversedLists.{Around, Places, around, places}
+use Rattle.bk_layout.proofs.Reversals.ReversedLists.{scene}
 use Rattle.bk_layout.specs.Layout.{AreLines, AreNeighbours, AreNodes, DoLinesGoOn, Fits, IsFirst, IsLast, Layout}
-use Rattle.bk_layout.specs.Reversal.{CanReverse, put, reversed}
+use Rattle.bk_layout.specs.Reversal.{CanReverse, put}
 use Rattle.std.proofs.Common.{Bool, List, Some, ap, arith, false, inl, inr, length, refl, slice_get, subst, suc, sym, true, zero, ℕ, ◌<◌, ◌∙◌, ◌≡◌, ◌≤◌, ◌⊎◌}
 use Rattle.std.proofs.lemmas.Bool.{cases_eq}
 
 module _ (l : Layout) (fits : Fits l) (q p r : ℕ) (can : CanReverse l q p r) where
-  abbrev m : Layout
-  m = reversed l q p r
-
-  abbrev u : ℕ
-  u = l.above q
-
-  abbrev v : ℕ
-  v = l.below q
-
-  abbrev about : Around l fits q p r can
-  about = around l fits q p r can
-
-  abbrev by_place : Places l fits q p r can
-  by_place = places l fits q p r can
+  open (scene l fits q p r can) use {m, u, v, about, by_place}
 
   -- what ends last on u in the reversed layout ends last on it
   pub last_eu : (x : ℕ) → IsLast (m.ending u) x → IsLast (l.ending u) x

@@ -1,9 +1,9 @@
 -- Rule R at the rectangle 33x32. Its free word 2a.2uu.2ea.2eue.1e breaks the rule: the third move begins with even and above.
 -- Its first square is that of side 7, number 2 of the code. With this square reversed the layout has the word
 -- 2a.2ua.3euue.1e.1e, which keeps the rule, and the flow of that word's net has the current -7 there.
-use Rattle.std.proofs.Common.{List, [], arith, map, negsuc, pos, refl, slice_index_or, suc, zero, ℕ, ◌+◌, ◌<◌, ◌∷◌, ◌≡◌}
+use Rattle.std.proofs.Common.{List, [], arith, map, negsuc, pos, refl, ℕ, ◌∷◌, ◌≡◌}
 use Rattle.bk_tiling.proofs.ExampleTilings.{rectangle_33x32}
-use Rattle.bk_net.specs.Flow.{Flow, IsFlow, outflow}
+use Rattle.bk_net.specs.Flow.{IsFlow}
 use Rattle.bk_word.specs.Word.{Move, Word}
 use Rattle.bk_word.specs.declared.Sign.{Sign}
 use Rattle.bk_word.specs.declared.Sign.TheVariants.{Above, Even, Under}
@@ -11,7 +11,8 @@ use Rattle.bk_word_net.specs.WordNet.{net_of_word}
 use Rattle.bk_layout.specs.FreeWord.{IsFree}
 use Rattle.bk_layout.specs.Layout.{Layout, net_of_layout}
 use Rattle.bk_layout.specs.TilingLayout.{layout_of}
-use Rattle.bk_layout.proofs.Sweeps.FreeWordExamples.{free_33x32}
+use Rattle.bk_layout.proofs.Lists.NumberedLists.{AreRenumbered}
+use Rattle.bk_layout.proofs.Sweeps.FreeWordExamples.{flow_33, flow_by, free_33x32}
 use Rattle.bk_layout.specs.Reversal.{reversed}
 use Rattle.bk_layout.specs.RuleR.{DoesKeepRuleR}
 
@@ -42,31 +43,11 @@ keeps_rule : DoesKeepRuleR rule_33x32
 keeps_rule = (λ wall two e f. cc, (λ wall two e f. cc, (λ wall two e f. cc, (λ wall two e f. omega (arith, two), (λ wall two e f. omega (arith, two), tt)))))
 
 -- its net is that of the layout, with the squares in this order and the nodes in the order of closing
-abbrev squares_turned : List ℕ
-squares_turned = 0 ∷ 1 ∷ 4 ∷ 5 ∷ 6 ∷ 7 ∷ 2 ∷ 3 ∷ 8 ∷ []
-
-abbrev node_turned : ℕ → ℕ
-node_turned v = slice_index_or (0 ∷ 2 ∷ 3 ∷ 1 ∷ 4 ∷ 5 ∷ []) v 0
-
-renumbered : map {B = ℕ × ℕ} (λ w. (node_turned w.0, node_turned w.1)) (net_of_word rule_33x32).wires
-    ≡ map (λ k. slice_index_or (net_of_layout turned_33x32).wires k (0, 0)) squares_turned
+renumbered : AreRenumbered (net_of_word rule_33x32).wires (net_of_layout turned_33x32).wires (0 ∷ 1 ∷ 4 ∷ 5 ∷ 6 ∷ 7 ∷ 2 ∷ 3 ∷ 8 ∷ [])
+    (0 ∷ 2 ∷ 3 ∷ 1 ∷ 4 ∷ 5 ∷ [])
 renumbered = refl
 
 -- the sides are a flow of it, that of the reversed square below 0
-abbrev flow_33x32 : Flow
-flow_33x32 = record {
-  total = pos 33;
-  potentials = pos 32 ∷ pos 14 ∷ pos 10 ∷ pos 17 ∷ pos 9 ∷ pos 0 ∷ [];
-  currents = pos 18 ∷ pos 15 ∷ pos 14 ∷ pos 4 ∷ pos 10 ∷ pos 1 ∷ negsuc 6 ∷ pos 8 ∷ pos 9 ∷ [];
-}
-
-sides : IsFlow (net_of_word rule_33x32) flow_33x32
-sides = record { nodes = refl; differences = refl; first = refl; between = between }
-  where
-    between : (v : ℕ) → 0 < v → v + 1 < 6 → outflow (net_of_word rule_33x32).wires flow_33x32.currents v ≡ pos 0
-    between zero some few = absurd (omega arith)
-    between (suc zero) some few = refl
-    between (suc (suc zero)) some few = refl
-    between (suc (suc (suc zero))) some few = refl
-    between (suc (suc (suc (suc zero)))) some few = refl
-    between (suc (suc (suc (suc (suc v))))) some few = absurd (omega arith)
+sides : IsFlow (net_of_word rule_33x32) (flow_33 (pos 32 ∷ pos 14 ∷ pos 10 ∷ pos 17 ∷ pos 9 ∷ pos 0 ∷ [])
+    (pos 18 ∷ pos 15 ∷ pos 14 ∷ pos 4 ∷ pos 10 ∷ pos 1 ∷ negsuc 6 ∷ pos 8 ∷ pos 9 ∷ []))
+sides = flow_by refl refl refl refl (refl, (refl, (refl, (refl, tt))))

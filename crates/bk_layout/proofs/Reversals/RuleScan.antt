@@ -65,8 +65,13 @@ scan l fits o st (mv ∷ w) tr = on (cases_Bool (has_left_wall o)) (above_one_or
     here no_wall two even over = at (s.c.left_beside)
       where
         found : (t : List ℕ) → s.c.left ≡ t ∷ [] → Bad l o st s.h.first s.at.q
-        found t one = bad_move l fits o st s.c s.at s.low s.h t one (omega (arith, two, ap (λ (z : Move). z.count) s.is))
-            (ap (λ (z : Move). slice_get z.signs 0) (sym s.is) ∙ even) (ap (λ (z : Move). slice_get z.signs 1) (sym s.is) ∙ over)
+        found t one = bad_move l fits o st s.c s.at s.low s.h (record {
+          s = t;
+          one = one;
+          two = omega (arith, two, ap (λ (z : Move). z.count) s.is);
+          even = ap (λ (z : Move). slice_get z.signs 0) (sym s.is) ∙ even;
+          over = ap (λ (z : Move). slice_get z.signs 1) (sym s.is) ∙ over;
+        })
 
         with : Bad l o st s.h.first s.at.q → Broken l fits o st (mv ∷ w) tr
         with b = record { q = s.h.first; p = b.p; r = s.at.q; can = b.can; late = (b.q_not, b.v_not, inl b.p_laid) }

@@ -49,26 +49,22 @@ module _ (l : Layout) (fits : Fits l) (q p r : ℕ) (can : CanReverse l q p r) w
       inner_left : l.left q ≡ 0 → ⊥
       inner_left e = walls.not_before p can.before (can.beside ∙ e)
 
-      not_beyond : (x : ℕ) → x < l.squares → m.left x ≡ 1 → ⊥
-      not_beyond x low e = on (cases_eq x q)
+      at_or_not : {P : Type 0} (x : ℕ) → (x ≡ q → P) → ((x ≡ q → ⊥) → P) → P
+      at_or_not {P} x at other = on (cases_eq x q)
         where
-          on : (x ≡ q) ⊎ (x ≡ q → ⊥) → ⊥
-          on (inl i) = inner_right (sym left_q ∙ ap m.left (sym i) ∙ e)
-          on (inr n) = walls.not_beyond x low (sym (left_x x n) ∙ e)
+          on : (x ≡ q) ⊎ (x ≡ q → ⊥) → P
+          on (inl i) = at i
+          on (inr n) = other n
+
+      not_beyond : (x : ℕ) → x < l.squares → m.left x ≡ 1 → ⊥
+      not_beyond x low e = at_or_not x (λ i. inner_right (sym left_q ∙ ap m.left (sym i) ∙ e)) (λ n. walls.not_beyond x low (sym (left_x x n) ∙ e))
 
       not_before : (x : ℕ) → x < l.squares → m.right x ≡ 0 → ⊥
-      not_before x low e = on (cases_eq x q)
-        where
-          on : (x ≡ q) ⊎ (x ≡ q → ⊥) → ⊥
-          on (inl i) = inner_left (sym right_q ∙ ap m.right (sym i) ∙ e)
-          on (inr n) = walls.not_before x low (sym (right_x x n) ∙ e)
+      not_before x low e = at_or_not x (λ i. inner_left (sym right_q ∙ ap m.right (sym i) ∙ e)) (λ n. walls.not_before x low (sym (right_x x n) ∙ e))
 
       apart_m : (x : ℕ) → x < l.squares → m.left x ≡ m.right x → ⊥
-      apart_m x low e = on (cases_eq x q)
-        where
-          on : (x ≡ q) ⊎ (x ≡ q → ⊥) → ⊥
-          on (inl i) = walls.apart q can.known (sym right_q ∙ ap m.right (sym i) ∙ sym e ∙ ap m.left i ∙ left_q)
-          on (inr n) = walls.apart x low (sym (left_x x n) ∙ e ∙ right_x x n)
+      apart_m x low e = at_or_not x (λ i. walls.apart q can.known (sym right_q ∙ ap m.right (sym i) ∙ sym e ∙ ap m.left i ∙ left_q))
+          (λ n. walls.apart x low (sym (left_x x n) ∙ e ∙ right_x x n))
 
   ending_u : m.ending (l.above q) ≡ q ∷ l.ending (l.above q)
   ending_u = put_at (l.above q) (q ∷ l.ending (l.above q)) (put (l.below q) (without_last (l.ending (l.below q))) l.ending) (l.above q) refl

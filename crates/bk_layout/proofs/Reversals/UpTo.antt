@@ -1,5 +1,5 @@
 -- Up to reversals: each layout is so to itself, and one after another.
-use Rattle.std.proofs.Common.{Bool, arith, cond, false, inl, inr, refl, true, ℕ, ◌<◌, ◌∙◌, ◌≡◌, ◌⊎◌}
+use Rattle.std.proofs.Common.{Bool, ap, arith, cond, false, inl, inr, refl, true, ℕ, ◌<◌, ◌∙◌, ◌≡◌, ◌⊎◌}
 use Rattle.bk_laws.proofs.Truth.{absurd-of_true_and_false}
 use Rattle.bk_layout.specs.Layout.{Layout}
 use Rattle.bk_layout.specs.Reversal.{IsUpToReversals}
@@ -27,84 +27,56 @@ pub none_turned : (l : Layout) (q : ℕ) → (up_to_itself l).turned q ≡ false
 unfolding up_to_itself
 none_turned l q = refl
 
--- a square has the same nodes and lines in both layouts
-pub record Kept (l m : Layout) (q : ℕ) : Type 0 where
-  pub above : m.above q ≡ l.above q
-  pub below : m.below q ≡ l.below q
-  pub left : m.left q ≡ l.left q
-  pub right : m.right q ≡ l.right q
+-- the nodes and the lines of a square
+abbrev stand : Layout → ℕ → ℕ × ℕ × ℕ × ℕ
+stand l q = (l.above q, l.below q, l.left q, l.right q)
 
--- a square stands reversed: its nodes are exchanged, and its lines are
-pub record Turned (l m : Layout) (q : ℕ) : Type 0 where
-  pub above : m.above q ≡ l.below q
-  pub below : m.below q ≡ l.above q
-  pub left : m.left q ≡ l.right q
-  pub right : m.right q ≡ l.left q
-  pub later : 0 < l.above q
+-- those of a square that stands reversed
+abbrev turn : ℕ × ℕ × ℕ × ℕ → ℕ × ℕ × ℕ × ℕ
+turn s = (s.1, s.0, s.3, s.2)
+
+module _ (l m : Layout) (a : IsUpToReversals l m) (q : ℕ) (low : q < l.squares) where
+  kept : a.turned q ≡ false → stand m q ≡ stand l q
+  kept e = λ i. (a.above_kept q low e i, a.below_kept q low e i, a.left_kept q low e i, a.right_kept q low e i)
+
+  turned : a.turned q ≡ true → stand m q ≡ turn (stand l q)
+  turned e = λ i. (a.above_turned q low e i, a.below_turned q low e i, a.left_turned q low e i, a.right_turned q low e i)
 
 module _ (l m n : Layout) (a : IsUpToReversals l m) (b : IsUpToReversals m n) where
   abbrev both : ℕ → Bool
   both q = cond (b.turned q) (cond (a.turned q) false true) (a.turned q)
 
-  one_of : (q : ℕ) → q < l.squares → ((both q ≡ false) × Kept l n q) ⊎ ((both q ≡ true) × Turned l n q)
+  -- turned in neither or in both a square stands as before, turned in one it stands reversed
+  one_of : (q : ℕ) → q < l.squares → ((both q ≡ false) × (stand n q ≡ stand l q)) ⊎ ((both q ≡ true) × (stand n q ≡ turn (stand l q)) × (0 < l.above q))
   one_of q low = on (a.turned q) refl (b.turned q) refl
     where
       low_m : q < m.squares
       low_m = omega (arith, low, a.squares)
 
-      on : (x : Bool) → a.turned q ≡ x → (y : Bool) → b.turned q ≡ y → ((both q ≡ false) × Kept l n q) ⊎ ((both q ≡ true) × Turned l n q)
-      on true e true f = inl (
-        (λ i. cond {A = Bool} (f i) (cond {A = Bool} (e i) false true) (e i)),
-        record {
-          above = b.above_turned q low_m f ∙ a.below_turned q low e;
-          below = b.below_turned q low_m f ∙ a.above_turned q low e;
-          left = b.left_turned q low_m f ∙ a.right_turned q low e;
-          right = b.right_turned q low_m f ∙ a.left_turned q low e;
-        },
-      )
-      on true e false f = inr (
-        (λ i. cond {A = Bool} (f i) (cond {A = Bool} (e i) false true) (e i)),
-        record {
-          above = b.above_kept q low_m f ∙ a.above_turned q low e;
-          below = b.below_kept q low_m f ∙ a.below_turned q low e;
-          left = b.left_kept q low_m f ∙ a.left_turned q low e;
-          right = b.right_kept q low_m f ∙ a.right_turned q low e;
-          later = a.later q low e;
-        },
-      )
-      on false e true f = inr (
-        (λ i. cond {A = Bool} (f i) (cond {A = Bool} (e i) false true) (e i)),
-        record {
-          above = b.above_turned q low_m f ∙ a.below_kept q low e;
-          below = b.below_turned q low_m f ∙ a.above_kept q low e;
-          left = b.left_turned q low_m f ∙ a.right_kept q low e;
-          right = b.right_turned q low_m f ∙ a.left_kept q low e;
-          later = omega (arith, b.later q low_m f, a.above_kept q low e);
-        },
-      )
-      on false e false f = inl (
-        (λ i. cond {A = Bool} (f i) (cond {A = Bool} (e i) false true) (e i)),
-        record {
-          above = b.above_kept q low_m f ∙ a.above_kept q low e;
-          below = b.below_kept q low_m f ∙ a.below_kept q low e;
-          left = b.left_kept q low_m f ∙ a.left_kept q low e;
-          right = b.right_kept q low_m f ∙ a.right_kept q low e;
-        },
-      )
+      is : {x y : Bool} → a.turned q ≡ x → b.turned q ≡ y → both q ≡ cond y (cond x false true) x
+      is e f = λ i. cond {A = Bool} (f i) (cond {A = Bool} (e i) false true) (e i)
 
-  kept : (q : ℕ) → q < l.squares → both q ≡ false → Kept l n q
-  kept q low e = on (one_of q low)
-    where
-      on : ((both q ≡ false) × Kept l n q) ⊎ ((both q ≡ true) × Turned l n q) → Kept l n q
-      on (inl (f, k)) = k
-      on (inr (f, k)) = absurd-of_true_and_false (both q) f e
+      on : (x : Bool) → a.turned q ≡ x → (y : Bool) → b.turned q ≡ y
+          → ((both q ≡ false) × (stand n q ≡ stand l q)) ⊎ ((both q ≡ true) × (stand n q ≡ turn (stand l q)) × (0 < l.above q))
+      on true e true f = inl (is e f, turned m n b q low_m f ∙ ap turn (turned l m a q low e))
+      on true e false f = inr (is e f, kept m n b q low_m f ∙ turned l m a q low e, a.later q low e)
+      on false e true f = inr (is e f, turned m n b q low_m f ∙ ap turn (kept l m a q low e), omega (arith, b.later q low_m f, a.above_kept q low e))
+      on false e false f = inl (is e f, kept m n b q low_m f ∙ kept l m a q low e)
 
-  turned : (q : ℕ) → q < l.squares → both q ≡ true → Turned l n q
-  turned q low e = on (one_of q low)
+  stays : (q : ℕ) → q < l.squares → both q ≡ false → stand n q ≡ stand l q
+  stays q low e = on (one_of q low)
     where
-      on : ((both q ≡ false) × Kept l n q) ⊎ ((both q ≡ true) × Turned l n q) → Turned l n q
-      on (inl (f, k)) = absurd-of_true_and_false (both q) e f
-      on (inr (f, k)) = k
+      on : ((both q ≡ false) × (stand n q ≡ stand l q)) ⊎ ((both q ≡ true) × (stand n q ≡ turn (stand l q)) × (0 < l.above q)) → stand n q ≡ stand l q
+      on (inl k) = k.1
+      on (inr k) = absurd-of_true_and_false (both q) k.0 e
+
+  turns : (q : ℕ) → q < l.squares → both q ≡ true → (stand n q ≡ turn (stand l q)) × (0 < l.above q)
+  turns q low e = on (one_of q low)
+    where
+      on : ((both q ≡ false) × (stand n q ≡ stand l q)) ⊎ ((both q ≡ true) × (stand n q ≡ turn (stand l q)) × (0 < l.above q))
+          → (stand n q ≡ turn (stand l q)) × (0 < l.above q)
+      on (inl k) = absurd-of_true_and_false (both q) e k.0
+      on (inr k) = (k.1, k.2)
 
   -- up to reversals is transitive
   pub up_to_both : IsUpToReversals l n
@@ -113,13 +85,13 @@ module _ (l m n : Layout) (a : IsUpToReversals l m) (b : IsUpToReversals m n) wh
     squares = b.squares ∙ a.squares;
     bottom = b.bottom ∙ a.bottom;
     top = b.top ∙ a.top;
-    above_kept = λ q h e. (kept q h e).above;
-    below_kept = λ q h e. (kept q h e).below;
-    left_kept = λ q h e. (kept q h e).left;
-    right_kept = λ q h e. (kept q h e).right;
-    above_turned = λ q h e. (turned q h e).above;
-    below_turned = λ q h e. (turned q h e).below;
-    left_turned = λ q h e. (turned q h e).left;
-    right_turned = λ q h e. (turned q h e).right;
-    later = λ q h e. (turned q h e).later;
+    above_kept = λ q h e i. (stays q h e i).0;
+    below_kept = λ q h e i. (stays q h e i).1;
+    left_kept = λ q h e i. (stays q h e i).2;
+    right_kept = λ q h e i. (stays q h e i).3;
+    above_turned = λ q h e i. ((turns q h e).0 i).0;
+    below_turned = λ q h e i. ((turns q h e).0 i).1;
+    left_turned = λ q h e i. ((turns q h e).0 i).2;
+    right_turned = λ q h e i. ((turns q h e).0 i).3;
+    later = λ q h e. (turns q h e).1;
   }

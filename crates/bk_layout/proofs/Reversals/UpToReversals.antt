@@ -2,22 +2,18 @@
 -- parts, and that the lines around its nodes are apart.
 use Rattle.std.proofs.Common.{arith, false, inl, inr, sym, true, ℕ, ◌<◌, ◌∙◌, ◌≡◌, ◌⊎◌}
 use Rattle.std.proofs.lemmas.Bool.{cases_Bool}
+use Rattle.bk_laws.proofs.Truth.{either-swap}
 use Rattle.bk_layout.specs.Layout.{Layout}
 use Rattle.bk_layout.specs.SimpleLayout.{AreOutermost, HasNoParts, HasOneBetween, Touches}
 use Rattle.bk_layout.specs.Reversal.{IsUpToReversals}
 use Rattle.bk_layout.specs.NodeCorners.{AreCornersApart, IsAfter, IsBefore}
 
+-- of the one or the other follows the one or the other
+pub either : {A B C D : Type 0} → (A → C) → (B → D) → A ⊎ B → C ⊎ D
+either f g (inl a) = inl (f a)
+either f g (inr b) = inr (g b)
+
 module _ (l m : Layout) (same : IsUpToReversals l m) where
-  -- the one or the other, in the other order
-  pub swap : {A B : Type 0} → A ⊎ B → B ⊎ A
-  swap (inl a) = inr a
-  swap (inr b) = inl b
-
-  -- of the one or the other follows the one or the other
-  pub either : {A B C D : Type 0} → (A → C) → (B → D) → A ⊎ B → C ⊎ D
-  either f g (inl a) = inl (f a)
-  either f g (inr b) = inr (g b)
-
   low_l : (x : ℕ) → x < m.squares → x < l.squares
   low_l x h = omega (arith, h, same.squares)
 
@@ -31,8 +27,8 @@ module _ (l m : Layout) (same : IsUpToReversals l m) where
       on (inl e) = record {
         square = t.square;
         within = low;
-        beside = swap (either (λ h. sym (same.left_turned t.square low e) ∙ h) (λ h. sym (same.right_turned t.square low e) ∙ h) t.beside);
-        at = swap (either (λ h. sym (same.above_turned t.square low e) ∙ h) (λ h. sym (same.below_turned t.square low e) ∙ h) t.at);
+        beside = either-swap (either (λ h. sym (same.left_turned t.square low e) ∙ h) (λ h. sym (same.right_turned t.square low e) ∙ h) t.beside);
+        at = either-swap (either (λ h. sym (same.above_turned t.square low e) ∙ h) (λ h. sym (same.below_turned t.square low e) ∙ h) t.at);
       }
       on (inr e) = record {
         square = t.square;
@@ -47,23 +43,22 @@ module _ (l m : Layout) (same : IsUpToReversals l m) where
       low : b.square < m.squares
       low = omega (arith, b.within, same.squares)
 
+      here : {above below left right : ℕ} → m.above b.square ≡ above → m.below b.square ≡ below → m.left b.square ≡ left → m.right b.square ≡ right
+          → (left ≡ f) ⊎ (left ≡ g) → (right ≡ f) ⊎ (right ≡ g) → (above ≡ u) ⊎ (above ≡ v) → (below ≡ u) ⊎ (below ≡ v) → HasOneBetween m f g u v
+      here e h i j at_left at_right at_above at_below = record {
+        square = b.square;
+        within = low;
+        left = either (λ k. i ∙ k) (λ k. i ∙ k) at_left;
+        right = either (λ k. j ∙ k) (λ k. j ∙ k) at_right;
+        above = either (λ k. e ∙ k) (λ k. e ∙ k) at_above;
+        under = either (λ k. h ∙ k) (λ k. h ∙ k) at_below;
+      }
+
       on : (same.turned b.square ≡ true) ⊎ (same.turned b.square ≡ false) → HasOneBetween m f g u v
-      on (inl e) = record {
-        square = b.square;
-        within = low;
-        left = either (λ h. same.left_turned b.square b.within e ∙ h) (λ h. same.left_turned b.square b.within e ∙ h) b.right;
-        right = either (λ h. same.right_turned b.square b.within e ∙ h) (λ h. same.right_turned b.square b.within e ∙ h) b.left;
-        above = either (λ h. same.above_turned b.square b.within e ∙ h) (λ h. same.above_turned b.square b.within e ∙ h) b.under;
-        under = either (λ h. same.below_turned b.square b.within e ∙ h) (λ h. same.below_turned b.square b.within e ∙ h) b.above;
-      }
-      on (inr e) = record {
-        square = b.square;
-        within = low;
-        left = either (λ h. same.left_kept b.square b.within e ∙ h) (λ h. same.left_kept b.square b.within e ∙ h) b.left;
-        right = either (λ h. same.right_kept b.square b.within e ∙ h) (λ h. same.right_kept b.square b.within e ∙ h) b.right;
-        above = either (λ h. same.above_kept b.square b.within e ∙ h) (λ h. same.above_kept b.square b.within e ∙ h) b.above;
-        under = either (λ h. same.below_kept b.square b.within e ∙ h) (λ h. same.below_kept b.square b.within e ∙ h) b.under;
-      }
+      on (inl e) = here (same.above_turned b.square b.within e) (same.below_turned b.square b.within e) (same.left_turned b.square b.within e)
+          (same.right_turned b.square b.within e) b.right b.left b.under b.above
+      on (inr e) = here (same.above_kept b.square b.within e) (same.below_kept b.square b.within e) (same.left_kept b.square b.within e)
+          (same.right_kept b.square b.within e) b.left b.right b.above b.under
 
   outermost_over : (f g u v : ℕ) → AreOutermost l f g u v → AreOutermost m f g u v
   outermost_over f g u v o = record {
@@ -76,31 +71,26 @@ module _ (l m : Layout) (same : IsUpToReversals l m) where
   parts_over parts f g u v d e a b c k = either (between_over f g u v) (outermost_over f g u v)
       (parts f g u v d e (touches_back f u a) (touches_back f v b) (touches_back g u c) (touches_back g v k))
 
-  before_back : (v x f : ℕ) → x < l.squares → IsBefore m v x f → IsBefore l v x f
-  before_back v x f low b = on (cases_Bool (same.turned x))
+  -- a square below the node with one line, or above it with the other: so it is in both layouts, with p and r its lines
+  corner_back : (v x f : ℕ) → x < l.squares → {p r p_l r_l : ℕ} → (same.turned x ≡ false → (p ≡ p_l) × (r ≡ r_l))
+      → (same.turned x ≡ true → (p ≡ r_l) × (r ≡ p_l)) → ((m.below x ≡ v) × (p ≡ f)) ⊎ ((m.above x ≡ v) × (r ≡ f))
+      → ((l.below x ≡ v) × (p_l ≡ f)) ⊎ ((l.above x ≡ v) × (r_l ≡ f))
+  corner_back v x f low {p} {r} {p_l} {r_l} kept turned b = on (cases_Bool (same.turned x))
     where
-      on : (same.turned x ≡ true) ⊎ (same.turned x ≡ false) → IsBefore l v x f
-      on (inl e) = swap (either (λ (h : (m.below x ≡ v) × (m.left x ≡ f)).
-          (sym (same.below_turned x low e) ∙ h.0, sym (same.left_turned x low e) ∙ h.1))
-          (λ (h : (m.above x ≡ v) × (m.right x ≡ f)). (sym (same.above_turned x low e) ∙ h.0, sym (same.right_turned x low e) ∙ h.1)) b)
-      on (inr e) = either (λ (h : (m.below x ≡ v) × (m.left x ≡ f)). (
-        sym (same.below_kept x low e) ∙ h.0,
-        sym (same.left_kept x low e)
-            ∙ h.1,
-      )) (λ (h : (m.above x ≡ v) × (m.right x ≡ f)). (sym (same.above_kept x low e) ∙ h.0, sym (same.right_kept x low e) ∙ h.1)) b
+      moved : {a c d e : ℕ} → a ≡ c → d ≡ e → (a ≡ v) × (d ≡ f) → (c ≡ v) × (e ≡ f)
+      moved g h both = (sym g ∙ both.0, sym h ∙ both.1)
+
+      on : (same.turned x ≡ true) ⊎ (same.turned x ≡ false) → ((l.below x ≡ v) × (p_l ≡ f)) ⊎ ((l.above x ≡ v) × (r_l ≡ f))
+      on (inl e) = either-swap (either (moved (same.below_turned x low e) (turned e).0) (moved (same.above_turned x low e) (turned e).1) b)
+      on (inr e) = either (moved (same.below_kept x low e) (kept e).0) (moved (same.above_kept x low e) (kept e).1) b
+
+  before_back : (v x f : ℕ) → x < l.squares → IsBefore m v x f → IsBefore l v x f
+  before_back v x f low = corner_back v x f low (λ e. (same.left_kept x low e, same.right_kept x low e))
+      (λ e. (same.left_turned x low e, same.right_turned x low e))
 
   after_back : (v x f : ℕ) → x < l.squares → IsAfter m v x f → IsAfter l v x f
-  after_back v x f low b = on (cases_Bool (same.turned x))
-    where
-      on : (same.turned x ≡ true) ⊎ (same.turned x ≡ false) → IsAfter l v x f
-      on (inl e) = swap (either (λ (h : (m.below x ≡ v) × (m.right x ≡ f)).
-          (sym (same.below_turned x low e) ∙ h.0, sym (same.right_turned x low e) ∙ h.1))
-          (λ (h : (m.above x ≡ v) × (m.left x ≡ f)). (sym (same.above_turned x low e) ∙ h.0, sym (same.left_turned x low e) ∙ h.1)) b)
-      on (inr e) = either (λ (h : (m.below x ≡ v) × (m.right x ≡ f)). (
-        sym (same.below_kept x low e) ∙ h.0,
-        sym (same.right_kept x low e)
-            ∙ h.1,
-      )) (λ (h : (m.above x ≡ v) × (m.left x ≡ f)). (sym (same.above_kept x low e) ∙ h.0, sym (same.left_kept x low e) ∙ h.1)) b
+  after_back v x f low = corner_back v x f low (λ e. (same.right_kept x low e, same.left_kept x low e))
+      (λ e. (same.right_turned x low e, same.left_turned x low e))
 
   -- the lines around its nodes are apart where they are in the other
   pub corners_over : AreCornersApart l → AreCornersApart m

@@ -11,7 +11,7 @@ use Rattle.bk_layout.proofs.TilingLayouts.TilingSquares.{in_square, node_at}
 use Rattle.bk_layout.specs.Layout.{net_of_layout}
 use Rattle.bk_layout.specs.SignedFlow.{SignedSidesAreTheOneFlow, signed_flow, signed_side, upper_end}
 use Rattle.bk_layout.specs.SignedWord.{IsSignedWordOf, reversed_net}
-use Rattle.bk_layout.specs.TilingLayout.{layout_of, node_above, square_of}
+use Rattle.bk_layout.specs.TilingLayout.{layout_of, node_above}
 use Rattle.bk_net.proofs.SidesFlow.{sides_are_the_one_flow}
 use Rattle.bk_net.specs.Diagram.{node_below, node_levels}
 use Rattle.bk_net.specs.Flow.{IsFlow, outflow, potential}
@@ -19,7 +19,7 @@ use Rattle.bk_net.specs.Net.{IsNet, Net}
 use Rattle.bk_net.specs.SmithFlow.{smith_flow}
 use Rattle.bk_tiling.proofs.TilingLaws.{wide_enough}
 use Rattle.bk_tiling.specs.SquareGroups.{square_groups}
-use Rattle.bk_tiling.specs.Tiling.{IsTiling, Tiling}
+use Rattle.bk_tiling.specs.Tiling.{IsTiling, Tiling, square_of}
 use Rattle.bk_tiling.specs.declared.Square.{Square}
 use Rattle.bk_word.specs.Play.{numbers_from}
 use Rattle.bk_word.specs.Word.{Word}

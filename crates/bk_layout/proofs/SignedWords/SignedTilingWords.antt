@@ -2,7 +2,7 @@
 use Rattle.std.proofs.Common.{Bool, Some, ap, arith, cond, false, inl, inr, length, map, refl, slice_get, subst, suc, sym, true, zero, ℕ, ◌+◌, ◌<◌}
 use Rattle.std.proofs.Common.{◌∙◌, ◌≡◌, ◌≤◌, ◌⊎◌}
 use Rattle.std.proofs.lemmas.Option.{slice_get_within}
-use Rattle.bk_tiling.specs.Tiling.{IsTiling, Tiling}
+use Rattle.bk_tiling.specs.Tiling.{IsTiling, Tiling, square_of}
 use Rattle.bk_net.specs.Diagram.{smith_diagram}
 use Rattle.bk_net.specs.Net.{Net}
 use Rattle.bk_word.specs.Play.{numbers_from}
@@ -15,7 +15,7 @@ use Rattle.bk_layout.proofs.TilingLayouts.Edges.{bottom_within}
 use Rattle.bk_layout.proofs.TilingLayouts.LineNumbers.{number_column, number_one, number_zero}
 use Rattle.bk_layout.proofs.TilingLayouts.TilingSquares.{in_square}
 use Rattle.bk_layout.proofs.TilingLayouts.TilingNet.{net_is}
-use Rattle.bk_layout.specs.TilingLayout.{layout_of, line_number, square_of}
+use Rattle.bk_layout.specs.TilingLayout.{layout_of, line_number}
 use Rattle.bk_layout.proofs.FreeCuts.NumberedLines.{line_numbers_are_lines}
 use Rattle.bk_layout.specs.LineNumbers.{numbered_line, square_lines}
 use Rattle.bk_layout.proofs.FreeCuts.CutByNodes.{as_many_sides}

@@ -1,16 +1,20 @@
 -- The free word of the rectangle 33x32 of nine squares, which isn't its word. Between the squares 18 and 15 at the top the
 -- word says `u`, since 15 ends above 18; the free word says `a`, since the line between them goes on below 18.
-use Rattle.std.proofs.Common.{List, [], arith, map, pos, refl, slice_index_or, suc, zero, ℕ, ◌+◌, ◌<◌, ◌∷◌, ◌≡◌}
+use Rattle.std.specs.List.{AllByRecursion}
+use Rattle.std.specs.Prelude.{ℤ, ◌-ℤ◌}
+use Rattle.std.proofs.Common.{List, [], arith, length, map, pos, refl, ℕ, ◌∷◌, ◌≡◌}
 use Rattle.bk_tiling.proofs.ExampleTilings.{rectangle_33x32}
 use Rattle.bk_tiling.specs.Tiling.{order}
 use Rattle.bk_net.specs.Diagram.{smith_diagram}
-use Rattle.bk_net.specs.Flow.{Flow, IsFlow, outflow}
+use Rattle.bk_net.specs.Flow.{Flow, IsFlow, outflow, potential}
+use Rattle.bk_net.specs.Net.{Net}
 use Rattle.bk_word.proofs.WordExamples.{word_33x32}
 use Rattle.bk_word.specs.Play.{IsComplete}
 use Rattle.bk_word.specs.Word.{Move, Word, order_of}
 use Rattle.bk_word.specs.declared.Sign.{Sign}
 use Rattle.bk_word.specs.declared.Sign.TheVariants.{Above, Even, Under}
 use Rattle.bk_word_net.specs.WordNet.{net_of_word}
+use Rattle.bk_layout.proofs.Lists.NumberedLists.{AreRenumbered, each_from}
 use Rattle.bk_layout.specs.FreeWord.{IsFree}
 
 abbrev move : ℕ → List Sign → Move
@@ -44,34 +48,27 @@ free = (λ wall e. cc, (λ wall e. cc, (λ wall e. cc, (λ wall e. cc, (λ wall 
 not_free : IsFree word_33x32 → ⊥
 not_free free = (free.1).0 refl refl
 
--- the squares of the code in the order of the free word, and the nodes of the diagram in the order in which it closes them
-abbrev pub squares_33x32 : List ℕ
-squares_33x32 = 0 ∷ 1 ∷ 4 ∷ 5 ∷ 2 ∷ 3 ∷ 6 ∷ 7 ∷ 8 ∷ []
-
--- the node of the diagram that the word closes as this one
-abbrev pub node_33x32 : ℕ → ℕ
-node_33x32 v = slice_index_or (0 ∷ 2 ∷ 1 ∷ 3 ∷ 4 ∷ 5 ∷ []) v 0
-
--- with these numbers its net is the Smith diagram
-renumbered : map {B = ℕ × ℕ} (λ w. (node_33x32 w.0, node_33x32 w.1)) (net_of_word free_33x32).wires
-    ≡ map (λ k. slice_index_or (smith_diagram rectangle_33x32).wires k (0, 0)) squares_33x32
+-- with the squares of the code in the order of the free word, and the nodes of the diagram in that of closing, its net is the Smith diagram
+renumbered : AreRenumbered (net_of_word free_33x32).wires (smith_diagram rectangle_33x32).wires (0 ∷ 1 ∷ 4 ∷ 5 ∷ 2 ∷ 3 ∷ 6 ∷ 7 ∷ 8 ∷ [])
+    (0 ∷ 2 ∷ 1 ∷ 3 ∷ 4 ∷ 5 ∷ [])
 renumbered = refl
 
--- and it has a flow with the width as the total, the sides as the currents
-abbrev flow_33x32 : Flow
-flow_33x32 = record {
-  total = pos 33;
-  potentials = pos 32 ∷ pos 14 ∷ pos 17 ∷ pos 10 ∷ pos 9 ∷ pos 0 ∷ [];
-  currents = map pos (18 ∷ 15 ∷ 14 ∷ 4 ∷ 7 ∷ 8 ∷ 10 ∷ 1 ∷ 9 ∷ []);
+-- a flow of the total 33
+abbrev pub flow_33 : List ℤ → List ℤ → Flow
+flow_33 potentials currents = record { total = pos 33; potentials = potentials; currents = currents }
+
+-- it is one of a net of six nodes, if what comes into each of the four between leaves it
+pub flow_by : {net : Net} {flow : Flow} → net.nodes ≡ 6 → length flow.potentials ≡ net.nodes
+    → flow.currents ≡ map (λ w. potential flow w.0 -ℤ potential flow w.1) net.wires → outflow net.wires flow.currents 0 ≡ flow.total
+    → AllByRecursion (λ v. outflow net.wires flow.currents v ≡ pos 0) (1 ∷ 2 ∷ 3 ∷ 4 ∷ []) → IsFlow net flow
+flow_by {net} {flow} six nodes differences first inner = record {
+  nodes = nodes;
+  differences = differences;
+  first = first;
+  between = λ v some few. each_from (λ v. outflow net.wires flow.currents v ≡ pos 0) 1 4 inner v (omega (arith, some)) (omega (arith, few, six));
 }
 
-sides : IsFlow (net_of_word free_33x32) flow_33x32
-sides = record { nodes = refl; differences = refl; first = refl; between = between }
-  where
-    between : (v : ℕ) → 0 < v → v + 1 < 6 → outflow (net_of_word free_33x32).wires flow_33x32.currents v ≡ pos 0
-    between zero some few = absurd (omega arith)
-    between (suc zero) some few = refl
-    between (suc (suc zero)) some few = refl
-    between (suc (suc (suc zero))) some few = refl
-    between (suc (suc (suc (suc zero)))) some few = refl
-    between (suc (suc (suc (suc (suc v))))) some few = absurd (omega arith)
+-- and it has a flow with the width as the total, the sides as the currents
+sides : IsFlow (net_of_word free_33x32)
+    (flow_33 (pos 32 ∷ pos 14 ∷ pos 17 ∷ pos 10 ∷ pos 9 ∷ pos 0 ∷ []) (map pos (18 ∷ 15 ∷ 14 ∷ 4 ∷ 7 ∷ 8 ∷ 10 ∷ 1 ∷ 9 ∷ [])))
+sides = flow_by refl refl refl refl (refl, (refl, (refl, (refl, tt))))

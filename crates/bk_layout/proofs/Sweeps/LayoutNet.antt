@@ -17,7 +17,8 @@ use Rattle.bk_word_net.specs.Renumbering.{IsRenumbering}
 use Rattle.bk_word_net.specs.WordNet.{end_of, net_after}
 use Rattle.bk_layout.proofs.Lists.SquareLists.{lists_at, sq_of}
 use Rattle.bk_layout.proofs.Sweeps.Sweep.{State}
-use Rattle.bk_layout.proofs.Sweeps.SweepEnd.{Ended, WholeSweep, laid_many, one_segment, sweep}
+use Rattle.bk_layout.proofs.Sweeps.SweepEnd.{Ended, WholeSweep, laid_many, one_segment}
+use Rattle.bk_layout.proofs.Sweeps.Trace.{sweep}
 use Rattle.bk_layout.proofs.Sweeps.Turning.{AtLeft, walls_of}
 use Rattle.bk_layout.proofs.Sweeps.Chains.{Chain}
 use Rattle.bk_layout.proofs.Sweeps.LayoutNumbers.{closed_many, first_node, hung_is, last_node, node_apart, node_low, square_apart, square_low}

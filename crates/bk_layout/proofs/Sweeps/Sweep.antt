@@ -1,18 +1,17 @@
 -- The sweep: what is kept while squares are hung node by node, and that a step keeps it.
 use Rattle.std.specs.List.{AllZip}
-use Rattle.std.proofs.Common.{List, Some, ap, arith, cond, inl, inr, length, map, nat_eq, refl, slice_get, subst, suc, sym, zero, ℕ, ◌++◌, ◌+◌}
-use Rattle.std.proofs.Common.{◌<◌, ◌∙◌, ◌∷◌, ◌≡◌, ◌≤◌, ◌⊎◌}
+use Rattle.std.proofs.Common.{List, Some, ap, cond, inl, inr, length, map, nat_eq, slice_get, subst, sym, ℕ, ◌++◌, ◌+◌}
+use Rattle.std.proofs.Common.{◌<◌, ◌∙◌, ◌∷◌, ◌≡◌, ◌≤◌}
 use Rattle.std.proofs.lemmas.List.{append_assoc, length-map, map-append}
-use Rattle.std.proofs.lemmas.Bool.{cases_eq}
-use Rattle.bk_laws.proofs.Occurrences.{slice_get-of_times_positive, times, times-le_one_of_unique_place, times-positive_of_slice_get, times_in}
+use Rattle.bk_laws.proofs.Occurrences.{times, times_in}
 use Rattle.bk_laws.proofs.ListsOfLists.{map-map_empty}
-use Rattle.bk_laws.proofs.TestsAsNumbers.{cond_count-nat_eq_other, cond_count-nat_eq_same}
 use Rattle.bk_word.specs.Outline.{Outline}
 use Rattle.bk_word.specs.declared.Sign.{Sign}
 use Rattle.bk_word.specs.declared.Sign.TheVariants.{Above, Under}
 use Rattle.bk_word_net.proofs.Outlines.Numbering.{Numbered}
 use Rattle.bk_word_net.proofs.Outlines.Shape.{Shaped}
 use Rattle.bk_word_net.proofs.Outlines.ValleyCut.{AtValley, Beside}
+use Rattle.bk_layout.proofs.Lists.NodeLists.{ending_sorted, hanging_sorted}
 use Rattle.bk_layout.proofs.Sweeps.Chains.{Chain}
 use Rattle.bk_layout.proofs.Lists.SquareLists.{lists_at, sq_of}
 use Rattle.bk_layout.proofs.Sweeps.Turning.{AtLeft, LeftOf, Nonempty, RightOf, chain_at, left_of, right_of}
@@ -41,40 +40,11 @@ pub record State (l : Layout) (o : Outline) : Type 0 where
 
 -- how often a square stands in the lists of a node
 pub hanging_times : (l : Layout) → Fits l → (q v : ℕ) → q < l.squares → times q (l.hanging v) ≡ cond (nat_eq (l.above q) v) 1 0
-hanging_times l fits q v h = cases (cases_eq (l.above q) v)
-  where
-    none : (l.above q ≡ v → ⊥) → (n : ℕ) → times q (l.hanging v) ≡ n → times q (l.hanging v) ≡ 0
-    none e zero t = t
-    none e (suc n) t = let g = slice_get-of_times_positive (l.hanging v) q (omega (arith, t)) in absurd (e (fits.lists.hanging_is v g.0 q g.1).1)
-
-    cases : (l.above q ≡ v) ⊎ (l.above q ≡ v → ⊥) → times q (l.hanging v) ≡ cond (nat_eq (l.above q) v) 1 0
-    cases (inl e) = let g = fits.lists.hangs q h in
-        omega (
-          arith,
-          cond_count-nat_eq_same (l.above q) v e,
-          times-positive_of_slice_get (l.hanging v) g.0 q
-              (subst (λ (u : ℕ). slice_get (l.hanging u) g.0 ≡ Some q) e g.1),
-          times-le_one_of_unique_place (l.hanging v) q (λ j k a b. fits.lists.hanging_once v j k q a b),
-        )
-    cases (inr e) = omega (arith, cond_count-nat_eq_other (l.above q) v e, none e (times q (l.hanging v)) refl)
+hanging_times l fits q v h = (hanging_sorted l fits.lists).counted q v h
 
 -- a square stands once in the list of the node on which it ends, and in no other
 pub ending_times : (l : Layout) → Fits l → (q v : ℕ) → q < l.squares → times q (l.ending v) ≡ cond (nat_eq (l.below q) v) 1 0
-ending_times l fits q v h = cases (cases_eq (l.below q) v)
-  where
-    none : (l.below q ≡ v → ⊥) → (n : ℕ) → times q (l.ending v) ≡ n → times q (l.ending v) ≡ 0
-    none e zero t = t
-    none e (suc n) t = let g = slice_get-of_times_positive (l.ending v) q (omega (arith, t)) in absurd (e (fits.lists.ending_is v g.0 q g.1).1)
-
-    cases : (l.below q ≡ v) ⊎ (l.below q ≡ v → ⊥) → times q (l.ending v) ≡ cond (nat_eq (l.below q) v) 1 0
-    cases (inl e) = let g = fits.lists.ends q h in
-        omega (
-          arith,
-          cond_count-nat_eq_same (l.below q) v e,
-          times-positive_of_slice_get (l.ending v) g.0 q (subst (λ (u : ℕ). slice_get (l.ending u) g.0 ≡ Some q) e g.1),
-          times-le_one_of_unique_place (l.ending v) q (λ j k a b. fits.lists.ending_once v j k q a b),
-        )
-    cases (inr e) = omega (arith, cond_count-nat_eq_other (l.below q) v e, none e (times q (l.ending v)) refl)
+ending_times l fits q v h = (ending_sorted l fits.lists).counted q v h
 
 -- ---- the leftmost valley is all that ends on one node
 

@@ -175,3 +175,9 @@ sweep_of l fits mv w whole = from (facts l fits (after_move start mv) whole.firs
 
         same : (z : Move) → ◌≡◌ {A = Option Move} (Some mv) (Some z) → mv ≡ z
         same z e = cc
+
+-- each layout that fits is swept to its end: each move closes one node more
+pub sweep : (l : Layout) → Fits l → WholeSweep l
+sweep l fits = let h = hung_from l fits 0 fits.some in
+    let t = whole_from l fits h in
+    (sweep_of l fits (first_move l fits h) t.0 t.1).0

@@ -7,6 +7,7 @@ use Rattle.bk_word.specs.declared.Sign.{Sign}
 use Rattle.bk_word.specs.declared.Sign.TheVariants.{Above, Under}
 use Rattle.bk_word_net.proofs.Outlines.ValleyCut.{Beside}
 use Rattle.bk_word.specs.Play.{joined, parts}
+use Rattle.bk_layout.proofs.Lists.Pieces.{empty-of_length_zero}
 use Rattle.bk_layout.proofs.Sweeps.Chains.{Chain, Known, Linked, Run, chain_behind, chain_known, chain_other, join_chain, known_first, known_last}
 use Rattle.bk_layout.proofs.Sweeps.Chains.{last_from, sign, signs_of, singles, singles_before, singles_wall}
 use Rattle.bk_layout.proofs.Sweeps.WholeRuns.{above_right, last_is, run_below, under_left}
@@ -47,16 +48,12 @@ pub right_of : (l : Layout) → Fits l → (q : ℕ) (qs : List ℕ) (right afte
     → Beside Above right right_signs → (right ≡ [] → after ≡ []) → length after ≡ length after_signs
     → Chain l (right_signs ++ after_signs) ((q ∷ qs) ∷ (right ++ after)) → RightOf l q qs right after after_signs
 right_of l fits q qs right after right_signs after_signs (inl (none, no_signs)) no_after many c =
-    at_wall after_signs (no_list after_signs (omega (arith, many, ap length (no_after none))))
+    at_wall after_signs (empty-of_length_zero after_signs (omega (arith, many, ap length (no_after none))))
     (subst (λ (g : List Sign). Chain l (g ++ after_signs) ((q ∷ qs) ∷ [])) no_signs
     (subst (λ (r : List (List ℕ)). Chain l (right_signs ++ after_signs) ((q ∷ qs) ∷ r)) empty c))
   where
     empty : right ++ after ≡ []
     empty = (λ i. none i ++ no_after none i)
-
-    no_list : (g : List Sign) → length g ≡ 0 → g ≡ []
-    no_list [] e = refl
-    no_list (s ∷ g) e = absurd (omega arith)
 
     at_wall : (g : List Sign) → g ≡ [] → Chain l g ((q ∷ qs) ∷ []) → RightOf l q qs right after g
     at_wall (s ∷ g) e c = absurd c
@@ -131,12 +128,9 @@ pub left_of : (l : Layout) → Fits l → (before left : List (List ℕ)) (befor
     → AtLeft l (before ++ (left ++ (q ∷ qs) ∷ segments)) → q < l.squares
     → LeftOf l before left before_signs signs q qs segments
 left_of l fits before left before_signs left_signs signs q qs segments (inl (none, no_signs)) no_before many c a known =
-    at_wall before left before_signs left_signs (no_before none) none no_signs (no_list before_signs (omega (arith, many, ap length (no_before none)))) c a
+    at_wall before left before_signs left_signs (no_before none) none no_signs
+    (empty-of_length_zero before_signs (omega (arith, many, ap length (no_before none)))) c a
   where
-    no_list : (g : List Sign) → length g ≡ 0 → g ≡ []
-    no_list [] e = refl
-    no_list (s ∷ g) e = absurd (omega arith)
-
     at_wall : (before left : List (List ℕ)) (before_signs left_signs : List Sign) → before ≡ [] → left ≡ [] → left_signs ≡ []
         → before_signs ≡ [] → Chain l (before_signs ++ (left_signs ++ signs)) (before ++ (left ++ (q ∷ qs) ∷ segments))
         → AtLeft l (before ++ (left ++ (q ∷ qs) ∷ segments)) → LeftOf l before left before_signs signs q qs segments

@@ -3,13 +3,13 @@ use Rattle.std.proofs.Common.{Some, ap, arith, inl, inr, length, slice_get, subs
 use Rattle.std.proofs.lemmas.Bool.{cases_order}
 use Rattle.bk_laws.proofs.Outcomes.{some-unique_of_same}
 use Rattle.bk_tiling.proofs.TilingLaws.{side_of, within_of}
-use Rattle.bk_tiling.specs.Tiling.{IsOneOf, IsTiling, Tiling}
+use Rattle.bk_tiling.specs.Tiling.{IsOneOf, IsTiling, Tiling, square_of}
 use Rattle.bk_tiling.specs.declared.Square.{Square}
 use Rattle.bk_layout.proofs.Lists.AscendingPlaces.{in_order, stands_in}
 use Rattle.bk_layout.proofs.TilingLayouts.LineNumbers.{number_column}
 use Rattle.bk_layout.proofs.TilingLayouts.NodeColumns.{one_ended}
 use Rattle.bk_layout.proofs.TilingLayouts.TilingSquares.{ended, ended_from, ended_node, ended_one, in_square, key}
-use Rattle.bk_layout.specs.TilingLayout.{layout_of, square_of}
+use Rattle.bk_layout.specs.TilingLayout.{layout_of}
 use Rattle.bk_layout.specs.SharedNodes.{AreLinesApart, LinesOfATilingAreApart}
 
 module _ (t : Tiling) (tiling : IsTiling t) where

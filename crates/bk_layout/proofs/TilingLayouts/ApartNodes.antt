@@ -2,7 +2,7 @@
 use Rattle.std.proofs.Common.{ap, arith, inl, inr, length, refl, slice_index_or, suc, sym, ℕ, ◌+◌, ◌-◌, ◌<◌, ◌∙◌, ◌≡◌, ◌≤◌, ◌⊎◌}
 use Rattle.std.proofs.lemmas.Bool.{cases_lt}
 use Rattle.bk_tiling.specs.SquareGroups.{square_groups}
-use Rattle.bk_tiling.specs.Tiling.{IsOneOf, IsTiling, Tiling}
+use Rattle.bk_tiling.specs.Tiling.{IsOneOf, IsTiling, Tiling, square_of}
 use Rattle.bk_tiling.specs.declared.Square.{Square}
 use Rattle.bk_net.specs.Diagram.{node_below, node_levels}
 use Rattle.bk_layout.proofs.TilingLayouts.Edges.{MeetsLeft, MeetsRight, bottom_within, left_of, meet, right_of, right_within, side}
@@ -10,7 +10,7 @@ use Rattle.bk_layout.proofs.TilingLayouts.LineEnds.{Ends, none_before, not_passe
 use Rattle.bk_layout.proofs.TilingLayouts.LineNumbers.{number_both, number_column}
 use Rattle.bk_layout.proofs.TilingLayouts.TilingSquares.{in_square}
 use Rattle.bk_layout.proofs.TilingLayouts.NodesFit.{levels_of}
-use Rattle.bk_layout.specs.TilingLayout.{layout_of, line_end, line_number, node_above, square_of}
+use Rattle.bk_layout.specs.TilingLayout.{layout_of, line_end, line_number, node_above}
 
 module _ (t : Tiling) (tiling : IsTiling t) where
   -- the square of a number is one of the tiling
@@ -68,7 +68,7 @@ module _ (t : Tiling) (tiling : IsTiling t) where
             right = square_of t x;
             left_in = z.is;
             right_in = is_in x h;
-            left_edge = z.edge;
+            left_edge = z.has;
             right_edge = refl;
             left_bottom = bottom (cases_lt ((square_of t x).y + (square_of t x).s) (z.square.y + z.square.s));
             right_bottom = refl;
@@ -77,14 +77,14 @@ module _ (t : Tiling) (tiling : IsTiling t) where
         where
           bottom : ((square_of t x).y + (square_of t x).s < z.square.y + z.square.s)
               ⊎ (z.square.y + z.square.s ≤ (square_of t x).y + (square_of t x).s) → z.square.y + z.square.s ≡ (square_of t x).y + (square_of t x).s
-          bottom (inr m) = omega (arith, m, z.bottom, some x h)
+          bottom (inr m) = omega (arith, m, z.on.bottom, some x h)
           bottom (inl m) = let one : z.square ≡ square_of t y =
               meet t tiling ((square_of t x).x - 1) (square_of t y).y z.square (square_of t y) z.is (is_in y k)
               (record {
-                left = omega (arith, z.edge, column, some y k, side t tiling z.square z.is);
+                left = omega (arith, z.has, column, some y k, side t tiling z.square z.is);
                 right =
-                    omega (arith, z.edge, column, some y k);
-                top = omega (arith, z.top, at, some x h);
+                    omega (arith, z.has, column, some y k);
+                top = omega (arith, z.on.top, at, some x h);
                 bottom = omega (arith, m, at);
               })
               (record {
@@ -94,7 +94,7 @@ module _ (t : Tiling) (tiling : IsTiling t) where
                 bottom =
                     omega (arith, some y k);
               }) in
-              absurd (omega (arith, z.top, at, some x h, ap (λ (s : Square). s.y) one))
+              absurd (omega (arith, z.on.top, at, some x h, ap (λ (s : Square). s.y) one))
 
   -- nor is the line at its right that at the left of one that hangs from it
   pub apart_right : (v x y : ℕ) → x < length t.squares → y < length t.squares → node_below (square_groups t.squares) (square_of t x) ≡ v
@@ -119,7 +119,7 @@ module _ (t : Tiling) (tiling : IsTiling t) where
             left_in = is_in x h;
             right_in = z.is;
             left_edge = refl;
-            right_edge = z.edge;
+            right_edge = z.has;
             left_bottom = refl;
             right_bottom = bottom (cases_lt ((square_of t x).y + (square_of t x).s) (z.square.y + z.square.s));
           })
@@ -127,14 +127,14 @@ module _ (t : Tiling) (tiling : IsTiling t) where
         where
           bottom : ((square_of t x).y + (square_of t x).s < z.square.y + z.square.s)
               ⊎ (z.square.y + z.square.s ≤ (square_of t x).y + (square_of t x).s) → z.square.y + z.square.s ≡ (square_of t x).y + (square_of t x).s
-          bottom (inr m) = omega (arith, m, z.bottom, some x h)
+          bottom (inr m) = omega (arith, m, z.on.bottom, some x h)
           bottom (inl m) = let one : z.square ≡ square_of t y = meet t tiling (square_of t y).x (square_of t y).y z.square (square_of t y) z.is (is_in y k)
               (record {
-                left = omega (arith, z.edge, column);
-                right = omega (arith, z.edge, column, side t tiling z.square z.is);
+                left = omega (arith, z.has, column);
+                right = omega (arith, z.has, column, side t tiling z.square z.is);
                 top =
-                    omega (arith, z.top, at, some x h);
+                    omega (arith, z.on.top, at, some x h);
                 bottom = omega (arith, m, at);
               })
               (record { left = omega arith; right = omega (arith, some y k); top = omega arith; bottom = omega (arith, some y k) }) in
-              absurd (omega (arith, z.top, at, some x h, ap (λ (s : Square). s.y) one))
+              absurd (omega (arith, z.on.top, at, some x h, ap (λ (s : Square). s.y) one))

@@ -26,6 +26,17 @@ module _ (t : Tiling) (tiling : IsTiling t) where
     pub is : IsOneOf square t.squares
     pub on : IsOn i j square
 
+  -- a square over a cell that is as asked
+  pub record IsThere (P : Square → Type 0) (i j : ℕ) : Type 0 where
+    pub square : Square
+    pub is : IsOneOf square t.squares
+    pub has : P square
+    pub on : IsOn i j square
+
+  -- where the square over a cell is as asked, one is there
+  pub there : (P : Square → Type 0) (i j : ℕ) (c : IsCell i j) → P c.square → IsThere P i j
+  there P i j c has = record { square = c.square; is = c.is; has = has; on = c.on }
+
   -- each cell of the rectangle has one
   pub cell : (i j : ℕ) → i < t.width → j < t.height → IsCell i j
   cell i j a b = from (square_at t tiling i j a b)
@@ -51,70 +62,50 @@ module _ (t : Tiling) (tiling : IsTiling t) where
   side = side_of t tiling
 
   -- what meets a square's right edge at a level
-  pub record MeetsRight (q : Square) (y : ℕ) : Type 0 where
-    pub square : Square
-    pub is : IsOneOf square t.squares
-    pub edge : square.x ≡ q.x + q.s
-    pub top : square.y ≤ y
-    pub bottom : y < square.y + square.s
+  abbrev pub MeetsRight : Square → ℕ → Type 0
+  MeetsRight q y = IsThere (λ r. r.x ≡ q.x + q.s) (q.x + q.s) y
 
   -- at a level of a square that doesn't reach the right wall some square stands at its right
   pub right_of : (q : Square) (y : ℕ) → IsOneOf q t.squares → q.y ≤ y → y < q.y + q.s → q.x + q.s < t.width → MeetsRight q y
-  right_of q y h top bottom wide = from (cell (q.x + q.s) y wide (omega (arith, bottom, bottom_within q h)))
+  right_of q y h top bottom wide = there (λ r. r.x ≡ q.x + q.s) (q.x + q.s) y c (here (cases_lt c.square.x (q.x + q.s)))
     where
-      from : IsCell (q.x + q.s) y → MeetsRight q y
-      from c = record { square = c.square; is = c.is; edge = here (cases_lt c.square.x (q.x + q.s)); top = c.on.top; bottom = c.on.bottom }
-        where
-          here : (c.square.x < q.x + q.s) ⊎ (q.x + q.s ≤ c.square.x) → c.square.x ≡ q.x + q.s
-          here (inr k) = omega (arith, c.on.left)
-          here (inl k) = let same : q ≡ c.square =
-              meet (q.x + q.s - 1) y q c.square h c.is (record { left = omega (arith, side q h); right = omega (arith, side q h); top = top; bottom = bottom })
-              (record { left = omega arith; right = omega (arith, c.on.right); top = c.on.top; bottom = c.on.bottom }) in
-              absurd (omega (arith, ap (λ (s : Square). s.x + s.s) same, c.on.right))
+      c : IsCell (q.x + q.s) y
+      c = cell (q.x + q.s) y wide (omega (arith, bottom, bottom_within q h))
+
+      here : (c.square.x < q.x + q.s) ⊎ (q.x + q.s ≤ c.square.x) → c.square.x ≡ q.x + q.s
+      here (inr k) = omega (arith, k, c.on.left)
+      here (inl k) = let same : q ≡ c.square =
+          meet (q.x + q.s - 1) y q c.square h c.is (record { left = omega (arith, side q h); right = omega (arith, side q h); top = top; bottom = bottom })
+          (record { left = omega (arith, k); right = omega (arith, c.on.right); top = c.on.top; bottom = c.on.bottom }) in
+          absurd (omega (arith, ap (λ (s : Square). s.x + s.s) same, c.on.right))
 
   -- what meets its left edge
-  pub record MeetsLeft (q : Square) (y : ℕ) : Type 0 where
-    pub square : Square
-    pub is : IsOneOf square t.squares
-    pub edge : square.x + square.s ≡ q.x
-    pub top : square.y ≤ y
-    pub bottom : y < square.y + square.s
+  abbrev pub MeetsLeft : Square → ℕ → Type 0
+  MeetsLeft q y = IsThere (λ r. r.x + r.s ≡ q.x) (q.x - 1) y
 
   -- a square that doesn't begin at the left wall meets some square at its left
   pub left_of : (q : Square) (y : ℕ) → IsOneOf q t.squares → q.y ≤ y → y < q.y + q.s → 0 < q.x → MeetsLeft q y
-  left_of q y h top bottom some = from (cell (q.x - 1) y (omega (arith, side q h, right_within q h)) (omega (arith, bottom, bottom_within q h)))
+  left_of q y h top bottom some = there (λ r. r.x + r.s ≡ q.x) (q.x - 1) y c (here (cases_lt q.x (c.square.x + c.square.s)))
     where
-      from : IsCell (q.x - 1) y → MeetsLeft q y
-      from c = record { square = c.square; is = c.is; edge = here (cases_lt q.x (c.square.x + c.square.s)); top = c.on.top; bottom = c.on.bottom }
-        where
-          here : (q.x < c.square.x + c.square.s) ⊎ (c.square.x + c.square.s ≤ q.x) → c.square.x + c.square.s ≡ q.x
-          here (inr k) = omega (arith, c.on.right, some)
-          here (inl k) = let same : q ≡ c.square =
-              meet q.x y q c.square h c.is (record { left = omega arith; right = omega (arith, side q h); top = top; bottom = bottom })
-              (record { left = omega (arith, c.on.left); right = k; top = c.on.top; bottom = c.on.bottom }) in
-              absurd (omega (arith, ap (λ (s : Square). s.x) same, c.on.left, some))
+      c : IsCell (q.x - 1) y
+      c = cell (q.x - 1) y (omega (arith, side q h, right_within q h)) (omega (arith, bottom, bottom_within q h))
+
+      here : (q.x < c.square.x + c.square.s) ⊎ (c.square.x + c.square.s ≤ q.x) → c.square.x + c.square.s ≡ q.x
+      here (inr k) = omega (arith, k, c.on.right, some)
+      here (inl k) = let same : q ≡ c.square =
+          meet q.x y q c.square h c.is (record { left = omega arith; right = omega (arith, side q h); top = top; bottom = bottom })
+          (record { left = omega (arith, c.on.left); right = k; top = c.on.top; bottom = c.on.bottom }) in
+          absurd (omega (arith, ap (λ (s : Square). s.x) same, c.on.left, some))
 
   -- what hangs below a square, under one of its columns
-  pub record Hangs (q : Square) (c : ℕ) : Type 0 where
-    pub square : Square
-    pub is : IsOneOf square t.squares
-    pub level : square.y ≡ q.y + q.s
-    pub left : square.x ≤ c
-    pub right : c < square.x + square.s
+  abbrev pub Hangs : Square → ℕ → Type 0
+  Hangs q c = IsThere (λ r. r.y ≡ q.y + q.s) c (q.y + q.s)
 
   -- in a column of a square that doesn't reach the bottom some square hangs below it
   pub hangs_below : (q : Square) (c : ℕ) → IsOneOf q t.squares → q.x ≤ c → c < q.x + q.s → q.y + q.s < t.height → Hangs q c
-  hangs_below q c h lo hi low = from (cell c (q.y + q.s) (omega (arith, hi, right_within q h)) low)
-    where
-      from : IsCell c (q.y + q.s) → Hangs q c
-      from w = record {
-        square = w.square;
-        is = w.is;
-        level =
-            begins_below t tiling q w.square c h lo hi w.is (covers_from c (q.y + q.s) w.square w.on.left w.on.right w.on.top w.on.bottom);
-        left = w.on.left;
-        right = w.on.right;
-      }
+  hangs_below q c h lo hi low = let w = cell c (q.y + q.s) (omega (arith, hi, right_within q h)) low in
+      there (λ r. r.y ≡ q.y + q.s) c (q.y + q.s) w
+      (begins_below t tiling q w.square c h lo hi w.is (covers_from c (q.y + q.s) w.square w.on.left w.on.right w.on.top w.on.bottom))
 
   -- two squares of one column's side at one level are one
   pub same_right : (q r : Square) (y : ℕ) → IsOneOf q t.squares → IsOneOf r t.squares → q.x + q.s ≡ r.x + r.s → q.y ≤ y → y < q.y + q.s

@@ -91,6 +91,19 @@ module _ (t : Tiling) (tiling : IsTiling t) (g : List Square) (k : IsGroup t.squ
   pub low : k.row.first.y < t.height
   low = omega (arith, bottom_within t tiling k.row.first first_own, side t tiling k.row.first first_own)
 
+  -- over the column behind its end no square begins at its level
+  none_at_end : (z : Square) → IsOneOf z t.squares → z.y ≡ k.row.first.y → z.x ≤ k.row.end → k.row.end < z.x + z.s → ⊥
+  none_at_end z is level left right = cases (cases_lt z.x k.row.end)
+    where
+      cases : (z.x < k.row.end) ⊎ (k.row.end ≤ z.x) → ⊥
+      cases (inl n) = omega (
+        arith,
+        (within z (in_level z (k.row.end - 1) is (omega (arith, level)) (omega (arith, some_columns)) (omega (arith, some_columns))
+            (omega (arith, n)) (omega (arith, right)))).1,
+        right,
+      )
+      cases (inr n) = k.row.right z is (omega (arith, level)) (omega (arith, n, left))
+
   -- a square that ends at its level over one of its columns ends on it with all its columns
   pub ends_within : (q : Square) (c : ℕ) → IsOneOf q t.squares → q.y + q.s ≡ k.row.first.y → k.row.first.x ≤ c → c < k.row.end → q.x ≤ c
       → c < q.x + q.s → (k.row.first.x ≤ q.x) × (q.x + q.s ≤ k.row.end)
@@ -107,28 +120,18 @@ module _ (t : Tiling) (tiling : IsTiling t) (g : List Square) (k : IsGroup t.squ
               cases (inl n) = omega (
                 arith,
                 (within z.square
-                    (in_level z.square k.row.first.x z.is (omega (arith, z.level, level)) (omega arith) some_columns (omega (arith, z.left)) n)).0,
-                z.left,
+                    (in_level z.square k.row.first.x z.is (omega (arith, z.has, level)) (omega arith) some_columns (omega (arith, z.on.left)) n)).0,
+                z.on.left,
                 m,
               )
-              cases (inr n) = k.left z.square z.is (omega (arith, z.level, level)) (omega (arith, n, z.right))
+              cases (inr n) = k.left z.square z.is (omega (arith, z.has, level)) (omega (arith, n, z.on.right))
 
       right : (k.row.end < q.x + q.s) ⊎ (q.x + q.s ≤ k.row.end) → q.x + q.s ≤ k.row.end
       right (inr m) = m
       right (inl m) = absurd (from (hangs_below t tiling q k.row.end h (omega arith) m (omega (arith, level, low))))
         where
           from : Hangs t tiling q k.row.end → ⊥
-          from z = cases (cases_lt z.square.x k.row.end)
-            where
-              cases : (z.square.x < k.row.end) ⊎ (k.row.end ≤ z.square.x) → ⊥
-              cases (inl n) = omega (
-                arith,
-                (within z.square
-                    (in_level z.square (k.row.end - 1) z.is (omega (arith, z.level, level)) (omega (arith, some_columns))
-                    (omega (arith, some_columns)) (omega arith) (omega (arith, z.right)))).1,
-                z.right,
-              )
-              cases (inr n) = k.row.right z.square z.is (omega (arith, z.level, level)) (omega (arith, n, z.left))
+          from z = none_at_end z.square z.is (omega (arith, z.has, level)) z.on.left z.on.right
 
   -- where it begins at the top left corner, it reaches to the right edge
   pub reaches : k.row.first.x ≡ 0 → k.row.first.y ≡ 0 → k.row.end ≡ t.width
@@ -139,14 +142,4 @@ module _ (t : Tiling) (tiling : IsTiling t) (g : List Square) (k : IsGroup t.squ
       cases (inl m) = absurd (from (cell t tiling k.row.end 0 m (omega (arith, low))))
         where
           from : IsCell t tiling k.row.end 0 → ⊥
-          from z = by (cases_lt z.square.x k.row.end)
-            where
-              by : (z.square.x < k.row.end) ⊎ (k.row.end ≤ z.square.x) → ⊥
-              by (inl n) = omega (
-                arith,
-                (within z.square
-                    (in_level z.square (k.row.end - 1) z.is (omega (arith, z.on.top, y)) (omega (arith, some_columns))
-                    (omega (arith, some_columns)) (omega arith) (omega (arith, z.on.right)))).1,
-                z.on.right,
-              )
-              by (inr n) = k.row.right z.square z.is (omega (arith, z.on.top, y)) (omega (arith, n, z.on.left))
+          from z = none_at_end z.square z.is (omega (arith, z.on.top, y)) z.on.left z.on.right

@@ -4,13 +4,13 @@ use Rattle.std.proofs.lemmas.Option.{slice_get_within}
 use Rattle.bk_laws.proofs.TestsAsNumbers.{cond_count-nat_eq_same, nat_eq-same_if_counted}
 use Rattle.bk_tiling.proofs.Cells.{counted_one, one_counted}
 use Rattle.bk_tiling.proofs.Groups.{IsGroup}
-use Rattle.bk_tiling.proofs.TilingGroups.{known, one_there}
+use Rattle.bk_tiling.proofs.TilingGroups.{known_groups, one_there}
 use Rattle.bk_tiling.specs.Column.{covers_column}
 use Rattle.bk_tiling.specs.SquareGroups.{square_groups}
 use Rattle.bk_tiling.specs.Tiling.{IsOneOf, IsTiling, Tiling, covers}
 use Rattle.bk_tiling.specs.declared.Square.{Square}
 use Rattle.bk_net.proofs.GroupSquares.{get_index, group_of, in_group}
-use Rattle.bk_net.proofs.NodeBelow.{IsBelow, below_from, below_to as is_below, place}
+use Rattle.bk_net.proofs.NodeBelow.{IsBelow, below_from, below_to as is_below, has_node_below}
 use Rattle.bk_net.specs.Diagram.{group_level, node_below}
 use Rattle.bk_layout.proofs.TilingLayouts.Edges.{IsOn, side}
 use Rattle.bk_layout.specs.TilingLayout.{node_above}
@@ -56,7 +56,7 @@ module _ (t : Tiling) (tiling : IsTiling t) (v : ℕ) (g : List Square) (e : sli
   below_to q h same = from (counted_one (λ r. nat_eq r.y (q.y + q.s) && covers_column q.x r) g (omega (
     arith,
     ap (count_by (λ r. nat_eq r.y (q.y + q.s) && covers_column q.x r)) (get_index (square_groups t.squares) v g e),
-    (place t tiling q h).counts v few,
+    (has_node_below t tiling q h).counts v few,
     cond_count-nat_eq_same (node_below (square_groups t.squares) q) v same,
   )))
     where
@@ -90,14 +90,14 @@ module _ (t : Tiling) (tiling : IsTiling t) (v : ℕ) (g : List Square) (e : sli
         one_counted (λ r. nat_eq r.y (q.y + q.s) && covers_column q.x r) g r m
             (below_from q r (omega (arith, tops t tiling g group own_in r m, level)) o.left o.right),
         ap (count_by (λ r. nat_eq r.y (q.y + q.s) && covers_column q.x r)) (get_index (square_groups t.squares) v g e),
-        (place t tiling q h).counts v few,
+        (has_node_below t tiling q h).counts v few,
       ))
 
   at_top : v ≡ 0 → ((group_of t tiling v g e).0.row.first.y ≡ 0) × ((group_of t tiling v g e).0.row.first.x ≡ 0)
-  at_top zero_is = (ap (λ (s : Square). s.y) same ∙ (known t tiling).y, ap (λ (s : Square). s.x) same ∙ (known t tiling).x)
+  at_top zero_is = (ap (λ (s : Square). s.y) same ∙ (known_groups t tiling).y, ap (λ (s : Square). s.x) same ∙ (known_groups t tiling).x)
     where
-      is : Some g ≡ Some (known t tiling).group
-      is = sym e ∙ ap (slice_get (square_groups t.squares)) zero_is ∙ ap (λ (gs : List (List Square)). slice_get gs 0) (known t tiling).is
+      is : Some g ≡ Some (known_groups t tiling).group
+      is = sym e ∙ ap (slice_get (square_groups t.squares)) zero_is ∙ ap (λ (gs : List (List Square)). slice_get gs 0) (known_groups t tiling).is
 
       groups_same : {a b : List Square} → Some a ≡ Some b → a ≡ b
       groups_same f = cc
@@ -105,8 +105,8 @@ module _ (t : Tiling) (tiling : IsTiling t) (v : ℕ) (g : List Square) (e : sli
       heads : {a b : Square} {xs ys zs : List Square} → zs ≡ a ∷ xs → zs ≡ b ∷ ys → a ≡ b
       heads f h = cc
 
-      same : (group_of t tiling v g e).0.row.first ≡ (known t tiling).first
-      same = heads (group_of t tiling v g e).0.row.is (groups_same is ∙ (known t tiling).own.row.is) ∙ (known t tiling).at_first
+      same : (group_of t tiling v g e).0.row.first ≡ (known_groups t tiling).first
+      same = heads (group_of t tiling v g e).0.row.is (groups_same is ∙ (known_groups t tiling).own.row.is) ∙ (known_groups t tiling).at_first
 
   -- each group is a node: the columns and the level of its squares
   pub inner_node : IsNode t v

@@ -47,30 +47,17 @@ module _ (t : Tiling) (tiling : IsTiling t) where
         left_in = h;
         right_in = z.is;
         left_edge = e;
-        right_edge = z.edge
-            ∙ e;
+        right_edge = z.has ∙ e;
         left_top = a;
         left_bottom = b;
-        right_top = z.top;
-        right_bottom = z.bottom;
+        right_top = z.on.top;
+        right_bottom = z.on.bottom;
       }
 
   -- a square's left side is an edge
   pub edge_of_right : (x y : ℕ) (q : Square) → IsOneOf q t.squares → q.x ≡ x → 0 < x → q.y ≤ y → y < q.y + q.s → IsEdge t x y
   edge_of_right x y q h e some a b = let z = left_of t tiling q y h a b (omega (arith, e, some)) in
-      record {
-        left = z.square;
-        right = q;
-        left_in = z.is;
-        right_in = h;
-        left_edge = z.edge
-            ∙ e;
-        right_edge = e;
-        left_top = z.top;
-        left_bottom = z.bottom;
-        right_top = a;
-        right_bottom = b;
-      }
+      edge_of_left x y z.square z.is (z.has ∙ e) (omega (arith, e, side t tiling q h, right_within t tiling q h)) z.on.top z.on.bottom
 
   -- an edge goes on downwards unless the line ends
   edge_down : (x y : ℕ) → IsEdge t x y → (Ends t.squares x (suc y) → ⊥) → IsEdge t x (suc y)
@@ -128,7 +115,7 @@ module _ (t : Tiling) (tiling : IsTiling t) where
   same_node u v c a b level a1 a2 b1 b2 = cases a.inner b.inner
     where
       from : HangsAt t tiling u a c → u ≡ v
-      from w = sym w.node_is ∙ b.hang_from w.square c w.is (omega (arith, level, (a.hang_to w.square w.is w.node_is).0)) b1 b2 w.left w.right
+      from w = sym w.has ∙ b.hang_from w.square c w.is (omega (arith, level, (a.hang_to w.square w.is w.has).0)) b1 b2 w.on.left w.on.right
 
       cases : ((u < length (square_groups t.squares)) × (a.level < t.height))
           ⊎ ((u ≡ length (square_groups t.squares)) × (a.level ≡ t.height) × (a.left ≡ 0) × (a.right ≡ t.width))

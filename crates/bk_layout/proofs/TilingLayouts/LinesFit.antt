@@ -1,15 +1,16 @@
 -- The lines of the layout of a tiling, between neighbours and at both ends of each node.
 use Rattle.std.proofs.Common.{arith, length, refl, sym, ℕ, ◌+◌, ◌==◌, ◌∙◌, ◌≡◌, ◌≤◌, ◌⊎◌}
 use Rattle.bk_tiling.specs.SquareGroups.{square_groups}
-use Rattle.bk_tiling.specs.Tiling.{IsTiling, Tiling}
+use Rattle.bk_tiling.specs.Tiling.{IsTiling, Tiling, square_of}
 use Rattle.bk_net.specs.Diagram.{node_below}
 use Rattle.bk_layout.proofs.Lists.AscendingPlaces.{AreNext, next_from}
 use Rattle.bk_layout.proofs.TilingLayouts.LineNumbers.{number_left, number_right}
 use Rattle.bk_layout.proofs.Sweeps.NodeLaws.{beside}
 use Rattle.bk_layout.proofs.TilingLayouts.NodeLines.{one_left_line, one_right_line}
+use Rattle.bk_layout.proofs.TilingLayouts.NodeColumns.{hung_fill}
 use Rattle.bk_layout.proofs.TilingLayouts.NodeCorners.{first_of_ended, first_of_hung, last_of_ended, last_of_hung, over_hung}
 use Rattle.bk_layout.specs.Layout.{AreLines, AreNeighbours, IsFirst, IsLast}
-use Rattle.bk_layout.specs.TilingLayout.{from_left, layout_of, line_number, node_above, square_of}
+use Rattle.bk_layout.specs.TilingLayout.{from_left, layout_of, line_number, node_above}
 use Rattle.bk_layout.proofs.TilingLayouts.TilingSquares.{ended_from, hung, hung_from, hung_node, hung_one, in_square, key, wide_at}
 use Rattle.bk_layout.proofs.TilingLayouts.GroupNodes.{IsNode}
 
@@ -27,7 +28,8 @@ module _ (t : Tiling) (tiling : IsTiling t) where
       node = hung_node t tiling v q n.first_in.0 n.first_in.1
 
       edge : (square_of t q).x + (square_of t q).s ≡ (square_of t r).x
-      edge = beside t tiling v node (square_of t q) (square_of t r) (in_square t tiling q n.first_in.0) (in_square t tiling r n.second_in.0)
+      edge = beside t tiling v node (λ w. node_above (square_groups t.squares) w ≡ v) (hung_fill t tiling v node) (square_of t q)
+          (square_of t r) (in_square t tiling q n.first_in.0) (in_square t tiling r n.second_in.0)
           (hung_from t tiling v q n.first_in.1) (hung_from t tiling v r n.second_in.1) n.less
           (over_hung t tiling v (λ w. (w.x ≤ (key t tiling) q) ⊎ (key t tiling r ≤ w.x)) n.between)
 

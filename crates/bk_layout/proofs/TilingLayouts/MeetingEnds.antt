@@ -1,19 +1,19 @@
 -- Squares of a tiling that end side by side on a node meet.
-use Rattle.std.proofs.Common.{ap, arith, inl, inr, length, refl, subst, sym, ℕ, ◌+◌, ◌-◌, ◌<◌, ◌∙◌, ◌≡◌, ◌≤◌, ◌⊎◌}
-use Rattle.std.proofs.lemmas.Bool.{cases_lt}
+use Rattle.std.proofs.Common.{ap, arith, length, refl, subst, sym, ℕ, ◌+◌, ◌-◌, ◌<◌, ◌∙◌, ◌≡◌, ◌≤◌, ◌⊎◌}
 use Rattle.bk_tiling.specs.SquareGroups.{square_groups}
-use Rattle.bk_tiling.specs.Tiling.{IsTiling, Tiling}
-use Rattle.bk_tiling.specs.declared.Square.{Square}
+use Rattle.bk_tiling.specs.Tiling.{IsTiling, Tiling, square_of}
 use Rattle.bk_net.specs.Diagram.{node_below}
 use Rattle.bk_layout.specs.Layout.{AreNeighbours}
 use Rattle.bk_layout.proofs.Lists.AscendingPlaces.{AreNext, next_from}
 use Rattle.bk_layout.proofs.TilingLayouts.Edges.{bottom_within}
 use Rattle.bk_layout.proofs.TilingLayouts.LineEnds.{Ends, end_is}
 use Rattle.bk_layout.proofs.TilingLayouts.LineNumbers.{number_same}
-use Rattle.bk_layout.proofs.TilingLayouts.NodeColumns.{EndsAt, deep_if_ended, ends_at, one_ended}
+use Rattle.bk_layout.proofs.TilingLayouts.NodeColumns.{ended_fill}
+use Rattle.bk_layout.proofs.TilingLayouts.NodeCorners.{over_ended}
+use Rattle.bk_layout.proofs.Sweeps.NodeLaws.{beside}
 use Rattle.bk_layout.proofs.TilingLayouts.NodeLines.{along_left, along_right}
-use Rattle.bk_layout.proofs.TilingLayouts.TilingSquares.{HasNumber, ended, ended_from, ended_node, ended_one, ended_to, has_number, key}
-use Rattle.bk_layout.specs.TilingLayout.{layout_of, line_end, line_number, square_of}
+use Rattle.bk_layout.proofs.TilingLayouts.TilingSquares.{ended, ended_from, ended_node, ended_one, key}
+use Rattle.bk_layout.specs.TilingLayout.{layout_of, line_end, line_number}
 use Rattle.bk_layout.proofs.TilingLayouts.GroupNodes.{IsNode}
 use Rattle.bk_layout.specs.NodeCorners.{DoEndsMeet}
 use Rattle.bk_layout.proofs.TilingLayouts.ApartNodes.{is_in, some}
@@ -44,36 +44,9 @@ module _ (t : Tiling) (tiling : IsTiling t) where
     same_level = omega (arith, (node.end_to (square_of t x) (is_in t tiling x low_x) end_x).0, (node.end_to (square_of t y) (is_in t tiling y low_y) end_y).0)
 
     edge : (square_of t x).x + (square_of t x).s ≡ (square_of t y).x
-    edge = cases (cases_lt ((square_of t x).x + (square_of t x).s) (square_of t y).x) (cases_lt (square_of t y).x ((square_of t x).x + (square_of t x).s))
-      where
-        gap : (square_of t x).x + (square_of t x).s < (square_of t y).x → EndsAt t tiling v node ((square_of t x).x + (square_of t x).s) → ⊥
-        gap m w = with (has_number t tiling w.square w.is)
-          where
-            with : HasNumber t tiling w.square → ⊥
-            with n = past (is_next.between n.number n.below (ended_to t tiling v n.number (ap (node_below (square_groups t.squares)) n.is ∙ w.node_is)))
-              where
-                column : (square_of t n.number).x ≡ w.square.x
-                column = ap (λ (s : Square). s.x) n.is
-
-                past : (key t tiling n.number ≤ key t tiling x) ⊎ (key t tiling y ≤ key t tiling n.number) → ⊥
-                past (inr o) = omega (arith, o, m, w.left, column)
-                past (inl o) = let one : w.square ≡ square_of t x =
-                    one_ended t tiling v node (square_of t x).x w.square (square_of t x) w.is (is_in t tiling x low_x) w.node_is end_x
-                    (omega (arith, o, column)) (omega (arith, w.right)) (omega arith) (omega (arith, some t tiling x low_x)) in
-                    omega (arith, w.right, ap (λ (s : Square). s.x + s.s) one)
-
-        cases : ((square_of t x).x + (square_of t x).s < (square_of t y).x) ⊎ ((square_of t y).x ≤ (square_of t x).x + (square_of t x).s)
-            → ((square_of t y).x < (square_of t x).x + (square_of t x).s) ⊎ ((square_of t x).x + (square_of t x).s ≤ (square_of t y).x)
-            → (square_of t x).x + (square_of t x).s ≡ (square_of t y).x
-        cases a (inl m) = let one : square_of t x ≡ square_of t y =
-            one_ended t tiling v node (square_of t y).x (square_of t x) (square_of t y) (is_in t tiling x low_x) (is_in t tiling y low_y) end_x end_y
-            (omega (arith, is_next.less)) m (omega arith) (omega (arith, some t tiling y low_y)) in
-            absurd (omega (arith, is_next.less, ap (λ (s : Square). s.x) one))
-        cases (inr m) (inr n) = omega arith
-        cases (inl m) (inr n) = absurd (gap m (ends_at t tiling v node ((square_of t x).x + (square_of t x).s)
-            (deep_if_ended t tiling v node (square_of t x) (is_in t tiling x low_x) end_x)
-            (omega (arith, (node.end_to (square_of t x) (is_in t tiling x low_x) end_x).1))
-            (omega (arith, m, some t tiling y low_y, (node.end_to (square_of t y) (is_in t tiling y low_y) end_y).2))))
+    edge = beside t tiling v node (λ w. node_below (square_groups t.squares) w ≡ v) (ended_fill t tiling v node) (square_of t x) (square_of t y)
+        (is_in t tiling x low_x) (is_in t tiling y low_y) end_x end_y is_next.less
+        (over_ended t tiling v (λ w. (w.x ≤ key t tiling x) ⊎ (key t tiling y ≤ w.x)) is_next.between)
 
     ends : Ends t.squares ((square_of t x).x + (square_of t x).s) ((square_of t x).y + (square_of t x).s)
     ends = record {

@@ -79,17 +79,17 @@ module _ (t : Tiling) (tiling : IsTiling t) (v : ℕ) (node : IsNode t v) where
               from z = by (cases_lt z.square.x r.x)
                 where
                   top : z.square.y ≡ node.level
-                  top = omega (arith, z.level, level, (node.end_to q h e).0)
+                  top = omega (arith, z.has, level, (node.end_to q h e).0)
 
                   at : r.x ≡ node.right
                   at = omega (arith, m, edge, (node.end_to q h e).2)
 
                   by : (z.square.x < r.x) ⊎ (r.x ≤ z.square.x) → ⊥
-                  by (inr l) = node.beyond_right z.square z.is top (omega (arith, l, z.left, at))
+                  by (inr l) = node.beyond_right z.square z.is top (omega (arith, l, z.on.left, at))
                   by (inl l) = omega (
                     arith,
                     at,
-                    z.right,
+                    z.on.right,
                     (node.hang_to z.square z.is (node.hang_from z.square (node.right - 1) z.is top (omega (arith, node.some))
-                        (omega (arith, node.some)) (omega (arith, at, l)) (omega (arith, at, z.right)))).2,
+                        (omega (arith, node.some)) (omega (arith, at, l)) (omega (arith, at, z.on.right)))).2,
                   )

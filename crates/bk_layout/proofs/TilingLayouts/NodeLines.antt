@@ -58,7 +58,7 @@ module _ (t : Tiling) (tiling : IsTiling t) (v : ℕ) (node : IsNode t v) where
               from z = by (cases_lt q.x (z.square.x + z.square.s))
                 where
                   top : z.square.y ≡ node.level
-                  top = omega (arith, z.level, m.left_bottom, l, hi, (node.end_to q h e).0)
+                  top = omega (arith, z.has, m.left_bottom, l, hi, (node.end_to q h e).0)
 
                   some : 0 < q.x
                   some = omega (arith, m.left_edge, side t tiling m.left m.left_in)
@@ -68,11 +68,11 @@ module _ (t : Tiling) (tiling : IsTiling t) (v : ℕ) (node : IsNode t v) where
                     arith,
                     some,
                     a,
-                    z.left,
+                    z.on.left,
                     (node.hang_to z.square z.is (node.hang_from z.square q.x z.is top (omega (arith, a)) (omega (arith, a, node.some))
-                        (omega (arith, z.left)) n)).1,
+                        (omega (arith, z.on.left)) n)).1,
                   )
-                  by (inr n) = node.beyond_left z.square z.is top (omega (arith, n, z.right, a))
+                  by (inr n) = node.beyond_left z.square z.is top (omega (arith, n, z.on.right, a))
 
   -- at the right end of a node the line of what ends there goes on at what hangs there
   pub one_right_line : (q p : Square) → IsOneOf q t.squares → IsOneOf p t.squares → Ended q → Hung p → q.x + q.s ≡ node.right
@@ -100,14 +100,14 @@ module _ (t : Tiling) (tiling : IsTiling t) (v : ℕ) (node : IsNode t v) where
               from z = by (cases_lt z.square.x (q.x + q.s))
                 where
                   top : z.square.y ≡ node.level
-                  top = omega (arith, z.level, m.right_bottom, l, hi, (node.end_to q h e).0)
+                  top = omega (arith, z.has, m.right_bottom, l, hi, (node.end_to q h e).0)
 
                   by : (z.square.x < q.x + q.s) ⊎ (q.x + q.s ≤ z.square.x) → ⊥
                   by (inl n) = omega (
                     arith,
                     a,
-                    z.right,
+                    z.on.right,
                     (node.hang_to z.square z.is (node.hang_from z.square (node.right - 1) z.is top (omega (arith, node.some))
-                        (omega (arith, node.some)) (omega (arith, a, n)) (omega (arith, a, z.right)))).2,
+                        (omega (arith, node.some)) (omega (arith, a, n)) (omega (arith, a, z.on.right)))).2,
                   )
-                  by (inr n) = node.beyond_right z.square z.is top (omega (arith, n, z.left, a))
+                  by (inr n) = node.beyond_right z.square z.is top (omega (arith, n, z.on.left, a))

@@ -3,14 +3,14 @@ use Rattle.std.proofs.Common.{List, Some, [], ap, arith, count_by, inl, inr, len
 use Rattle.std.proofs.lemmas.Option.{slice_get_within}
 use Rattle.bk_tiling.proofs.Cells.{covers_from, one_counted}
 use Rattle.bk_tiling.proofs.Groups.{row_of}
-use Rattle.bk_tiling.proofs.TilingGroups.{known}
+use Rattle.bk_tiling.proofs.TilingGroups.{known_groups}
 use Rattle.bk_tiling.proofs.TilingLaws.{cell_once, wide_enough}
 use Rattle.bk_tiling.specs.SquareGroups.{square_groups}
 use Rattle.bk_tiling.specs.Tiling.{IsOneOf, IsTiling, Tiling, covers}
 use Rattle.bk_tiling.specs.declared.Square.{Square}
 use Rattle.bk_net.proofs.NodeNumbers.{at_bottom}
 use Rattle.bk_net.proofs.GroupSquares.{row_is}
-use Rattle.bk_net.proofs.NodeBelow.{place, stands_on}
+use Rattle.bk_net.proofs.NodeBelow.{has_node_below, stands_on}
 use Rattle.bk_net.proofs.SmithLists.{HasGroup, has_group}
 use Rattle.bk_net.specs.Diagram.{group_level, node_below}
 use Rattle.bk_layout.proofs.TilingLayouts.Edges.{bottom_within, right_within, side}
@@ -70,9 +70,9 @@ module _ (t : Tiling) (tiling : IsTiling t) where
     beyond_left = λ z h ey ex. omega (arith, ey, bottom_within t tiling z h, side t tiling z h);
     beyond_right = λ z h ey ex. omega (arith, ey, bottom_within t tiling z h, side t tiling z h);
     inner = inr (refl, refl, refl, refl);
-    top = λ e. absurd (omega (arith, e, ap length (known t tiling).is));
+    top = λ e. absurd (omega (arith, e, ap length (known_groups t tiling).is));
   }
 
   -- no square ends below the bottom
   pub most_nodes : (q : Square) → IsOneOf q t.squares → node_below (square_groups t.squares) q ≤ length (square_groups t.squares)
-  most_nodes q h = (place t tiling q h).most
+  most_nodes q h = (has_node_below t tiling q h).most

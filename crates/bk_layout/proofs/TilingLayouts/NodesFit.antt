@@ -1,9 +1,9 @@
 -- The lists and the nodes of the layout of a tiling are those of a layout that fits.
 use Rattle.std.proofs.Common.{ap, arith, inl, inr, length, refl, slice_index_or, sym, ℕ, ◌+◌, ◌<◌, ◌==◌, ◌∙◌, ◌≡◌, ◌≤◌, ◌⊎◌}
 use Rattle.std.proofs.lemmas.Bool.{cases_lt}
-use Rattle.bk_tiling.proofs.TilingGroups.{known}
+use Rattle.bk_tiling.proofs.TilingGroups.{known_groups}
 use Rattle.bk_tiling.specs.SquareGroups.{square_groups}
-use Rattle.bk_tiling.specs.Tiling.{IsOneOf, IsTiling, Tiling}
+use Rattle.bk_tiling.specs.Tiling.{IsOneOf, IsTiling, Tiling, square_of}
 use Rattle.bk_tiling.specs.declared.Square.{Square}
 use Rattle.bk_net.specs.Diagram.{node_below, node_levels}
 use Rattle.bk_layout.proofs.Lists.AscendingPlaces.{has_place, once, some, stands_in}
@@ -11,7 +11,7 @@ use Rattle.bk_layout.proofs.TilingLayouts.Edges.{side}
 use Rattle.bk_layout.proofs.TilingLayouts.NodeColumns.{EndsAt, HangsAt, ends_at, hangs_at}
 use Rattle.bk_layout.proofs.TilingLayouts.Nodes.{above_bottom, most_nodes}
 use Rattle.bk_layout.specs.Layout.{AreLists, AreNodes}
-use Rattle.bk_layout.specs.TilingLayout.{from_left, layout_of, node_above, square_of}
+use Rattle.bk_layout.specs.TilingLayout.{from_left, layout_of, node_above}
 use Rattle.bk_layout.proofs.TilingLayouts.TilingSquares.{ended, ended_from, ended_one, ended_to, has_number, hung, hung_from, hung_one, hung_to, in_square}
 use Rattle.bk_layout.proofs.TilingLayouts.TilingSquares.{key, node_at}
 use Rattle.bk_layout.proofs.TilingLayouts.GroupNodes.{IsNode}
@@ -36,7 +36,7 @@ module _ (t : Tiling) (tiling : IsTiling t) where
 
   -- a tiling has a group
   pub some_groups : 0 < length (square_groups t.squares)
-  some_groups = omega (arith, ap length (known t tiling).is)
+  some_groups = omega (arith, ap length (known_groups t tiling).is)
 
   -- each node but the bottom is above the bottom's level
   pub low_level : (v : ℕ) (node : IsNode t v) → v < length (square_groups t.squares) → node.level < t.height
@@ -63,9 +63,9 @@ module _ (t : Tiling) (tiling : IsTiling t) where
           from w = omega (
             arith,
             h,
-            w.node_is,
-            node0.hang_from w.square node.left w.is (omega (arith, m, (node.hang_to w.square w.is w.node_is).0, (node0.top refl).0))
-                (omega (arith, (node0.top refl).1)) (omega (arith, (node0.top refl).2, node.some, node.wide)) w.left w.right,
+            w.has,
+            node0.hang_from w.square node.left w.is (omega (arith, m, (node.hang_to w.square w.is w.has).0, (node0.top refl).0))
+                (omega (arith, (node0.top refl).1)) (omega (arith, (node0.top refl).2, node.some, node.wide)) w.on.left w.on.right,
           )
 
   some_hang : (v : ℕ) → v < length (square_groups t.squares) → 0 < length (from_left t (λ q. node_above (square_groups t.squares) (square_of t q) == v))
@@ -77,7 +77,7 @@ module _ (t : Tiling) (tiling : IsTiling t) where
       from : HangsAt t tiling v node node.left → 0 < length (from_left t (λ q. node_above (square_groups t.squares) (square_of t q) == v))
       from w = let k = has_number t tiling w.square w.is in
           some (key t tiling) (hung t tiling v) (length t.squares) (hung_one t tiling v) k.number k.below
-          (hung_to t tiling v k.number (ap (node_above (square_groups t.squares)) k.is ∙ w.node_is))
+          (hung_to t tiling v k.number (ap (node_above (square_groups t.squares)) k.is ∙ w.has))
 
   some_end : (v : ℕ) → 0 < v → v ≤ length (square_groups t.squares) → 0 < length (from_left t (λ q. node_below (square_groups t.squares) (square_of t q) == v))
   some_end v a h = from (ends_at t tiling v node node.left (deep_level v node a) (omega arith) node.some)
@@ -88,7 +88,7 @@ module _ (t : Tiling) (tiling : IsTiling t) where
       from : EndsAt t tiling v node node.left → 0 < length (from_left t (λ q. node_below (square_groups t.squares) (square_of t q) == v))
       from w = let k = has_number t tiling w.square w.is in
           some (key t tiling) (ended t tiling v) (length t.squares) (ended_one t tiling v) k.number k.below
-          (ended_to t tiling v k.number (ap (node_below (square_groups t.squares)) k.is ∙ w.node_is))
+          (ended_to t tiling v k.number (ap (node_below (square_groups t.squares)) k.is ∙ w.has))
 
   below_top : (q : Square) → IsOneOf q t.squares → 0 < node_below (square_groups t.squares) q
   below_top q h = cases (cases_lt 0 (node_below (square_groups t.squares) q))

@@ -2,13 +2,13 @@
 use Rattle.std.proofs.Common.{Some, ap, arith, inl, inr, length, slice_get, sym, ℕ, ◌+◌, ◌-◌, ◌<◌, ◌∙◌, ◌≡◌, ◌≤◌}
 use Rattle.bk_laws.proofs.Outcomes.{some-injective}
 use Rattle.bk_tiling.specs.SquareGroups.{square_groups}
-use Rattle.bk_tiling.specs.Tiling.{IsTiling, Tiling}
+use Rattle.bk_tiling.specs.Tiling.{IsTiling, Tiling, square_of}
 use Rattle.bk_net.specs.Diagram.{node_below}
 use Rattle.bk_layout.proofs.Lists.AscendingPlaces.{has_place}
 use Rattle.bk_layout.proofs.TilingLayouts.LineNumbers.{number_column}
 use Rattle.bk_layout.proofs.TilingLayouts.NodeColumns.{one_hung}
 use Rattle.bk_layout.proofs.TilingLayouts.TilingSquares.{ended, ended_one, ended_to, hung_node, hung_to, key, one_number}
-use Rattle.bk_layout.specs.TilingLayout.{layout_of, node_above, square_of}
+use Rattle.bk_layout.specs.TilingLayout.{layout_of, node_above}
 use Rattle.bk_layout.proofs.TilingLayouts.ApartLines.{lines_of_a_tiling_are_apart}
 use Rattle.bk_layout.specs.SharedNodes.{AreLinesApart}
 use Rattle.bk_layout.specs.NodeCorners.{AreCornersApart, IsAfter, IsBefore}

@@ -2,7 +2,7 @@
 use Rattle.std.proofs.Common.{ap, arith, false, inl, inr, length, refl, sym, true, ℕ, ◌+◌, ◌-◌, ◌<◌, ◌==◌, ◌∙◌, ◌≡◌, ◌≤◌, ◌⊎◌}
 use Rattle.std.proofs.lemmas.Bool.{cases_lt}
 use Rattle.bk_tiling.specs.SquareGroups.{square_groups}
-use Rattle.bk_tiling.specs.Tiling.{IsTiling, Tiling}
+use Rattle.bk_tiling.specs.Tiling.{IsTiling, Tiling, square_of}
 use Rattle.bk_tiling.specs.declared.Square.{Square}
 use Rattle.bk_net.specs.Diagram.{node_below}
 use Rattle.bk_layout.proofs.Lists.AscendingPlaces.{next_to}
@@ -10,7 +10,7 @@ use Rattle.bk_layout.proofs.TilingLayouts.Edges.{bottom_within, right_within}
 use Rattle.bk_layout.proofs.TilingLayouts.LineNumbers.{number_both}
 use Rattle.bk_layout.proofs.TilingLayouts.NodeColumns.{one_ended}
 use Rattle.bk_layout.specs.Layout.{AreNeighbours, DoLinesGoOn, Fits}
-use Rattle.bk_layout.specs.TilingLayout.{from_left, goes_on_left, goes_on_right, layout_of, line_end, line_number, square_of}
+use Rattle.bk_layout.specs.TilingLayout.{from_left, goes_on_left, goes_on_right, layout_of, line_end, line_number}
 use Rattle.bk_layout.specs.TilingLayoutLaws.{ATilingHasALayout}
 use Rattle.bk_layout.proofs.TilingLayouts.TilingNet.{net_is}
 use Rattle.bk_layout.proofs.TilingLayouts.TilingSquares.{ended, ended_from, ended_one, ended_to, in_square, key, wide_at}

@@ -4,14 +4,14 @@ use Rattle.std.proofs.Common.{◌∙◌, ◌∷◌, ◌≡◌}
 use Rattle.std.proofs.lemmas.List.{map-append}
 use Rattle.bk_tiling.proofs.Groups.{row_of}
 use Rattle.bk_tiling.specs.SquareGroups.{square_groups}
-use Rattle.bk_tiling.specs.Tiling.{IsOneOf, IsTiling, Tiling}
+use Rattle.bk_tiling.specs.Tiling.{IsOneOf, IsTiling, Tiling, square_of}
 use Rattle.bk_tiling.specs.declared.Square.{Square}
 use Rattle.bk_net.proofs.GroupSquares.{row_is}
 use Rattle.bk_net.proofs.SmithLists.{group_wires}
 use Rattle.bk_net.specs.Diagram.{node_below, smith_diagram}
 use Rattle.bk_word.specs.Play.{numbers_from}
 use Rattle.bk_layout.specs.Layout.{net_of_layout}
-use Rattle.bk_layout.specs.TilingLayout.{layout_of, node_above, square_of}
+use Rattle.bk_layout.specs.TilingLayout.{layout_of, node_above}
 use Rattle.bk_layout.proofs.TilingLayouts.InnerNodes.{above_from}
 
 -- ---- the net

@@ -7,13 +7,13 @@ use Rattle.bk_tiling.proofs.Members.{one_at}
 use Rattle.bk_tiling.proofs.Places.{at_place, later_place}
 use Rattle.bk_tiling.proofs.Scaling.{before_cases}
 use Rattle.bk_tiling.specs.SquareGroups.{square_groups}
-use Rattle.bk_tiling.specs.Tiling.{IsOneOf, IsTiling, Tiling}
+use Rattle.bk_tiling.specs.Tiling.{IsOneOf, IsTiling, Tiling, square_of}
 use Rattle.bk_tiling.specs.declared.Square.{Square}
 use Rattle.bk_net.specs.Diagram.{node_below}
 use Rattle.bk_layout.proofs.TilingLayouts.Edges.{side}
 use Rattle.bk_layout.proofs.TilingLayouts.NodeColumns.{one_ended, one_hung}
 use Rattle.bk_layout.proofs.TilingLayouts.Nodes.{above_bottom, bottom_node, most_nodes}
-use Rattle.bk_layout.specs.TilingLayout.{node_above, square_of}
+use Rattle.bk_layout.specs.TilingLayout.{node_above}
 use Rattle.bk_layout.proofs.TilingLayouts.GroupNodes.{IsNode}
 use Rattle.bk_layout.proofs.TilingLayouts.InnerNodes.{inner_node}
 

@@ -1,7 +1,6 @@
 use Rattle.std.proofs.Common.{◌+◌, ◌<◌, ◌≡◌}
-use Rattle.bk_tiling.specs.Tiling.{Rectangle}
+use Rattle.bk_tiling.specs.Tiling.{Rectangle, square_of}
 use Rattle.bk_simple.proofs.Seams.{IsRunTo}
-use Rattle.bk_simple.specs.Reach.{square_of}
 use Rattle.bk_simple.specs.Simple.{IsPart, top_left}
 use Rattle.bk_simple.proofs.has_none_past.Given as goal
 

@@ -8,7 +8,7 @@ use Rattle.bk_simple.proofs.TopRuns.{begins_right, run_of}
 use Rattle.bk_laws.proofs.FixedWidths.{number_below_fits}
 use Rattle.bk_simple.proofs.KeptEdges.{edges_of_kept_fit, next_place_fits, place_in_memory_fits}
 use Rattle.bk_simple.proofs.has_none_under.Goals as goal
-use Rattle.bk_simple.proofs.has_none_under.Goals.{then-crosses-via-else-crosses+then-crosses-2, then-crosses-via-then-crosses}
+use Rattle.bk_simple.proofs.has_none_under.Goals.{After-end_with-right_end, then-crosses-via-else-crosses+then-crosses-2, then-crosses-via-then-crosses}
 
 abbrev none : Square
 none = record { x = 0; y = 0; s = 0 }
@@ -34,6 +34,15 @@ next_ends t tiling i last k l r m n a b c d = record {
   right = λ e. c (eq-eqb _ _ e);
   not_right = λ h. d (false_from_ne_true _ (λ e. h (eqb-true _ _ e)));
 }
+
+-- so are they behind both
+next : (c : After-end_with-right_end) (tiling : IsTiling c.args.tiling.now) → AreNext c.args.tiling.now tiling none c.args.i
+    (right_of c.args.tiling.now c.args.last) c.loop-k.k c.loop-k.left_end c.loop-k.right_end c.end_with-left_end.result c.end_with-right_end.result
+next c tiling =
+    next_ends c.args.tiling.now tiling c.args.i c.args.last c.loop-k.k c.loop-k.left_end c.loop-k.right_end c.end_with-left_end.result
+    c.end_with-right_end.result
+    (rw c.squares-squares.ensures.value at c.end_with-left_end.ensures.there) (rw c.squares-squares.ensures.value at c.end_with-left_end.ensures.elsewhere)
+    (rw c.squares-squares.ensures.value at c.end_with-right_end.ensures.there) (rw c.squares-squares.ensures.value at c.end_with-right_end.ensures.elsewhere)
 
 pub loop-k-init : goal.loop-k-init
 loop-k-init c tiling =
@@ -70,9 +79,7 @@ overflow_sub-result c =
     rw c.squares-squares.ensures.value
     (left_low t tiling none c.args.i (right_of t c.args.last) c.loop-k.k c.loop-k.left_end c.loop-k.right_end c.end_with-left_end.result
     c.end_with-right_end.result (rw c.squares-squares.ensures.value at (c.loop-k.invariant tiling)) few
-    (next_ends t tiling c.args.i c.args.last c.loop-k.k c.loop-k.left_end c.loop-k.right_end c.end_with-left_end.result c.end_with-right_end.result
-    (rw c.squares-squares.ensures.value at c.end_with-left_end.ensures.there) (rw c.squares-squares.ensures.value at c.end_with-left_end.ensures.elsewhere)
-    (rw c.squares-squares.ensures.value at c.end_with-right_end.ensures.there) (rw c.squares-squares.ensures.value at c.end_with-right_end.ensures.elsewhere)))
+    (next (goal.at.overflow_sub-result c).After-end_with-right_end tiling))
 
 pub returns-then-right-left : goal.returns-then-right-left
 returns-then-right-left c high r part first ends =
@@ -81,9 +88,7 @@ returns-then-right-left c high r part first ends =
     let few : c.loop-k.k < length t.squares = rw c.squares-squares.ensures.value at c.loop-k-test.true in
     none_but_whole t tiling none c.args.i (right_of t c.args.last) c.loop-k.k c.loop-k.left_end c.loop-k.right_end
     c.end_with-left_end.result c.end_with-right_end.result (rw c.squares-squares.ensures.value at (c.loop-k.invariant tiling)) few
-    (next_ends t tiling c.args.i c.args.last c.loop-k.k c.loop-k.left_end c.loop-k.right_end c.end_with-left_end.result c.end_with-right_end.result
-    (rw c.squares-squares.ensures.value at c.end_with-left_end.ensures.there) (rw c.squares-squares.ensures.value at c.end_with-left_end.ensures.elsewhere)
-    (rw c.squares-squares.ensures.value at c.end_with-right_end.ensures.there) (rw c.squares-squares.ensures.value at c.end_with-right_end.ensures.elsewhere))
+    (next (goal.at.returns-then-right-left c).After-end_with-right_end tiling)
     c.if-left_end-right_end-2.true ((rw c.squares-squares.ensures.value at c.if-right-left.true) ∙ c.width.ensures.value)
     (eqb-true _ _ (rw c.squares-squares.ensures.value at high) ∙ c.height.ensures.value)
     r (record { part = part; first = first; ends = ends })
@@ -95,9 +100,7 @@ loop-k-preserved c tiling =
     rw c.squares-squares.ensures.value
     (walk_more t tiling none c.args.i (right_of t c.args.last) c.loop-k.k c.loop-k.left_end c.loop-k.right_end c.end_with-left_end.result
     c.end_with-right_end.result (rw c.squares-squares.ensures.value at (c.loop-k.invariant tiling)) few
-    (next_ends t tiling c.args.i c.args.last c.loop-k.k c.loop-k.left_end c.loop-k.right_end c.end_with-left_end.result c.end_with-right_end.result
-    (rw c.squares-squares.ensures.value at c.end_with-left_end.ensures.there) (rw c.squares-squares.ensures.value at c.end_with-left_end.ensures.elsewhere)
-    (rw c.squares-squares.ensures.value at c.end_with-right_end.ensures.there) (rw c.squares-squares.ensures.value at c.end_with-right_end.ensures.elsewhere))
+    (next (goal.at.loop-k-preserved c).After-end_with-right_end tiling)
     c.if-left_end-right_end-2.false)
 
 pub returns : goal.returns
@@ -115,50 +118,11 @@ offset_bounds-squares-i c = place_in_memory_fits c.args.tiling.now c.squares-squ
 pub bounds-squares-i : goal.bounds-squares-i
 bounds-squares-i c = rw c.squares-squares.ensures.value (before_few _ _ _ c.requires.places.0 c.requires.places.1)
 
-pub offset_bounds-squares-i-2 : goal.offset_bounds-squares-i-2
-offset_bounds-squares-i-2 c = place_in_memory_fits c.args.tiling.now c.squares-squares.ensures.kept c.args.i
-    (before_few _ _ _ c.requires.places.0 c.requires.places.1)
-
-pub bounds-squares-i-2 : goal.bounds-squares-i-2
-bounds-squares-i-2 c = rw c.squares-squares.ensures.value (before_few _ _ _ c.requires.places.0 c.requires.places.1)
-
-pub offset_bounds-squares-i-3 : goal.offset_bounds-squares-i-3
-offset_bounds-squares-i-3 c = place_in_memory_fits c.args.tiling.now c.squares-squares.ensures.kept c.args.i
-    (before_few _ _ _ c.requires.places.0 c.requires.places.1)
-
-pub bounds-squares-i-3 : goal.bounds-squares-i-3
-bounds-squares-i-3 c = rw c.squares-squares.ensures.value (before_few _ _ _ c.requires.places.0 c.requires.places.1)
-
-pub offset_bounds-squares-i-then-right-left : goal.offset_bounds-squares-i-then-right-left
-offset_bounds-squares-i-then-right-left c =
-    place_in_memory_fits c.args.tiling.now c.squares-squares.ensures.kept c.args.i (before_few _ _ _ c.requires.places.0 c.requires.places.1)
-
-pub bounds-squares-i-then-right-left : goal.bounds-squares-i-then-right-left
-bounds-squares-i-then-right-left c = rw c.squares-squares.ensures.value (before_few _ _ _ c.requires.places.0 c.requires.places.1)
-
 pub offset_bounds-squares-last : goal.offset_bounds-squares-last
 offset_bounds-squares-last c = place_in_memory_fits c.args.tiling.now c.squares-squares.ensures.kept c.args.last c.requires.places.1
 
 pub bounds-squares-last : goal.bounds-squares-last
 bounds-squares-last c = rw c.squares-squares.ensures.value c.requires.places.1
-
-pub offset_bounds-squares-last-2 : goal.offset_bounds-squares-last-2
-offset_bounds-squares-last-2 c = place_in_memory_fits c.args.tiling.now c.squares-squares.ensures.kept c.args.last c.requires.places.1
-
-pub bounds-squares-last-2 : goal.bounds-squares-last-2
-bounds-squares-last-2 c = rw c.squares-squares.ensures.value c.requires.places.1
-
-pub offset_bounds-squares-last-3 : goal.offset_bounds-squares-last-3
-offset_bounds-squares-last-3 c = place_in_memory_fits c.args.tiling.now c.squares-squares.ensures.kept c.args.last c.requires.places.1
-
-pub bounds-squares-last-3 : goal.bounds-squares-last-3
-bounds-squares-last-3 c = rw c.squares-squares.ensures.value c.requires.places.1
-
-pub offset_bounds-squares-last-4 : goal.offset_bounds-squares-last-4
-offset_bounds-squares-last-4 c = place_in_memory_fits c.args.tiling.now c.squares-squares.ensures.kept c.args.last c.requires.places.1
-
-pub bounds-squares-last-4 : goal.bounds-squares-last-4
-bounds-squares-last-4 c = rw c.squares-squares.ensures.value c.requires.places.1
 
 pub overflow_add-right : goal.overflow_add-right
 overflow_add-right c =

@@ -42,13 +42,6 @@ offset_bounds-squares-j c = place_in_memory_fits c.args.tiling.now c.squares-squ
 pub bounds-squares-j : goal.bounds-squares-j
 bounds-squares-j c = rw c.squares-squares.ensures.value (rw c.order-j-end.ensures.value at c.loop-j-test.true)
 
-pub offset_bounds-squares-j-in-loop-j : goal.offset_bounds-squares-j-in-loop-j
-offset_bounds-squares-j-in-loop-j c =
-    place_in_memory_fits c.args.tiling.now c.squares-squares.ensures.kept c.loop-j.j (rw c.order-j-end.ensures.value at c.loop-j-test.true)
-
-pub bounds-squares-j-in-loop-j : goal.bounds-squares-j-in-loop-j
-bounds-squares-j-in-loop-j c = rw c.squares-squares.ensures.value (rw c.order-j-end.ensures.value at c.loop-j-test.true)
-
 pub offset_bounds-squares-i : goal.offset_bounds-squares-i
 offset_bounds-squares-i c = place_in_memory_fits c.args.tiling.now c.squares-squares.ensures.kept c.args.i c.requires
 

@@ -4,17 +4,17 @@ use Rattle.bk_simple.proofs.Seams.{none_wider, run_more, run_start}
 use Rattle.bk_laws.proofs.FixedWidths.{number_below_fits}
 use Rattle.bk_simple.proofs.KeptEdges.{edges_of_kept_fit, end_from_column_fits, next_place_fits, place_in_memory_fits}
 use Rattle.bk_simple.proofs.right_end.Goals as goal
-use Rattle.bk_simple.proofs.right_end.Goals.{then-q-squares-via-else-q-squares+then-q-end, then-q-squares-via-then-q-squares}
+use Rattle.bk_simple.proofs.right_end.Goals.{then-q-first-via-else-q-first+then-q-end, then-q-first-via-then-q-first}
 
 abbrev none : Square
 none = record { x = 0; y = 0; s = 0 }
 
-pub returns-then-q-squares : goal.returns-then-q-squares
-returns-then-q-squares c =
+pub returns-then-q-first : goal.returns-then-q-first
+returns-then-q-first c =
     none_wider c.args.tiling.now c.squares-squares.ensures.kept.tiling c.args.i none c.loop-k.k c.loop-k.end c.loop-k.invariant
-    (λ few level begins. elim c.then-q-squares.branch [
-      | then-q-squares-via-then-q-squares w ↦ (rw c.squares-squares.ensures.value at w.if-q-squares.true) level
-      | then-q-squares-via-else-q-squares+then-q-end w ↦ (rw c.squares-squares.ensures.value at w.if-q-end.true) begins
+    (λ few level begins. elim c.then-q-first.branch [
+      | then-q-first-via-then-q-first w ↦ (rw c.squares-squares.ensures.value at w.if-q-first.true) level
+      | then-q-first-via-else-q-first+then-q-end w ↦ (rw c.squares-squares.ensures.value at w.if-q-end.true) begins
     ])
 
 pub returns : goal.returns
@@ -27,12 +27,6 @@ offset_bounds-squares-i c = place_in_memory_fits c.args.tiling.now c.squares-squ
 
 pub bounds-squares-i : goal.bounds-squares-i
 bounds-squares-i c = rw c.squares-squares.ensures.value c.requires
-
-pub offset_bounds-squares-i-2 : goal.offset_bounds-squares-i-2
-offset_bounds-squares-i-2 c = place_in_memory_fits c.args.tiling.now c.squares-squares.ensures.kept c.args.i c.requires
-
-pub bounds-squares-i-2 : goal.bounds-squares-i-2
-bounds-squares-i-2 c = rw c.squares-squares.ensures.value c.requires
 
 pub overflow_add-end : goal.overflow_add-end
 overflow_add-end c = rw c.squares-squares.ensures.value (number_below_fits
@@ -51,12 +45,6 @@ offset_bounds-squares-k c = place_in_memory_fits c.args.tiling.now c.squares-squ
 pub bounds-squares-k : goal.bounds-squares-k
 bounds-squares-k c = rw c.squares-squares.ensures.value (rw c.order-k-end.ensures.value at c.loop-k-test.true)
 
-pub offset_bounds-squares-i-in-loop-k : goal.offset_bounds-squares-i-in-loop-k
-offset_bounds-squares-i-in-loop-k c = place_in_memory_fits c.args.tiling.now c.squares-squares.ensures.kept c.args.i c.requires
-
-pub bounds-squares-i-in-loop-k : goal.bounds-squares-i-in-loop-k
-bounds-squares-i-in-loop-k c = rw c.squares-squares.ensures.value c.requires
-
 pub overflow_add-end-in-loop-k : goal.overflow_add-end-in-loop-k
 overflow_add-end-in-loop-k c =
     rw c.squares-squares.ensures.value (end_from_column_fits _ _ (rw c.squares-squares.ensures.value at c.if-q-end.false)
@@ -67,4 +55,4 @@ loop-k-preserved c =
     rw c.squares-squares.ensures.value
     (run_more c.args.tiling.now c.squares-squares.ensures.kept.tiling c.args.i none c.loop-k.k c.loop-k.end c.loop-k.invariant
     (rw c.order-k-end.ensures.value at c.loop-k-test.true)
-    (rw c.squares-squares.ensures.value at c.if-q-squares.false) (rw c.squares-squares.ensures.value at c.if-q-end.false))
+    (rw c.squares-squares.ensures.value at c.if-q-first.false) (rw c.squares-squares.ensures.value at c.if-q-end.false))

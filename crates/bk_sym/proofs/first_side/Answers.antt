@@ -14,18 +14,10 @@ returns-then-comes_first c =
     c.height-height.ensures.value
     (record {
       within = omega (arith, c.loop-q-test.true);
-      left = c.comes_first.ensures.left c.if-comes_first.true;
-      top = c.comes_first.ensures.top c.if-comes_first.true;
+      corner = c.comes_first.ensures c.if-comes_first.true;
     })
 
-pub comes_first-requires-clause-right : goal.comes_first-requires-clause-right
-comes_first-requires-clause-right c =
-    (within_by_numbers c.args.tiling.now c.squares-q-items.ensures.kept.tiling c.width-width.result c.height-height.result c.squares-q-items.result.now
-    c.width-width.ensures.value c.height-height.ensures.value
-    c.squares-q-items.ensures.value c.loop-q.q-index none c.loop-q-test.true).0
-
-pub comes_first-requires-clause-bottom : goal.comes_first-requires-clause-bottom
-comes_first-requires-clause-bottom c =
-    (within_by_numbers c.args.tiling.now c.squares-q-items.ensures.kept.tiling c.width-width.result c.height-height.result c.squares-q-items.result.now
-    c.width-width.ensures.value c.height-height.ensures.value
-    c.squares-q-items.ensures.value c.loop-q.q-index none c.loop-q-test.true).1
+pub comes_first-requires : goal.comes_first-requires
+comes_first-requires c =
+    within_by_numbers c.args.tiling.now c.squares-q-items.ensures.kept.tiling c.width-width.result c.height-height.result c.squares-q-items.result.now
+    c.width-width.ensures.value c.height-height.ensures.value c.squares-q-items.ensures.value c.loop-q.q-index none c.loop-q-test.true

@@ -17,7 +17,7 @@ use Rattle.bk_tiling.specs.Tiling.{IsOneOf, IsTiling, Tiling, covers}
 use Rattle.bk_tiling.specs.declared.Square.{Square}
 use Rattle.bk_tiling.specs.SquareGroups.{square_groups}
 use Rattle.bk_net.proofs.GroupSquares.{get_index, group_of, in_group, top_of}
-use Rattle.bk_net.proofs.NodeBelow.{below_from, place, stands_on}
+use Rattle.bk_net.proofs.NodeBelow.{below_from, has_node_below, stands_on}
 use Rattle.bk_net.specs.Diagram.{group_level, node_below}
 use Rattle.bk_word.specs.Play.{outline_of, parts}
 use Rattle.bk_word.specs.Word.{Word}
@@ -93,7 +93,7 @@ module _ (t : Tiling) (w : Word) (tiling : IsTiling t) (p : IsWordOf t w) where
               found : (s : Square) × IsOneOf s r.group × (covers q.x v.level s ≡ true) → node_below (square_groups t.squares) q ≡ r.place
               found (s, m, c) = nat_eq-same_if_counted (node_below (square_groups t.squares) q) r.place (omega (
                 arith,
-                (place t tiling q q_in).counts r.place (slice_get_within (square_groups t.squares) r.place r.group r.is),
+                (has_node_below t tiling q q_in).counts r.place (slice_get_within (square_groups t.squares) r.place r.group r.is),
                 ap (count_by (λ z. nat_eq z.y (q.y + q.s) && covers_column q.x z)) (get_index (square_groups t.squares) r.place r.group r.is),
                 one_counted (λ z. nat_eq z.y (q.y + q.s) && covers_column q.x z) r.group s m
                     (below_from q s (level_of ∙ sym b.0) (over_from q.x v.level s c).left (over_from q.x v.level s c).right),

@@ -10,7 +10,7 @@ use Rattle.bk_laws.proofs.TestsAsNumbers.{nat_eq-same_or_no_count}
 use Rattle.bk_tiling.specs.Tiling.{IsOneOf}
 use Rattle.bk_tiling.specs.declared.Square.{Square}
 use Rattle.bk_tiling.proofs.Groups.{row_of}
-use Rattle.bk_net.proofs.NodeBelow.{place}
+use Rattle.bk_net.proofs.NodeBelow.{has_node_below}
 use Rattle.bk_net.proofs.SmithLists.{group_wires}
 use Rattle.bk_lay.proofs.LaidRuns.{one_of}
 use Rattle.bk_lay.proofs.WordPlay.{NoneTwice, fewer}
@@ -167,7 +167,7 @@ wire_at below n (g ∷ groups) j q e = cases (get_either g (row_of groups) j q e
 pub span_within : (laid : List Square) (level x : ℕ) (numbers : List ℕ) (end m : ℕ) → Span laid level x numbers end → 0 < times m numbers
     → (q : Square) × IsNumbered laid m q × (q.y + q.s ≡ level) × (x ≤ q.x) × (q.x + q.s ≤ end)
 span_within laid level x [] end m span h = absurd (omega arith)
-span_within laid level x (n ∷ numbers) end m (q, at, place, bottom, rest) h =
+span_within laid level x (n ∷ numbers) end m (q, at, has_node_below, bottom, rest) h =
     cases (nat_eq-same_or_no_count m n) (span_within laid level (x + q.s) numbers end m rest)
   where
     order : (numbers : List ℕ) (x : ℕ) → Span laid level x numbers end → x ≤ end
@@ -177,5 +177,5 @@ span_within laid level x (n ∷ numbers) end m (q, at, place, bottom, rest) h =
     cases : (n ≡ m) ⊎ ◌≡◌ {A = ℕ} (cond (nat_eq m n) 1 0) 0
         → (0 < times m numbers → (r : Square) × IsNumbered laid m r × (r.y + r.s ≡ level) × (x + q.s ≤ r.x) × (r.x + r.s ≤ end))
         → (q : Square) × IsNumbered laid m q × (q.y + q.s ≡ level) × (x ≤ q.x) × (q.x + q.s ≤ end)
-    cases (inl e) more = (q, subst (λ (k : ℕ). IsNumbered laid k q) e at, bottom, omega (arith, place), omega (arith, place, order numbers (x + q.s) rest))
+    cases (inl e) more = (q, subst (λ (k : ℕ). IsNumbered laid k q) e at, bottom, omega (arith, has_node_below), omega (arith, has_node_below, order numbers (x + q.s) rest))
     cases (inr e) more = let r = more (omega (arith, e)) in (r.0, r.1, r.2, omega (arith, r.3), r.4)

@@ -1,19 +1,18 @@
 use Rattle.std.proofs.Common.{subst, sym, ℕ, ◌∙◌}
-use Rattle.std.proofs.lemmas.Result.{err_from_is_err_and}
 use Rattle.bk_ports.specs.Causes.{HasCause}
 use Rattle.bk_alike.specs.GroupsEnd.{closing_lines}
 use Rattle.bk_alike.specs.WrittenLines.{WritesLines}
 use Rattle.bk_alike.specs.declared.Wanted.{Wanted}
 use Rattle.bk_alike.proofs.LastLines.{groups_broken, groups_closed, pairs_closed, pairs_cut}
+use Rattle.bk_answer.proofs.Failing.{cause-of_error}
 use Rattle.bk_alike.proofs.closing.write_closing.Goals as goal
 
 pub returns-in_err-write_groups-in-Groups-clause-lines : goal.returns-in_err-write_groups-in-Groups-clause-lines
 returns-in_err-write_groups-in-Groups-clause-lines g c =
-    let p = err_from_is_err_and c.from_residual.result c.from_residual.ensures.1 in
     subst (λ (w : Wanted). WritesLines (closing_lines w c.args.list.now) (g.O.Sink.written c.args.out.now) (g.O.Sink.written c.write_groups.new.out)
     c.from_residual.result) (sym c.in-Groups.is)
-    (groups_broken c.args.list.now c.items-items.result.now (g.O.Sink.written c.args.out.now) (g.O.Sink.written c.write_groups.new.out)
-    c.from_residual.result p.0 c.items-items.ensures p.1 c.in_err-write_groups-in-Groups.ensures.lines)
+    (groups_broken _ c.args.list.now c.items-items.result.now (g.O.Sink.written c.args.out.now) (g.O.Sink.written c.write_groups.new.out)
+    c.from_residual.result c.from_residual.ensures.1 c.items-items.ensures c.in_err-write_groups-in-Groups.ensures.lines)
 
 pub returns-in_ok-write_groups-in-Groups-clause-lines : goal.returns-in_ok-write_groups-in-Groups-clause-lines
 returns-in_ok-write_groups-in-Groups-clause-lines g c =
@@ -26,11 +25,10 @@ returns-in_ok-write_groups-in-Groups-clause-lines g c =
 
 pub returns-in_err-pairs-in-Pairs-clause-lines : goal.returns-in_err-pairs-in-Pairs-clause-lines
 returns-in_err-pairs-in-Pairs-clause-lines g c =
-    let p = err_from_is_err_and c.from_residual-in_err-pairs-in-Pairs.result c.from_residual-in_err-pairs-in-Pairs.ensures.1 in
     subst (λ (w : Wanted). WritesLines (closing_lines w c.args.list.now) (g.O.Sink.written c.args.out.now) (g.O.Sink.written c.write_all_pairs.new.out)
     c.from_residual-in_err-pairs-in-Pairs.result) (sym c.in-Pairs.is)
-    (pairs_cut c.in-Pairs.kind c.args.list.now c.items-items.result.now (g.O.Sink.written c.args.out.now) (g.O.Sink.written c.write_all_pairs.new.out)
-    c.from_residual-in_err-pairs-in-Pairs.result p.0 c.items-items.ensures p.1 c.in_err-pairs-in-Pairs.ensures.lines)
+    (pairs_cut _ c.in-Pairs.kind c.args.list.now c.items-items.result.now (g.O.Sink.written c.args.out.now) (g.O.Sink.written c.write_all_pairs.new.out)
+    c.from_residual-in_err-pairs-in-Pairs.result c.from_residual-in_err-pairs-in-Pairs.ensures.1 c.items-items.ensures c.in_err-pairs-in-Pairs.ensures.lines)
 
 pub returns-in_ok-pairs-in-Pairs-clause-lines : goal.returns-in_ok-pairs-in-Pairs-clause-lines
 returns-in_ok-pairs-in-Pairs-clause-lines g c =
@@ -45,13 +43,11 @@ returns-in_ok-pairs-in-Pairs-clause-lines g c =
 
 pub returns-in_err-write_groups-in-Groups-clause-cause : goal.returns-in_err-write_groups-in-Groups-clause-cause
 returns-in_err-write_groups-in-Groups-clause-cause g c =
-    let p = err_from_is_err_and c.from_residual.result c.from_residual.ensures.1 in
-    rw p.1 (record { later = c.in_err-write_groups-in-Groups.ensures.cause.later; ok = tt; failed = c.in_err-write_groups-in-Groups.ensures.cause.failed })
+    cause-of_error _ c.from_residual.result c.from_residual.ensures.1 c.in_err-write_groups-in-Groups.ensures.cause
 
 pub returns-in_err-pairs-in-Pairs-clause-cause : goal.returns-in_err-pairs-in-Pairs-clause-cause
 returns-in_err-pairs-in-Pairs-clause-cause g c =
-    let p = err_from_is_err_and c.from_residual-in_err-pairs-in-Pairs.result c.from_residual-in_err-pairs-in-Pairs.ensures.1 in
-    rw p.1 (record { later = c.in_err-pairs-in-Pairs.ensures.cause.later; ok = tt; failed = c.in_err-pairs-in-Pairs.ensures.cause.failed })
+    cause-of_error _ c.from_residual-in_err-pairs-in-Pairs.result c.from_residual-in_err-pairs-in-Pairs.ensures.1 c.in_err-pairs-in-Pairs.ensures.cause
 
 pub returns-in_ok-write_groups-in-Groups-clause-cause : goal.returns-in_ok-write_groups-in-Groups-clause-cause
 returns-in_ok-write_groups-in-Groups-clause-cause g c =

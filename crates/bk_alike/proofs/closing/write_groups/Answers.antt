@@ -1,23 +1,21 @@
 use Rattle.std.specs.List.{flat_map}
-use Rattle.std.proofs.Common.{arith, le_of_eq, refl, subst, sym, ℕ, ◌<◌, ◌∙◌}
-use Rattle.std.proofs.lemmas.Result.{err_from_is_err_and}
+use Rattle.std.proofs.Common.{arith, refl, subst, ℕ, ◌<◌, ◌∙◌}
 use Rattle.std.proofs.lemmas.List.{at_drop_all}
 use Rattle.std.specs.Prelude.{drop}
 use Rattle.bk_alike.specs.Alike.{sizes}
-use Rattle.bk_answer.proofs.PieceByPiece.{failed_later}
 use Rattle.bk_alike.specs.GroupsEnd.{group_lines}
 use Rattle.bk_alike.proofs.ListLoops.{ends_broken, loop_broken, loop_more}
 use Rattle.bk_alike.proofs.GroupMembers.{length-groups, size_within}
 use Rattle.bk_alike.proofs.WrittenLines.{item_at, written_all, written_none}
+use Rattle.bk_answer.proofs.Failing.{cause-of_error_later, cause-of_same}
 use Rattle.bk_alike.proofs.closing.write_groups.Goals as goal
 
 pub returns-in_err-write_one_group-clause-lines : goal.returns-in_err-write_one_group-clause-lines
 returns-in_err-write_one_group-clause-lines g c =
-    let p = err_from_is_err_and c.from_residual.result c.from_residual.ensures.1 in
     let below = size_within c.args.items.now c.loop-g.g (subst (λ (n : ℕ). c.loop-g.g < n) c.groups-g-end.ensures c.loop-g-test.true) in
     let at = item_at (sizes c.args.items.now) c.loop-g.g below in
-    ends_broken (flat_map (group_lines c.args.items.now) (sizes c.args.items.now)) (g.O.Sink.written c.args.out.now)
-    (g.O.Sink.written c.write_one_group.new.out) c.from_residual.result p.0 p.1
+    ends_broken _ (flat_map (group_lines c.args.items.now) (sizes c.args.items.now)) (g.O.Sink.written c.args.out.now)
+    (g.O.Sink.written c.write_one_group.new.out) c.from_residual.result c.from_residual.ensures.1
     (loop_broken (group_lines c.args.items.now) (flat_map (group_lines c.args.items.now) (sizes c.args.items.now)) (sizes c.args.items.now) c.loop-g.g
     at.item (g.O.Sink.written c.args.out.now) (g.O.Sink.written c.loop-g.out) (g.O.Sink.written c.write_one_group.new.out)
     below at.here c.loop-g.invariant.written (c.in_err-write_one_group.ensures.lines at.item at.here))
@@ -42,10 +40,7 @@ write_one_group-requires g c = size_within c.args.items.now c.loop-g.g (subst (�
 
 pub returns-in_err-write_one_group-clause-cause : goal.returns-in_err-write_one_group-clause-cause
 returns-in_err-write_one_group-clause-cause g c =
-    let p = err_from_is_err_and c.from_residual.result c.from_residual.ensures.1 in
-    rw p.1
-    (failed_later (g.O.Sink.faults c.args.out.now) (g.O.Sink.faults c.loop-g.out) (g.O.Sink.faults c.write_one_group.new.out) _ _
-    c.loop-g.invariant.same c.in_err-write_one_group.ensures.cause)
+    cause-of_error_later _ c.from_residual.result c.from_residual.ensures.1 c.loop-g.invariant.same c.in_err-write_one_group.ensures.cause
 
 pub returns-clause-lines : goal.returns-clause-lines
 returns-clause-lines g c =
@@ -55,4 +50,4 @@ returns-clause-lines g c =
     (omega (arith, c.loop-g-test.false, c.groups-g-end.ensures, length-groups c.args.items.now (sizes c.args.items.now))))
 
 pub returns-clause-cause : goal.returns-clause-cause
-returns-clause-cause g c = record { later = le_of_eq (sym c.loop-g.invariant.same); ok = c.loop-g.invariant.same; failed = tt }
+returns-clause-cause g c = cause-of_same c.loop-g.invariant.same

@@ -1,21 +1,19 @@
 use Rattle.std.specs.List.{flat_map}
-use Rattle.std.proofs.Common.{ap, le_of_eq, length, refl, sym, ◌<◌, ◌∙◌}
-use Rattle.std.proofs.lemmas.Result.{err_from_is_err_and}
+use Rattle.std.proofs.Common.{ap, length, refl, ◌<◌, ◌∙◌}
 use Rattle.std.proofs.lemmas.List.{at_drop_all}
 use Rattle.std.specs.Prelude.{drop}
 use Rattle.std.proofs.lemmas.List.Elements.{All-from_recursion}
 use Rattle.bk_report.specs.ListLines.{member_line}
-use Rattle.bk_answer.proofs.PieceByPiece.{failed_later}
 use Rattle.bk_alike.specs.GroupsEnd.{member_at}
 use Rattle.bk_alike.proofs.ListLoops.{ends_broken, members_broken, members_more}
 use Rattle.bk_alike.proofs.WrittenLines.{written_all, written_none}
+use Rattle.bk_answer.proofs.Failing.{cause-of_error_later, cause-of_same}
 use Rattle.bk_alike.proofs.closing.write_members.Goals as goal
 
 pub returns-in_err-write_all-clause-lines : goal.returns-in_err-write_all-clause-lines
 returns-in_err-write_all-clause-lines g c =
-    let p = err_from_is_err_and c.from_residual.result c.from_residual.ensures.1 in
-    ends_broken (flat_map (member_at c.args.items.now) c.args.places.now) (g.O.Sink.written c.args.out.now) (g.O.Sink.written c.write_all.new.self)
-    c.from_residual.result p.0 p.1
+    ends_broken _ (flat_map (member_at c.args.items.now) c.args.places.now) (g.O.Sink.written c.args.out.now) (g.O.Sink.written c.write_all.new.self)
+    c.from_residual.result c.from_residual.ensures.1
     (members_broken c.args.items.now c.args.places.now c.loop-place.place-index 0 c.item-line.result.0 c.item-line.result.1.now c.as_slice.result.now
     c.loop-place-test.true c.item-line.ensures
     (c.as_slice.ensures.value ∙ c.write_member.ensures ∙ ap (member_line c.item-line.result.0) c.tiling.ensures)
@@ -44,10 +42,7 @@ item-line-requires g c =
 
 pub returns-in_err-write_all-clause-cause : goal.returns-in_err-write_all-clause-cause
 returns-in_err-write_all-clause-cause g c =
-    let p = err_from_is_err_and c.from_residual.result c.from_residual.ensures.1 in
-    rw p.1
-    (failed_later (g.O.Sink.faults c.args.out.now) (g.O.Sink.faults c.loop-place.out) (g.O.Sink.faults c.write_all.new.self) _ _
-    c.loop-place.invariant.same c.in_err-write_all.ensures.cause)
+    cause-of_error_later _ c.from_residual.result c.from_residual.ensures.1 c.loop-place.invariant.same c.in_err-write_all.ensures.cause
 
 pub returns-clause-lines : goal.returns-clause-lines
 returns-clause-lines g c =
@@ -56,4 +51,4 @@ returns-clause-lines g c =
     (at_drop_all (flat_map (member_at c.args.items.now)) c.args.places.now c.loop-place.place-index c.loop-place-test.false)
 
 pub returns-clause-cause : goal.returns-clause-cause
-returns-clause-cause g c = record { later = le_of_eq (sym c.loop-place.invariant.same); ok = c.loop-place.invariant.same; failed = tt }
+returns-clause-cause g c = cause-of_same c.loop-place.invariant.same

@@ -1,6 +1,5 @@
 use Rattle.std.specs.List.{concat, flat_map}
 use Rattle.std.proofs.Common.{List, arith, length, subst, sym, ℕ, ◌∙◌}
-use Rattle.std.proofs.lemmas.Result.{err_from_is_err_and}
 use Rattle.bk_ports.specs.Causes.{AppendsPrefix, HasCause}
 use Rattle.bk_report.specs.ListLines.{group_line}
 use Rattle.bk_alike.specs.Alike.{sizes}
@@ -8,14 +7,15 @@ use Rattle.bk_alike.specs.GroupsEnd.{group_lines, member_at}
 use Rattle.bk_alike.specs.WrittenLines.{WritesLines}
 use Rattle.bk_alike.proofs.ListLoops.{ends_broken, first_broken, first_then}
 use Rattle.bk_alike.proofs.GroupMembers.{length-groups, lines_of_group, places_below}
+use Rattle.bk_answer.proofs.Failing.{cause-of_error}
 use Rattle.bk_alike.proofs.closing.write_one_group.Goals as goal
 
 pub returns-in_err-write_all-clause-lines : goal.returns-in_err-write_all-clause-lines
 returns-in_err-write_all-clause-lines g c a e =
-    let p = err_from_is_err_and c.from_residual.result c.from_residual.ensures.1 in
     let b = c.size-width.result in
     let members = c.members-members.result.now in
-    ends_broken (group_lines c.args.items.now a) (g.O.Sink.written c.args.out.now) (g.O.Sink.written c.write_all.new.self) c.from_residual.result p.0 p.1
+    ends_broken _ (group_lines c.args.items.now a) (g.O.Sink.written c.args.out.now) (g.O.Sink.written c.write_all.new.self)
+    c.from_residual.result c.from_residual.ensures.1
     (subst (λ (l : List (List ℕ)). AppendsPrefix (g.O.Sink.written c.args.out.now) (g.O.Sink.written c.write_all.new.self) (concat l))
     (sym (lines_of_group c.args.items.now c.args.g a b members c.size-width.ensures c.members-members.ensures e))
     (first_broken (group_line b.0 b.1 (length members)) c.as_slice.result.now (flat_map (member_at c.args.items.now) members)
@@ -44,8 +44,7 @@ members-members-requires g c = omega (arith, c.requires, length-groups c.args.it
 
 pub returns-in_err-write_all-clause-cause : goal.returns-in_err-write_all-clause-cause
 returns-in_err-write_all-clause-cause g c =
-    let p = err_from_is_err_and c.from_residual.result c.from_residual.ensures.1 in
-    rw p.1 (record { later = c.in_err-write_all.ensures.cause.later; ok = tt; failed = c.in_err-write_all.ensures.cause.failed })
+    cause-of_error _ c.from_residual.result c.from_residual.ensures.1 c.in_err-write_all.ensures.cause
 
 pub returns-clause-cause : goal.returns-clause-cause
 returns-clause-cause g c =

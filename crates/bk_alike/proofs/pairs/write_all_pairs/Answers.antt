@@ -1,19 +1,18 @@
-use Rattle.std.proofs.Common.{arith, le_of_eq, length, refl, sym, ◌∙◌}
-use Rattle.std.proofs.lemmas.Result.{err_from_is_err_and}
+use Rattle.std.proofs.Common.{arith, length, refl, ◌∙◌}
 use Rattle.std.proofs.lemmas.List.{at_drop_all}
 use Rattle.std.specs.Prelude.{drop}
-use Rattle.bk_answer.proofs.PieceByPiece.{failed_later}
 use Rattle.bk_alike.specs.Pairs.{all_pairs}
 use Rattle.bk_alike.proofs.PairLoops.{count_more, few_so_far, pairs_broken, pairs_more}
 use Rattle.bk_alike.proofs.ListLoops.{ends_broken}
 use Rattle.bk_alike.proofs.WrittenLines.{written_all, written_none}
+use Rattle.bk_laws.proofs.Outcomes.{if_ok-of_error}
+use Rattle.bk_answer.proofs.Failing.{cause-of_error_later, cause-of_same}
 use Rattle.bk_alike.proofs.pairs.write_all_pairs.Goals as goal
 
 pub returns-in_err-more-clause-lines : goal.returns-in_err-more-clause-lines
 returns-in_err-more-clause-lines g c =
-    let p = err_from_is_err_and c.from_residual.result c.from_residual.ensures.1 in
-    ends_broken (all_pairs c.args.kind c.args.items.now) (g.O.Sink.written c.args.out.now) (g.O.Sink.written c.write_pairs_with.new.out)
-    c.from_residual.result p.0 p.1
+    ends_broken _ (all_pairs c.args.kind c.args.items.now) (g.O.Sink.written c.args.out.now) (g.O.Sink.written c.write_pairs_with.new.out)
+    c.from_residual.result c.from_residual.ensures.1
     (pairs_broken c.args.kind c.args.items.now c.loop-i.i (g.O.Sink.written c.args.out.now) (g.O.Sink.written c.loop-i.out)
     (g.O.Sink.written c.write_pairs_with.new.out)
     (omega (arith, c.loop-i-test.true, c.len-i-end.ensures.value)) c.loop-i.invariant.written c.in_err-more.ensures.lines)
@@ -46,15 +45,11 @@ write_pairs_with-requires g c = omega (arith, c.loop-i-test.true, c.len-i-end.en
 
 pub returns-in_err-more-clause-count : goal.returns-in_err-more-clause-count
 returns-in_err-more-clause-count g c =
-    let p = err_from_is_err_and c.from_residual.result c.from_residual.ensures.1 in
-    rw p.1 tt
+    if_ok-of_error _ c.from_residual.result _ c.from_residual.ensures.1
 
 pub returns-in_err-more-clause-cause : goal.returns-in_err-more-clause-cause
 returns-in_err-more-clause-cause g c =
-    let p = err_from_is_err_and c.from_residual.result c.from_residual.ensures.1 in
-    rw p.1
-    (failed_later (g.O.Sink.faults c.args.out.now) (g.O.Sink.faults c.loop-i.out) (g.O.Sink.faults c.write_pairs_with.new.out) _ _
-    c.loop-i.invariant.same c.in_err-more.ensures.cause)
+    cause-of_error_later _ c.from_residual.result c.from_residual.ensures.1 c.loop-i.invariant.same c.in_err-more.ensures.cause
 
 pub returns-clause-lines : goal.returns-clause-lines
 returns-clause-lines g c =
@@ -68,4 +63,4 @@ returns-clause-count g c =
     omega (arith, c.loop-i.invariant.count, none)
 
 pub returns-clause-cause : goal.returns-clause-cause
-returns-clause-cause g c = record { later = le_of_eq (sym c.loop-i.invariant.same); ok = c.loop-i.invariant.same; failed = tt }
+returns-clause-cause g c = cause-of_same c.loop-i.invariant.same

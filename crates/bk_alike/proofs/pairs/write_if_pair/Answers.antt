@@ -1,7 +1,6 @@
-use Rattle.std.proofs.Common.{Bool, List, [], ap, false, le_of_eq, length, refl, subst, sym, true, ℕ, ◌<◌, ◌∙◌, ◌∷◌, ◌≡◌}
+use Rattle.std.proofs.Common.{Bool, List, [], ap, false, length, refl, subst, sym, true, ℕ, ◌<◌, ◌∙◌, ◌∷◌, ◌≡◌}
 use Rattle.std.specs.Prelude.{Some, cond, slice_get}
 use Rattle.std.specs.Io.KnownBytes.{Appends}
-use Rattle.std.proofs.lemmas.Result.{err_from_is_err_and}
 use Rattle.std.specs.List.{concat}
 use Rattle.bk_ports.specs.Causes.{AppendsPrefix}
 use Rattle.bk_pair.specs.declared.Kind.{Kind}
@@ -17,6 +16,8 @@ use Rattle.bk_alike.proofs.LaterPairs.{line_behind, no_line_before}
 use Rattle.bk_alike.proofs.ListLoops.{ends_broken}
 use Rattle.bk_alike.proofs.PairLines.{IsItemAt, line_at, tiling_at}
 use Rattle.bk_alike.proofs.WrittenLines.{written_all, written_none}
+use Rattle.bk_laws.proofs.Outcomes.{if_ok-of_error}
+use Rattle.bk_answer.proofs.Failing.{cause-of_error, cause-of_same}
 use Rattle.bk_alike.proofs.pairs.write_if_pair.Goals as goal
 
 -- the lines of an item with one behind it, by whether their tilings are a pair
@@ -39,7 +40,7 @@ returns-then-j-i-clause-count g c a e =
     sym (ap (λ (l : List (List ℕ)). length l) (no_line_before c.args.kind c.args.items.now c.args.i c.args.j a c.if-j-i.true))
 
 pub returns-then-j-i-clause-cause : goal.returns-then-j-i-clause-cause
-returns-then-j-i-clause-cause g c = record { later = le_of_eq refl; ok = refl; failed = tt }
+returns-then-j-i-clause-cause g c = cause-of_same refl
 
 pub item-first-requires : goal.item-first-requires
 item-first-requires g c = c.requires.first
@@ -60,13 +61,12 @@ returns-then-not-is_pair-clause-count g c a e =
     (sym c.if-not-is_pair.true ∙ c.is_pair.ensures) a e))
 
 pub returns-then-not-is_pair-clause-cause : goal.returns-then-not-is_pair-clause-cause
-returns-then-not-is_pair-clause-cause g c = record { later = le_of_eq refl; ok = refl; failed = tt }
+returns-then-not-is_pair-clause-cause g c = cause-of_same refl
 
 pub returns-in_err-write_square-clause-lines : goal.returns-in_err-write_square-clause-lines
 returns-in_err-write_square-clause-lines g c a e =
-    let p = err_from_is_err_and c.from_residual.result c.from_residual.ensures.1 in
-    ends_broken (later_lines c.args.kind c.args.items.now c.args.i a c.args.j) (g.O.Sink.written c.args.out.now) (g.O.Sink.written c.write_square.new.out)
-    c.from_residual.result p.0 p.1
+    ends_broken _ (later_lines c.args.kind c.args.items.now c.args.i a c.args.j) (g.O.Sink.written c.args.out.now) (g.O.Sink.written c.write_square.new.out)
+    c.from_residual.result c.from_residual.ensures.1
     (subst (λ (l : List (List ℕ)). AppendsPrefix (g.O.Sink.written c.args.out.now) (g.O.Sink.written c.write_square.new.out) (concat l))
     (sym (lines_by true c.args.kind c.args.items.now c.args.i c.args.j c.item-first.result.0 c.item-second.result.0
     c.item-first.result.1.now c.item-second.result.1.now c.if-j-i.false c.item-first.ensures c.item-second.ensures
@@ -74,18 +74,15 @@ returns-in_err-write_square-clause-lines g c a e =
 
 pub returns-in_err-write_square-clause-count : goal.returns-in_err-write_square-clause-count
 returns-in_err-write_square-clause-count g c =
-    let p = err_from_is_err_and c.from_residual.result c.from_residual.ensures.1 in
-    rw p.1 tt
+    if_ok-of_error _ c.from_residual.result _ c.from_residual.ensures.1
 
 pub returns-in_err-write_square-clause-few : goal.returns-in_err-write_square-clause-few
 returns-in_err-write_square-clause-few g c =
-    let p = err_from_is_err_and c.from_residual.result c.from_residual.ensures.1 in
-    rw p.1 tt
+    if_ok-of_error _ c.from_residual.result _ c.from_residual.ensures.1
 
 pub returns-in_err-write_square-clause-cause : goal.returns-in_err-write_square-clause-cause
 returns-in_err-write_square-clause-cause g c =
-    let p = err_from_is_err_and c.from_residual.result c.from_residual.ensures.1 in
-    rw p.1 (record { later = c.in_err-write_square.ensures.cause.later; ok = tt; failed = c.in_err-write_square.ensures.cause.failed })
+    cause-of_error _ c.from_residual.result c.from_residual.ensures.1 c.in_err-write_square.ensures.cause
 
 pub returns-clause-lines : goal.returns-clause-lines
 returns-clause-lines g c a e =
@@ -102,7 +99,7 @@ returns-clause-count g c a e =
 
 pub returns-clause-cause : goal.returns-clause-cause
 returns-clause-cause g c =
-    record { later = c.in_ok-write_square.ensures.cause.later; ok = c.in_ok-write_square.ensures.cause.ok; failed = tt }
+    cause-of_same c.in_ok-write_square.ensures.cause.ok
 
 -- a pair can be laid
 laid_of : (kind : Kind) (a b : Tiling) → is_pair kind a b ≡ true → CanBeLaid a b

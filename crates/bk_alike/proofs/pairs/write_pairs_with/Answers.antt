@@ -1,16 +1,16 @@
 use Rattle.std.specs.Prelude.{drop}
-use Rattle.std.proofs.Common.{List, ap, arith, get_or, le_of_eq, length, refl, sym, ℕ, ◌+◌, ◌∙◌}
+use Rattle.std.proofs.Common.{List, ap, arith, get_or, length, refl, ℕ, ◌+◌, ◌∙◌}
 use Rattle.std.proofs.lemmas.Option.{slice_get-get_or}
-use Rattle.std.proofs.lemmas.Result.{err_from_is_err_and}
 use Rattle.std.proofs.lemmas.List.{at_drop_all}
 use Rattle.std.specs.List.{flat_map}
-use Rattle.bk_answer.proofs.PieceByPiece.{failed_later}
 use Rattle.bk_alike.specs.LaterLines.{later_lines}
 use Rattle.bk_alike.specs.Pairs.{pair_lines}
 use Rattle.bk_alike.proofs.GroupMembers.{place_below}
 use Rattle.bk_alike.proofs.LaterPairs.{pairs_looked_up}
 use Rattle.bk_alike.proofs.ListLoops.{count_next, ends_broken, loop_broken, loop_more}
 use Rattle.bk_alike.proofs.WrittenLines.{written_all, written_from}
+use Rattle.bk_laws.proofs.Outcomes.{if_ok-of_error}
+use Rattle.bk_answer.proofs.Failing.{cause-of_error_later, cause-of_same}
 use Rattle.bk_alike.proofs.pairs.write_pairs_with.Goals as goal
 
 pub loop-place-init : goal.loop-place-init
@@ -31,12 +31,11 @@ write_if_pair-requires-clause-second g c =
 
 pub returns-in_err-more-clause-lines : goal.returns-in_err-more-clause-lines
 returns-in_err-more-clause-lines g c a e =
-    let p = err_from_is_err_and c.from_residual.result c.from_residual.ensures.1 in
     let lines : ℕ → List (List ℕ) = later_lines c.args.kind c.args.items.now c.args.i a in
     let all : List (List ℕ) = flat_map (pair_lines c.args.kind a) (drop (c.args.i + 1) c.args.items.now) in
     let places = c.of_size-places.result.now in
     let k = c.loop-place.place-index in
-    ends_broken all (g.O.Sink.written c.args.out.now) (g.O.Sink.written c.write_if_pair.new.out) c.from_residual.result p.0 p.1
+    ends_broken _ all (g.O.Sink.written c.args.out.now) (g.O.Sink.written c.write_if_pair.new.out) c.from_residual.result c.from_residual.ensures.1
     (loop_broken lines all places k (get_or places k 0) (g.O.Sink.written c.args.out.now) (g.O.Sink.written c.loop-place.out)
     (g.O.Sink.written c.write_if_pair.new.out)
     c.loop-place-test.true (slice_get-get_or places k 0 c.loop-place-test.true) (c.loop-place.invariant.written a e) (c.in_err-more.ensures.lines a e))
@@ -68,15 +67,11 @@ write_if_pair-requires-clause-first g c = c.requires
 
 pub returns-in_err-more-clause-count : goal.returns-in_err-more-clause-count
 returns-in_err-more-clause-count g c =
-    let p = err_from_is_err_and c.from_residual.result c.from_residual.ensures.1 in
-    rw p.1 tt
+    if_ok-of_error _ c.from_residual.result _ c.from_residual.ensures.1
 
 pub returns-in_err-more-clause-cause : goal.returns-in_err-more-clause-cause
 returns-in_err-more-clause-cause g c =
-    let p = err_from_is_err_and c.from_residual.result c.from_residual.ensures.1 in
-    rw p.1
-    (failed_later (g.O.Sink.faults c.args.out.now) (g.O.Sink.faults c.loop-place.out) (g.O.Sink.faults c.write_if_pair.new.out) _ _
-    c.loop-place.invariant.same c.in_err-more.ensures.cause)
+    cause-of_error_later _ c.from_residual.result c.from_residual.ensures.1 c.loop-place.invariant.same c.in_err-more.ensures.cause
 
 pub returns-clause-lines : goal.returns-clause-lines
 returns-clause-lines g c a e =
@@ -92,4 +87,4 @@ returns-clause-count g c a e =
     omega (arith, c.loop-place.invariant.count a e, none)
 
 pub returns-clause-cause : goal.returns-clause-cause
-returns-clause-cause g c = record { later = le_of_eq (sym c.loop-place.invariant.same); ok = c.loop-place.invariant.same; failed = tt }
+returns-clause-cause g c = cause-of_same c.loop-place.invariant.same

@@ -1,9 +1,10 @@
 use Rattle.std.proofs.Common.{List, [], arith, subst, sym, ℕ, ◌+◌, ◌++◌, ◌<◌, ◌∙◌, ◌∷◌, ◌≤◌}
 use Rattle.std.proofs.lemmas.List.FromFn.{get_or-map-range_with_len, length-map-range_with_len}
-use Rattle.std.proofs.lemmas.Result.{err_from_is_err_and}
 use Rattle.bk_tiling.specs.Tiling.{Tiling}
 use Rattle.bk_draw.specs.Drawing.{drawing_row}
-use Rattle.bk_answer.proofs.PieceByPiece.{failed_later, written_all, written_more, written_part}
+use Rattle.bk_answer.proofs.PieceByPiece.{written_all, written_more, written_part}
+use Rattle.bk_answer.proofs.Failing.{cause-of_error_later}
+use Rattle.bk_laws.proofs.Outcomes.{on_err-intro}
 use Rattle.bk_answer.proofs.images_and_drawing.write_drawing.Goals as goal
 use Rattle.bk_answer.specs.Telling.{drawing_lines}
 
@@ -12,8 +13,7 @@ row_line t y = drawing_row t y ++ 10 ∷ []
 
 pub returns-in_err-write_all-clause-failed : goal.returns-in_err-write_all-clause-failed
 returns-in_err-write_all-clause-failed g c =
-    let p = err_from_is_err_and c.from_residual.result c.from_residual.ensures.1 in
-    rw p.1
+    on_err-intro c.from_residual.result
     (written_part (drawing_lines c.args.tiling.now) c.loop-y.y c.as_slice.result.now
     (g.O.Sink.written c.args.out.now) (g.O.Sink.written c.loop-y.out) (g.O.Sink.written c.write_all.new.self)
     (subst (λ (n : ℕ). c.loop-y.y < n) (sym (length-map-range_with_len (row_line c.args.tiling.now) 0 (c.args.tiling.now.height + 1)))
@@ -25,10 +25,7 @@ returns-in_err-write_all-clause-failed g c =
 
 pub returns-in_err-write_all-clause-cause : goal.returns-in_err-write_all-clause-cause
 returns-in_err-write_all-clause-cause g c =
-    let p = err_from_is_err_and c.from_residual.result c.from_residual.ensures.1 in
-    rw p.1
-    (failed_later (g.O.Sink.faults c.args.out.now) (g.O.Sink.faults c.loop-y.out) (g.O.Sink.faults c.write_all.new.self) _ _
-    c.loop-y.invariant.1 c.in_err-write_all.ensures.cause)
+    cause-of_error_later _ c.from_residual.result c.from_residual.ensures.1 c.loop-y.invariant.1 c.in_err-write_all.ensures.cause
 
 pub loop-y-preserved : goal.loop-y-preserved
 loop-y-preserved g c = (

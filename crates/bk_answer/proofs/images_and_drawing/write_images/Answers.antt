@@ -1,19 +1,19 @@
 use Rattle.std.proofs.Common.{[], ap, sym, ◌∙◌}
 use Rattle.std.proofs.lemmas.List.{get_or-map}
-use Rattle.std.proofs.lemmas.Result.{err_from_is_err_and}
 use Rattle.bk_sym.specs.Image.{image}
 use Rattle.bk_sym.specs.Turns.{turns}
 use Rattle.bk_sym.specs.declared.Turn.{Turn}
 use Rattle.bk_sym.specs.declared.Turn.TheVariants.{Same}
 use Rattle.bk_report.specs.Answers.{tiling_line}
-use Rattle.bk_answer.proofs.PieceByPiece.{failed_later, written_all, written_more, written_part}
+use Rattle.bk_answer.proofs.PieceByPiece.{written_all, written_more, written_part}
+use Rattle.bk_answer.proofs.Failing.{cause-of_error_later}
+use Rattle.bk_laws.proofs.Outcomes.{on_err-intro}
 use Rattle.bk_answer.proofs.images_and_drawing.write_images.Goals as goal
 use Rattle.bk_answer.specs.Telling.{image_lines}
 
 pub returns-in_err-write_all-clause-failed : goal.returns-in_err-write_all-clause-failed
 returns-in_err-write_all-clause-failed g c =
-    let p = err_from_is_err_and c.from_residual.result c.from_residual.ensures.1 in
-    rw p.1
+    on_err-intro c.from_residual.result
     (written_part (image_lines c.args.tiling.now) c.loop-which.which-index c.as_slice.result.now
     (g.O.Sink.written c.args.out.now) (g.O.Sink.written c.loop-which.out) (g.O.Sink.written c.write_all.new.self)
     c.loop-which-test.true
@@ -23,10 +23,7 @@ returns-in_err-write_all-clause-failed g c =
 
 pub returns-in_err-write_all-clause-cause : goal.returns-in_err-write_all-clause-cause
 returns-in_err-write_all-clause-cause g c =
-    let p = err_from_is_err_and c.from_residual.result c.from_residual.ensures.1 in
-    rw p.1
-    (failed_later (g.O.Sink.faults c.args.out.now) (g.O.Sink.faults c.loop-which.out) (g.O.Sink.faults c.write_all.new.self) _ _
-    c.loop-which.invariant.1 c.in_err-write_all.ensures.cause)
+    cause-of_error_later _ c.from_residual.result c.from_residual.ensures.1 c.loop-which.invariant.1 c.in_err-write_all.ensures.cause
 
 pub loop-which-preserved : goal.loop-which-preserved
 loop-which-preserved g c = (

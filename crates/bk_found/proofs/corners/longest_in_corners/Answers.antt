@@ -1,12 +1,12 @@
 use Rattle.std.specs.Int.{w64}
 use Rattle.std.specs.Prelude.{nat_abs, pos}
-use Rattle.std.proofs.Common.{ap, arith, of_z, slice_index_or, subst, sym, to_z, ℕ, ◌*◌, ◌+◌, ◌^◌, ◌==◌, ◌∙◌, ◌≡◌}
+use Rattle.std.proofs.Common.{ap, arith, of_z, slice_index_or, subst, sym, to_z, ℕ, ◌*◌, ◌+◌, ◌^◌, ◌==◌, ◌∙◌}
 use Rattle.std.proofs.lemmas.Int.{to_z-of_z}
 use Rattle.bk_laws.proofs.NumberTests.{nat_eq-of_different}
 use Rattle.bk_found.specs.ToldCorners.{AreLongestTold, Lines}
 use Rattle.bk_found.specs.declared.corners.Contact.{Contact}
 use Rattle.bk_found.specs.declared.corners.Longest.{Longest}
-use Rattle.bk_found.proofs.LevelSteps.{fits_small}
+use Rattle.bk_found.proofs.LevelSteps.{held_as_is}
 use Rattle.bk_found.proofs.ToldSteps.{told_more, told_none}
 use Rattle.bk_found.proofs.corners.longest_in_corners.Goals as goal
 use Rattle.bk_found.proofs.corners.longest_in_corners.Goals.{else-top+else-bottom, then-top}
@@ -27,26 +27,10 @@ squares-preserved c =
       left = left == 0;
       right = right == width;
     } in
-    let right_held : to_z w64 (of_z w64 (slice_index_or c.args.candidate.now.rights.now c.squares.i (pos 0))) ≡ slice_index_or c.args.candidate.now.rights.now
-    c.squares.i (pos 0) =
-    to_z-of_z w64 (slice_index_or c.args.candidate.now.rights.now c.squares.i (pos 0))
-    (fits_small (17 * 2 ^ 34) (slice_index_or c.args.candidate.now.rights.now c.squares.i (pos 0))
-    (c.args.candidate.now.known.small_rights c.squares.i (omega (
-      arith,
-      c.squares-test.true,
-      c.args.candidate.now.known.rights,
-      c.args.candidate.now.known.wires,
-    ))) (omega arith)) in
-    let current_held : to_z w64 (of_z w64 (slice_index_or c.args.candidate.now.currents.now c.squares.i (pos 0))) ≡ slice_index_or
-    c.args.candidate.now.currents.now c.squares.i (pos 0)
-    = to_z-of_z w64 (slice_index_or c.args.candidate.now.currents.now c.squares.i (pos 0))
-    (fits_small (2 ^ 34) (slice_index_or c.args.candidate.now.currents.now c.squares.i (pos 0))
-    (c.args.candidate.now.known.small_currents c.squares.i (omega (
-      arith,
-      c.squares-test.true,
-      c.args.candidate.now.known.currents,
-      c.args.candidate.now.known.wires,
-    ))) (omega arith)) in
+    let right_held = held_as_is (17 * 2 ^ 34) (slice_index_or c.args.candidate.now.rights.now c.squares.i (pos 0)) (c.args.candidate.now.known.small_rights
+    c.squares.i (omega (arith, c.squares-test.true, c.args.candidate.now.known.rights, c.args.candidate.now.known.wires))) (omega arith) in
+    let current_held = held_as_is (2 ^ 34) (slice_index_or c.args.candidate.now.currents.now c.squares.i (pos 0)) (c.args.candidate.now.known.small_currents
+    c.squares.i (omega (arith, c.squares-test.true, c.args.candidate.now.known.currents, c.args.candidate.now.known.wires))) (omega arith) in
     elim c.if-top.branch [
       | then-top w ↦ subst (λ (m : Longest). AreLongestTold l (c.squares.i + 1) m) (sym w.longest-is)
           (told_more l c.squares.i c.squares.longest c.squares.invariant w.with_square-longest.result

@@ -41,11 +41,11 @@ look_ahead-ahead-requires-clause-right c = λ i. nat_eq
     ((valley_of_equal c.skel-2.result.now c.args.board.now c.valley_place-valley.result c.skel-2.ensures.value c.valley_place-valley.ensures).stands.place_is i)
     (length ((c.signs-signs.ensures ∙ ap (λ (w : Word). (outline_of w).signs) c.skel.ensures.value) i))
 
-pub needs_of-requires-clause-before : goal.needs_of-requires-clause-before
-needs_of-requires-clause-before c = c.before_valley-before.ensures.few
+pub needs_of-needs-requires-clause-before : goal.needs_of-needs-requires-clause-before
+needs_of-needs-requires-clause-before c = c.before_valley-before.ensures.few
 
-pub needs_of-requires-clause-behind : goal.needs_of-requires-clause-behind
-needs_of-requires-clause-behind c = c.behind_valley-behind.ensures.few_even
+pub needs_of-needs-requires-clause-behind : goal.needs_of-needs-requires-clause-behind
+needs_of-needs-requires-clause-behind c = c.behind_valley-behind.ensures.few_even
 
 pub returns : goal.returns
 returns c = record {
@@ -57,7 +57,7 @@ returns c = record {
   behind_is = c.behind_valley-behind.ensures;
   moves_are = c.look_ahead-ahead.ensures.moves;
   evens_are = c.look_ahead-ahead.ensures.evens;
-  needs_are = c.needs_of.ensures;
+  needs_are = c.needs_of-needs.ensures;
   valley_is = valley;
 }
   where

@@ -1,6 +1,6 @@
 use Rattle.std.proofs.Common.{None, Some, arith, rules, subst, sym, ◌+◌, ◌≡◌}
 use Rattle.bk_tiling.specs.Tiling.{Tiling}
-use Rattle.bk_gen.specs.TrialLine.{IsTally, tiling_at}
+use Rattle.bk_gen.specs.TrialLine.{IsTrialTally, tiling_at}
 use Rattle.bk_gen.proofs.Tallies.{tally_few, tally_more}
 use Rattle.bk_gen.proofs.tally.tally_of.Goals as goal
 use Rattle.bk_gen.proofs.tally.tally_of.Goals.{in-Some, in_default}
@@ -22,7 +22,7 @@ never t e = cc
 
 pub loop-k-preserved : goal.loop-k-preserved
 loop-k-preserved c = elim c.match-laid_again.branch [
-  | in-Some w ↦ subst (IsTally c.args.seed (c.loop-k.k + 1)) (sym w.counts-is)
+  | in-Some w ↦ subst (IsTrialTally c.args.seed (c.loop-k.k + 1)) (sym w.counts-is)
       (tally_more c.args.seed c.loop-k.k c.loop-k.counts w.count_tiling.new.counts w.in-Some.tiling
       (same_tiling w.in-Some.tiling (tiling_at c.args.seed c.loop-k.k) w.in-Some.ensures.laid) c.loop-k.invariant
       (record {

@@ -1,5 +1,5 @@
-use Rattle.bk_gen.specs.TrialLine.{IsTally}
+use Rattle.bk_gen.specs.TrialLine.{IsTrialTally}
 use Rattle.bk_gen.proofs.tally.tally_of.Given as goal
 
 abbrev pub invariant-loop-k : goal.invariant-loop-k
-invariant-loop-k l = IsTally l.seed l.k l.counts
+invariant-loop-k l = IsTrialTally l.seed l.k l.counts

@@ -1,22 +1,24 @@
 use Rattle.std.proofs.Common.{ap, arith, filter, ◌∙◌, ◌≡◌}
-use Rattle.bk_lay.proofs.TurnLaws.{bottom_fits, can_stand, few_squares, next_turn, order_fits, right_fits, some_squares}
+use Rattle.bk_lay.proofs.TurnLaws.{AreUnderValley, can_stand, next_turn, order_fits, under_valley}
 use Rattle.bk_lay.specs.LevelRuns.{begins_under}
+use Rattle.bk_lay.proofs.turns.turn.Goals.{After-squares_under-squares}
 use Rattle.bk_lay.proofs.turns.turn.Goals as goal
 
-pub move_under-requires-clause-few : goal.move_under-requires-clause-few
-move_under-requires-clause-few c =
-    few_squares c.args.tiling.now c.squares.ensures.kept c.requires.going.0 c.args.outline.now c.requires.going.1 c.requires.low
+-- the squares under the valley
+found : (c : After-squares_under-squares) → AreUnderValley c.args.tiling.now c.squares.ensures.kept c.requires.going.0 c.args.outline.now
+    c.requires.going.1 c.requires.low c.squares_under-squares.result.now
+    (c.squares_under-squares.ensures ∙ ap (filter (begins_under c.args.outline.now.valley)) c.squares.ensures.value)
+found c = under_valley c.args.tiling.now c.squares.ensures.kept c.requires.going.0 c.args.outline.now c.requires.going.1 c.requires.low
     c.squares_under-squares.result.now (c.squares_under-squares.ensures ∙ ap (filter (begins_under c.args.outline.now.valley)) c.squares.ensures.value)
+
+pub move_under-requires-clause-few : goal.move_under-requires-clause-few
+move_under-requires-clause-few c = (found (goal.at.move_under-requires-clause-few c).After-squares_under-squares).few
 
 pub move_under-requires-clause-fit : goal.move_under-requires-clause-fit
-move_under-requires-clause-fit c =
-    bottom_fits c.args.tiling.now c.squares.ensures.kept c.requires.going.0 c.args.outline.now c.requires.going.1 c.requires.low
-    c.squares_under-squares.result.now (c.squares_under-squares.ensures ∙ ap (filter (begins_under c.args.outline.now.valley)) c.squares.ensures.value)
+move_under-requires-clause-fit c = (found (goal.at.move_under-requires-clause-fit c).After-squares_under-squares).bottom
 
 pub lay-requires-clause-some : goal.lay-requires-clause-some
-lay-requires-clause-some c =
-    some_squares c.args.tiling.now c.squares.ensures.kept c.requires.going.0 c.args.outline.now c.requires.going.1 c.requires.low
-    c.squares_under-squares.result.now (c.squares_under-squares.ensures ∙ ap (filter (begins_under c.args.outline.now.valley)) c.squares.ensures.value)
+lay-requires-clause-some c = (found (goal.at.lay-requires-clause-some c).After-squares_under-squares).some
 
 pub lay-requires-clause-room : goal.lay-requires-clause-room
 lay-requires-clause-room c = omega (
@@ -30,14 +32,10 @@ lay-requires-clause-room c = omega (
 )
 
 pub lay-requires-clause-right : goal.lay-requires-clause-right
-lay-requires-clause-right c =
-    right_fits c.args.tiling.now c.squares.ensures.kept c.requires.going.0 c.args.outline.now c.requires.going.1 c.requires.low
-    c.squares_under-squares.result.now (c.squares_under-squares.ensures ∙ ap (filter (begins_under c.args.outline.now.valley)) c.squares.ensures.value)
+lay-requires-clause-right c = (found (goal.at.lay-requires-clause-right c).After-squares_under-squares).right
 
 pub lay-requires-clause-fit : goal.lay-requires-clause-fit
-lay-requires-clause-fit c =
-    bottom_fits c.args.tiling.now c.squares.ensures.kept c.requires.going.0 c.args.outline.now c.requires.going.1 c.requires.low
-    c.squares_under-squares.result.now (c.squares_under-squares.ensures ∙ ap (filter (begins_under c.args.outline.now.valley)) c.squares.ensures.value)
+lay-requires-clause-fit c = (found (goal.at.lay-requires-clause-fit c).After-squares_under-squares).bottom
 
 pub returns : goal.returns
 returns c w turned =

@@ -1,6 +1,6 @@
 use Rattle.std.proofs.Common.{arith, false, refl, subst, sym, true, ◌≡◌}
 use Rattle.bk_word.specs.Word.{Word}
-use Rattle.bk_lay.proofs.TurnLaws.{nearer}
+use Rattle.bk_lay.proofs.TurnLaws.{turn_comes_nearer}
 use Rattle.bk_lay.specs.Turning.{Turned}
 use Rattle.bk_lay.proofs.turns.word_of.Goals as goal
 
@@ -21,7 +21,7 @@ returns-in_err-push-clause-inline c h =
     absurd (no (c.in_err-push.ensures.inline (omega (arith, h, (c.next_in.ensures.next c.moves-test.true c.moves.word c.moves.invariant).fits))))
 
 pub moves-smaller : goal.moves-smaller
-moves-smaller c = nearer c.args.tiling.now c.moves.word c.push.new.self c.next_in.new.self c.next_in.new.m
+moves-smaller c = turn_comes_nearer c.args.tiling.now c.moves.word c.push.new.self c.next_in.new.self c.next_in.new.m
     (c.next_in.ensures.next c.moves-test.true c.moves.word c.moves.invariant) c.in_ok-push.ensures.ok
 
 pub moves-preserved : goal.moves-preserved

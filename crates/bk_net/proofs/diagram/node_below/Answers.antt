@@ -1,14 +1,9 @@
 use Rattle.std.proofs.Common.{ap, arith, length, ◌∙◌}
-use Rattle.bk_tiling.proofs.TilingLaws.{within_of}
-use Rattle.bk_net.proofs.NodeNumbers.{at_bottom, numbers_many}
+use Rattle.bk_net.proofs.NodeNumbers.{at_bottom, lower_edge_fits, numbers_many}
 use Rattle.bk_net.proofs.diagram.node_below.Goals as goal
 
 pub overflow_add-q : goal.overflow_add-q
-overflow_add-q c =
-    let kept = c.height-height.ensures.kept in
-    let low = (within_of c.args.tiling.now kept.tiling c.args.q c.requires.one).bottom in
-    let fits = kept.height_fits in
-    omega arith
+overflow_add-q c = omega (arith, lower_edge_fits c.args.tiling.now c.height-height.ensures.kept c.args.q c.requires.one)
 
 pub returns-then-q-height : goal.returns-then-q-height
 returns-then-q-height c =

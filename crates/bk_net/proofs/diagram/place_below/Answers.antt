@@ -2,18 +2,13 @@ use Rattle.std.proofs.Common.{ap, arith, length, rules, ◌+◌, ◌≡◌}
 use Rattle.std.specs.List.Sorted.{IsPartitionPoint}
 use Rattle.std.specs.Prelude.{false, true}
 use Rattle.std.proofs.lemmas.List.Sorted.{IsPartitionPoint-from_clause}
-use Rattle.bk_tiling.proofs.TilingLaws.{within_of}
-use Rattle.bk_net.proofs.NodeNumbers.{IsFound, node_below_found}
+use Rattle.bk_net.proofs.NodeNumbers.{IsFound, lower_edge_fits, node_below_found}
 use Rattle.bk_net.specs.GroupNumbers.{is_no_later}
 use Rattle.bk_net.proofs.SquareNumbers.{parted_at_cell}
 use Rattle.bk_net.proofs.diagram.place_below.Goals as goal
 
 pub overflow_add-level : goal.overflow_add-level
-overflow_add-level c =
-    let kept = c.squares-squares.ensures.kept in
-    let low = (within_of c.args.tiling.now kept.tiling c.args.q c.requires.one).bottom in
-    let fits = kept.height_fits in
-    omega arith
+overflow_add-level c = omega (arith, lower_edge_fits c.args.tiling.now c.squares-squares.ensures.kept c.args.q c.requires.one)
 
 place : (c : goal.After-partition_point-after)
     → IsFound c.args.tiling.now (c.squares-squares.ensures.kept).tiling c.args.q c.requires.one c.partition_point-after.result

@@ -1,5 +1,5 @@
 use Rattle.std.proofs.lemmas.Grind.{common_steps}
-use Rattle.std.proofs.Common.{ap, arith, drop, length, sum, sym, take_all, ◌+◌, ◌∙◌, ◌≡◌}
+use Rattle.std.proofs.Common.{ap, arith, drop, length, refl, sum, sym, take_all, ◌+◌, ◌∙◌, ◌≡◌}
 use Rattle.std.proofs.lemmas.List.{length-map}
 use Rattle.bk_play.proofs.Wirings.{closed_next, mark_next, none_marked}
 use Rattle.bk_play.specs.Wiring.{closed_of}
@@ -10,10 +10,10 @@ use Rattle.bk_play.proofs.netting.end_nodes.Goals as goal
 pub nodes-init : goal.nodes-init
 nodes-init c = record {
   within = omega arith;
-  long = ap length c.all_at-ended.ensures;
+  long = refl;
   at = c.requires.many ∙ ap sum (sym (take_all (length c.args.turns.now) (closed_of c.args.turns.now)
       (omega (arith, length-map c.args.turns.now (λ (t : MoveRecord). t.closed)))));
-  marked = λ lists flat long k h. none_marked c.args.turns.now lists c.all_at-ended.result k c.all_at-ended.ensures long h;
+  marked = λ lists flat long k h. none_marked c.args.turns.now lists _ k refl long h;
 }
 
 pub overflow_sub-start : goal.overflow_sub-start

@@ -40,7 +40,7 @@ returns-clause-sizes c =
     let sizes = c.put_sizes.ensures ∙ (λ i. joined_sizes (c.max.ensures i) (c.max-2.ensures i) c.args.moved.now) in
     room-filled c.args.sizes.now.items c.make_room.new.list.items c.deref_mut.result.now c.put_sizes.new.room c.first_touched-start.result
     (c.first_touched-start.result + c.open_sides-open.result + 1) (c.from-parted.result + 1) _ (omega arith)
-    (omega (arith, c.first_touched-start.ensures, c.open_sides-open.ensures, c.requires.sizes_within)) c.make_room.ensures.long c.make_room.ensures.front
+    (omega (arith, c.first_touched-start.ensures, c.open_sides-open.ensures, c.requires.room.sizes_within)) c.make_room.ensures.long c.make_room.ensures.front
     c.make_room.ensures.back c.deref_mut.ensures.value (omega arith) c.put_sizes.auto.room
     ∙ (λ i. splice c.args.sizes.now.items (c.first_touched-start.ensures i) (to i) (sizes i))
 
@@ -48,8 +48,8 @@ pub returns-clause-signs : goal.returns-clause-signs
 returns-clause-signs c =
     room-filled c.args.signs.now.items c.make_room-2.new.list.items c.deref_mut-2.result.now c.put_signs.new.room c.first_touched-start.result
     (c.first_touched-start.result + c.open_sides-open.result) c.from-parted.result _ (omega arith)
-    (omega (arith, c.first_touched-start.ensures, c.open_sides-open.ensures, c.requires.signs_within)) c.make_room-2.ensures.long c.make_room-2.ensures.front
-    c.make_room-2.ensures.back c.deref_mut-2.ensures.value (omega arith) c.put_signs.auto.room
+    (omega (arith, c.first_touched-start.ensures, c.open_sides-open.ensures, c.requires.room.signs_within)) c.make_room-2.ensures.long
+    c.make_room-2.ensures.front c.make_room-2.ensures.back c.deref_mut-2.ensures.value (omega arith) c.put_signs.auto.room
     ∙ (λ i. splice c.args.signs.now.items (c.first_touched-start.ensures i) (c.first_touched-start.ensures i + c.open_sides-open.ensures i)
     (c.put_signs.ensures i))
 
@@ -57,12 +57,12 @@ pub make_room-requires : goal.make_room-requires
 make_room-requires c = (
   lit< tt,
   sizes_room _ _ _ _ _ _ _ c.first_touched-start.ensures c.open_sides-open.ensures c.from-parted.ensures
-      c.requires.sizes_within c.requires.sizes_fit,
+      c.requires.room.sizes_within c.requires.room.sizes_fit,
 )
 
 pub put_sizes-requires-clause-long : goal.put_sizes-requires-clause-long
 put_sizes-requires-clause-long c = room-long _ _ _ _ _ c.deref_mut.ensures.value
-    (sizes_end _ _ _ _ _ _ _ c.first_touched-start.ensures c.open_sides-open.ensures c.requires.sizes_within c.make_room.ensures.long)
+    (sizes_end _ _ _ _ _ _ _ c.first_touched-start.ensures c.open_sides-open.ensures c.requires.room.sizes_within c.make_room.ensures.long)
     (one_more _ _ _ (c.from-parted.ensures ∙ c.requires.parted))
 
 pub put_sizes-requires-clause-small : goal.put_sizes-requires-clause-small
@@ -72,58 +72,58 @@ pub make_room-requires-2 : goal.make_room-requires-2
 make_room-requires-2 c = (
   lit< tt,
   signs_room _ _ _ _ _ _ _ c.first_touched-start.ensures c.open_sides-open.ensures c.from-parted.ensures
-      c.requires.signs_within c.requires.signs_fit,
+      c.requires.room.signs_within c.requires.room.signs_fit,
 )
 
 pub put_signs-requires : goal.put_signs-requires
 put_signs-requires c = room-long _ _ _ _ _ c.deref_mut-2.ensures.value
-    (signs_end _ _ _ _ _ _ _ c.first_touched-start.ensures c.open_sides-open.ensures c.requires.signs_within c.make_room-2.ensures.long)
+    (signs_end _ _ _ _ _ _ _ c.first_touched-start.ensures c.open_sides-open.ensures c.requires.room.signs_within c.make_room-2.ensures.long)
     (ap (λ n. c.first_touched-start.result + n) (c.from-parted.ensures ∙ c.requires.parted))
 
 pub overflow_add-start : goal.overflow_add-start
 overflow_add-start c = omega (
   arith,
   all_few _ _ _ _ _ _ _ _ c.first_touched-start.ensures c.open_sides-open.ensures c.from-parted.ensures
-      c.requires.sizes_within c.requires.sizes_fit,
+      c.requires.room.sizes_within c.requires.room.sizes_fit,
 )
 
 pub overflow_add-start-2 : goal.overflow_add-start-2
 overflow_add-start-2 c = omega (
   arith,
   all_few _ _ _ _ _ _ _ _ c.first_touched-start.ensures c.open_sides-open.ensures c.from-parted.ensures
-      c.requires.sizes_within c.requires.sizes_fit,
+      c.requires.room.sizes_within c.requires.room.sizes_fit,
 )
 
 pub overflow_add-start-3 : goal.overflow_add-start-3
 overflow_add-start-3 c = omega (
   arith,
   all_few _ _ _ _ _ _ _ _ c.first_touched-start.ensures c.open_sides-open.ensures c.from-parted.ensures
-      c.requires.sizes_within c.requires.sizes_fit,
+      c.requires.room.sizes_within c.requires.room.sizes_fit,
 )
 
 pub overflow_add-start-4 : goal.overflow_add-start-4
 overflow_add-start-4 c = omega (
   arith,
   all_few _ _ _ _ _ _ _ _ c.first_touched-start.ensures c.open_sides-open.ensures c.from-parted.ensures
-      c.requires.sizes_within c.requires.sizes_fit,
+      c.requires.room.sizes_within c.requires.room.sizes_fit,
 )
 
 pub overflow_add-start-5 : goal.overflow_add-start-5
 overflow_add-start-5 c = omega (
   arith,
   all_few _ _ _ _ _ _ _ _ c.first_touched-start.ensures c.open_sides-open.ensures c.from-parted.ensures
-      c.requires.sizes_within c.requires.sizes_fit,
+      c.requires.room.sizes_within c.requires.room.sizes_fit,
 )
 
 pub overflow_add-start-6 : goal.overflow_add-start-6
 overflow_add-start-6 c = omega (
   arith,
   all_few _ _ _ _ _ _ _ _ c.first_touched-start.ensures c.open_sides-open.ensures c.from-parted.ensures
-      c.requires.sizes_within c.requires.sizes_fit,
+      c.requires.room.sizes_within c.requires.room.sizes_fit,
 )
 
 pub overflow_add-parted : goal.overflow_add-parted
-overflow_add-parted c = omega (arith, c.from-parted.ensures, c.requires.sizes_fit)
+overflow_add-parted c = omega (arith, c.from-parted.ensures, c.requires.room.sizes_fit)
 
 pub deref_mut-requires : goal.deref_mut-requires
 deref_mut-requires c = lit< tt
@@ -144,7 +144,7 @@ slice_bounds-put_sizes-end c = omega (
   c.make_room.ensures.long,
   c.first_touched-start.ensures,
   c.open_sides-open.ensures,
-  c.requires.sizes_within,
+  c.requires.room.sizes_within,
 )
 
 pub slice_bounds-put_signs-count : goal.slice_bounds-put_signs-count
@@ -160,5 +160,5 @@ slice_bounds-put_signs-end c = omega (
   c.make_room-2.ensures.long,
   c.first_touched-start.ensures,
   c.open_sides-open.ensures,
-  c.requires.signs_within,
+  c.requires.room.signs_within,
 )

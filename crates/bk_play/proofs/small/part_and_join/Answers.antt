@@ -23,6 +23,12 @@ cut_fits : {X : Type 0} (old cut : List X) (start k m p : ℕ) → cut ≡ take 
     → length cut + m ≤ 16
 cut_fits old cut start k m p e f within fits = omega (arith, ap length e, length-take-le p old (omega arith))
 
+-- and with that room for 16 more behind
+still_room : {X : Type 0} (old cut all more : List X) (start k m p : ℕ) → cut ≡ take p old → p ≡ start → all ≡ cut ++ more → length more ≡ m
+    → start + k ≤ length old → length old - k + m ≤ 16 → length all + 16 ≤ 32
+still_room old cut all more start k m p e f g h within fits =
+    omega (arith, ap length g, length-append cut more, h, cut_fits old cut start k m p e f within fits)
+
 -- the two bounds of that
 below_room : (n m : ℕ) → n + (m + 1) ≤ 16 → n + m < 32
 below_room n m h = omega arith
@@ -41,34 +47,24 @@ no_shorter old cut all more start sides p len e f g h within =
     omega (arith, ap length e, ap length f, length-append cut more, length-take-le p old (omega arith))
 
 pub append-requires : goal.append-requires
-append-requires c =
-    let long : length c.push_parted.new.sizes.items + 16 ≤ 32 = omega (
-      arith,
-      ap length c.push_parted.ensures.sizes,
-      length-append c.truncate.new.self.items (joined_sizes c.max.result c.max-2.result c.args.moved.now),
-      sizes_after_many c.max.result c.max-2.result c.args.moved.now,
-      ap length c.truncate.ensures,
-      c.first_touched-start.ensures,
-      length-take-le c.first_touched-start.result c.args.sizes.now.items (omega (arith, c.first_touched-start.ensures, c.requires.sizes_within)),
-      c.requires.sizes_within,
-      c.requires.sizes_fit,
-    ) in
-    (omega arith, (omega arith, long))
+append-requires c = (
+  omega arith,
+  (
+    omega arith,
+    still_room _ _ _ _ _ _ _ _ c.truncate.ensures c.first_touched-start.ensures c.push_parted.ensures.sizes
+        (sizes_after_many c.max.result c.max-2.result c.args.moved.now) c.requires.room.sizes_within c.requires.room.sizes_fit,
+  ),
+)
 
 pub append-requires-2 : goal.append-requires-2
-append-requires-2 c =
-    let long : length c.push_parted.new.signs.items + 16 ≤ 32 = omega (
-      arith,
-      ap (length {A = Sign}) c.push_parted.ensures.signs,
-      length-append c.truncate-2.new.self.items (filter parts c.args.moved.now),
-      length-filter parts c.args.moved.now,
-      ap (length {A = Sign}) c.truncate-2.ensures,
-      c.first_touched-start.ensures,
-      length-take-le c.first_touched-start.result c.args.signs.now.items (omega (arith, c.first_touched-start.ensures, c.requires.signs_within)),
-      c.requires.signs_within,
-      c.requires.signs_fit,
-    ) in
-    (omega arith, (omega arith, long))
+append-requires-2 c = (
+  omega arith,
+  (
+    omega arith,
+    still_room _ _ _ _ _ _ _ _ c.truncate-2.ensures c.first_touched-start.ensures c.push_parted.ensures.signs
+        (length-filter parts c.args.moved.now) c.requires.room.signs_within c.requires.room.signs_fit,
+  ),
+)
 
 pub returns-clause-sizes : goal.returns-clause-sizes
 returns-clause-sizes c =
@@ -100,7 +96,7 @@ returns-clause-parted c = omega (
   length-filter parts c.args.moved.now,
   ap (length {A = Sign}) c.truncate-2.ensures,
   c.first_touched-start.ensures,
-  length-take-le c.first_touched-start.result c.args.signs.now.items (omega (arith, c.first_touched-start.ensures, c.requires.signs_within)),
+  length-take-le c.first_touched-start.result c.args.signs.now.items (omega (arith, c.first_touched-start.ensures, c.requires.room.signs_within)),
 )
 
 pub part-sizes_behind-requires : goal.part-sizes_behind-requires
@@ -109,7 +105,7 @@ part-sizes_behind-requires c = (
   (
     lit< tt,
     sizes_parted _ _ _ _ _ _ c.first_touched-start.ensures c.open_sides.ensures c.len.ensures.value
-        c.requires.sizes_within c.requires.sizes_few,
+        c.requires.room.sizes_within c.requires.sizes_few,
   ),
 )
 
@@ -119,24 +115,24 @@ part-signs_behind-requires c = (
   (
     lit< tt,
     signs_parted _ _ _ _ _ _ c.first_touched-start.ensures c.open_sides.ensures c.len-2.ensures.value
-        c.requires.signs_within c.requires.signs_few,
+        c.requires.room.signs_within c.requires.signs_few,
   ),
 )
 
 pub push_parted-requires-clause-sizes_fit : goal.push_parted-requires-clause-sizes_fit
 push_parted-requires-clause-sizes_fit c = below_room _ _ (cut_fits _ _ _ _ _ _ c.truncate.ensures c.first_touched-start.ensures
-    c.requires.sizes_within c.requires.sizes_fit)
+    c.requires.room.sizes_within c.requires.room.sizes_fit)
 
 pub push_parted-requires-clause-signs_fit : goal.push_parted-requires-clause-signs_fit
 push_parted-requires-clause-signs_fit c = in_room _ _ (cut_fits _ _ _ _ _ _ c.truncate-2.ensures c.first_touched-start.ensures
-    c.requires.signs_within c.requires.signs_fit)
+    c.requires.room.signs_within c.requires.room.signs_fit)
 
 pub push_parted-requires-clause-small : goal.push_parted-requires-clause-small
 push_parted-requires-clause-small c = still_small _ _ _ _ _ c.max.ensures c.max-2.ensures c.requires.small
 
 pub overflow_sub-parted : goal.overflow_sub-parted
 overflow_sub-parted c = no_shorter _ _ _ _ _ _ _ _ c.truncate-2.ensures c.push_parted.ensures.signs c.len-3.ensures.value
-    c.first_touched-start.ensures c.requires.signs_within
+    c.first_touched-start.ensures c.requires.room.signs_within
 
 pub overflow_cast-parted : goal.overflow_cast-parted
 overflow_cast-parted c = omega (arith, c.len-3.ensures.few)

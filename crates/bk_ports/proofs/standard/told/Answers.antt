@@ -1,5 +1,5 @@
 use Rattle.std.proofs.Common.{Result, ap, sym, ◌∙◌}
-use Rattle.bk_ports.specs.Told.{count_after, told_of}
+use Rattle.bk_ports.specs.ToldCalls.{count_after, told_of}
 use Rattle.bk_ports.proofs.standard.told.Goals as goal
 
 pub returns-in-Ok-clause-told : goal.returns-in-Ok-clause-told

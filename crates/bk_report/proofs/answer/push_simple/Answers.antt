@@ -9,35 +9,11 @@ use Rattle.bk_report.proofs.answer.push_simple.Goals as goal
 
 pub returns-in-Some-clause-text : goal.returns-in-Some-clause-text
 returns-in-Some-clause-text c =
-    rw (c.in-Some.is, c.write_size.ensures.text, c.push.ensures.items, c.push_named-in-Some.ensures.text, c.push_named.ensures.text)
+    rw (c.in-Some.is, c.write_size.ensures.text, c.push_filled.ensures.text)
     (compound_pieces c.args.out.now.items (decimal c.in-Some.r.x) (decimal c.in-Some.r.y) (size_text c.in-Some.r.width c.in-Some.r.height))
-
-pub push_bytes-requires : goal.push_bytes-requires
-push_bytes-requires c = omega arith
-
-pub push_named-requires-clause-name : goal.push_named-requires-clause-name
-push_named-requires-clause-name c = omega arith
-
-pub push_named-requires-clause-room : goal.push_named-requires-clause-room
-push_named-requires-clause-room c = omega arith
-
-pub push_named-requires-in-Some-clause-name : goal.push_named-requires-in-Some-clause-name
-push_named-requires-in-Some-clause-name c = omega arith
-
-pub push_named-requires-in-Some-clause-room : goal.push_named-requires-in-Some-clause-room
-push_named-requires-in-Some-clause-room c = omega arith
-
-pub push-requires : goal.push-requires
-push-requires c = omega arith
-
-pub write_size-requires : goal.write_size-requires
-write_size-requires c = omega arith
 
 pub returns-in-None-clause-text : goal.returns-in-None-clause-text
 returns-in-None-clause-text c = c.push_bytes.ensures ∙ ap (λ r. c.args.out.now.items ++ simple_text (option_map rectangle_of r)) (sym c.in-None.is)
 
 pub returns-in-None-clause-short : goal.returns-in-None-clause-short
 returns-in-None-clause-short c = omega (arith, length-append {A = ℕ}, ap length c.push_bytes.ensures)
-
-pub returns-in-Some-clause-short : goal.returns-in-Some-clause-short
-returns-in-Some-clause-short c = omega (arith, length-append {A = ℕ}, ap length c.write_size.ensures.text)

@@ -1,61 +1,11 @@
-use Rattle.std.proofs.Common.{ap, arith, length}
-use Rattle.std.specs.Prelude.{decimal}
-use Rattle.bk_report.proofs.Spaces.{trial_pieces}
+use Rattle.std.specs.Prelude.{codes, decimal}
+use Rattle.std.proofs.Common.{List, [], ap, sym, ℕ, ◌∙◌, ◌∷◌}
+use Rattle.bk_report.proofs.TemplateLaws.{ended, line-ended}
 use Rattle.bk_report.proofs.trial.write_trial.Goals as goal
 
 pub returns : goal.returns
 returns c =
-    rw (
-      c.push.ensures.items,
-      c.push_named-6.ensures.text,
-      c.push_named-5.ensures.text,
-      c.push_named-4.ensures.text,
-      c.push_named-3.ensures.text,
-      c.push_named-2.ensures.text,
-      c.from.ensures,
-      c.push_named.ensures.text,
-      c.clear.ensures,
-    )
-    (trial_pieces (decimal c.args.seed) (decimal c.args.count) (decimal c.args.ok) (decimal c.args.perfect) (decimal c.args.simple) (decimal c.args.squares))
-
-pub clear-requires : goal.clear-requires
-clear-requires c = omega arith
-
-pub push_named-requires-clause-name : goal.push_named-requires-clause-name
-push_named-requires-clause-name c = omega arith
-
-pub push_named-requires-clause-room : goal.push_named-requires-clause-room
-push_named-requires-clause-room c = omega (arith, ap length c.clear.ensures)
-
-pub push_named-requires-2-clause-name : goal.push_named-requires-2-clause-name
-push_named-requires-2-clause-name c = omega arith
-
-pub push_named-requires-2-clause-room : goal.push_named-requires-2-clause-room
-push_named-requires-2-clause-room c = omega (arith, ap length c.clear.ensures)
-
-pub push_named-requires-3-clause-name : goal.push_named-requires-3-clause-name
-push_named-requires-3-clause-name c = omega arith
-
-pub push_named-requires-3-clause-room : goal.push_named-requires-3-clause-room
-push_named-requires-3-clause-room c = omega (arith, ap length c.clear.ensures)
-
-pub push_named-requires-4-clause-name : goal.push_named-requires-4-clause-name
-push_named-requires-4-clause-name c = omega arith
-
-pub push_named-requires-4-clause-room : goal.push_named-requires-4-clause-room
-push_named-requires-4-clause-room c = omega (arith, ap length c.clear.ensures)
-
-pub push_named-requires-5-clause-name : goal.push_named-requires-5-clause-name
-push_named-requires-5-clause-name c = omega arith
-
-pub push_named-requires-5-clause-room : goal.push_named-requires-5-clause-room
-push_named-requires-5-clause-room c = omega (arith, ap length c.clear.ensures)
-
-pub push_named-requires-6-clause-name : goal.push_named-requires-6-clause-name
-push_named-requires-6-clause-name c = omega arith
-
-pub push_named-requires-6-clause-room : goal.push_named-requires-6-clause-room
-push_named-requires-6-clause-room c = omega (arith, ap length c.clear.ensures)
-
-pub push-requires : goal.push-requires
-push-requires c = omega (arith, ap length c.clear.ensures)
+    let words : ℕ → List (List ℕ) = λ count. codes "trial" ∷ codes "seed" ∷ decimal c.args.seed ∷ codes "count" ∷ decimal count ∷ codes "ok"
+    ∷ decimal c.args.ok ∷ codes "perfect" ∷ decimal c.args.perfect ∷ codes "simple" ∷ decimal c.args.simple ∷ codes "squares"
+    ∷ decimal c.args.squares ∷ [] in
+    rw (c.push_filled.ensures.text, c.clear.ensures) (ap (λ count. ended (words count)) c.from.ensures ∙ sym (line-ended (words c.args.count)))

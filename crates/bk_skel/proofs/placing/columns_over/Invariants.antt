@@ -1,5 +1,5 @@
 use Rattle.std.proofs.Common.{take, ◌≡◌}
-use Rattle.bk_skel.specs.Board.{columns_of}
+use Rattle.bk_skel.specs.PartlyLaid.{columns_of}
 use Rattle.bk_skel.proofs.placing.columns_over.Given as goal
 
 abbrev pub invariant-loop-number : goal.invariant-loop-number

@@ -27,7 +27,7 @@ push_group-requires-clause-fits c =
 pub splice_numbers-requires : goal.splice_numbers-requires
 splice_numbers-requires c =
     let m = lays_move c.requires in
-    let fits : length c.args.board.now.numbers.items - (c.args.end - c.args.first) + length c.args.new.now ≤ 200 = omega (arith, m.room, m.order, m.within) in
+    let fits : length c.args.laying.now.numbers.items - (c.args.end - c.args.first) + length c.args.new.now ≤ 200 = omega (arith, m.room, m.order, m.within) in
     let small : c.len.result + 1 + length c.args.new.now ≤ 255 = omega (arith, (c.requires.1).room, c.len.ensures.value) in
     (omega arith, (m.order, (m.within, (fits, small))))
 
@@ -39,7 +39,7 @@ overflow_add-left-2 c = let m = lays_move c.requires in omega (arith, m.inside, 
 
 pub slice_bounds-signs_fit-end : goal.slice_bounds-signs_fit-end
 slice_bounds-signs_fit-end c =
-    let numbers_are = numbers_as c.args.board.now.numbers.items c.splice_numbers.new.list.items c.deref-4.result.now c.args.board.now.laid.items
+    let numbers_are = numbers_as c.args.laying.now.numbers.items c.splice_numbers.new.list.items c.deref-4.result.now c.args.laying.now.laid.items
     c.args.first c.args.end (c.len.result + 1) (length c.args.new.now) (ap (λ (n : ℕ). n + 1) c.len.ensures.value)
     c.splice_numbers.ensures c.deref-4.ensures.0 in
     omega (arith, (lays_move c.requires).inside, ap length numbers_are, c.saturating_sub-left.ensures)
@@ -57,7 +57,7 @@ pub signs_fit-requires-clause-low : goal.signs_fit-requires-clause-low
 signs_fit-requires-clause-low c n h =
     let m = lays_move c.requires in
     let found = c.gap_under-gap.ensures m.valley (m.fitting c.deref.result.now c.deref-2.result.now c.deref.ensures.0 c.deref-2.ensures.0) in
-    m.low c.deref-3.result.now (laid_as c.gap_under-gap.result m.valley c.args.board.now.laid.items c.push_group.new.laid.items
+    m.low c.deref-3.result.now (laid_as c.gap_under-gap.result m.valley c.args.laying.now.laid.items c.push_group.new.laid.items
     c.deref-3.result.now c.args.new.now found c.push_group.ensures c.deref-3.ensures.0) n h
 
 pub signs_fit-requires-clause-count : goal.signs_fit-requires-clause-count
@@ -80,7 +80,7 @@ returns-clause-turn c e =
       (
         m.turn (sym c.sum_of.ensures.sum ∙ c.if-sum_of-gap.false ∙ ap (λ (v : Segment). v.width) found)
             (c.signs_fit.ensures.0 e ∙ ap signs_between window.bottoms),
-        c.push_group.ensures ∙ ap (λ (v : Segment). c.args.board.now.laid.items ++ laid_group v.x v.level c.args.new.now) found,
+        c.push_group.ensures ∙ ap (λ (v : Segment). c.args.laying.now.laid.items ++ laid_group v.x v.level c.args.new.now) found,
       ),
     )
 
@@ -94,8 +94,8 @@ returns-clause-none c e v t =
     both_ways c.signs_fit.result e (c.signs_fit.ensures.1 (m.signs_are v t ∙ ap signs_between (sym window.bottoms)))
 
 pub returns-clause-numbers : goal.returns-clause-numbers
-returns-clause-numbers c e = numbers_as c.args.board.now.numbers.items c.splice_numbers.new.list.items c.splice_numbers.new.list.items
-    c.args.board.now.laid.items c.args.first c.args.end (c.len.result + 1) (length c.args.new.now) (ap (λ (n : ℕ). n + 1) c.len.ensures.value)
+returns-clause-numbers c e = numbers_as c.args.laying.now.numbers.items c.splice_numbers.new.list.items c.splice_numbers.new.list.items
+    c.args.laying.now.laid.items c.args.first c.args.end (c.len.result + 1) (length c.args.new.now) (ap (λ (n : ℕ). n + 1) c.len.ensures.value)
     c.splice_numbers.ensures refl
 
 pub sum_of-requires-clause-few : goal.sum_of-requires-clause-few

@@ -23,7 +23,7 @@ slice_bounds-new-end c = omega (
   arith,
   sides_there c.args.skel.now (c.moves-moves.ensures.kept).legal c.args.sides.now c.requires.sides
       (omega (arith, c.requires.count, (c.moves-moves.ensures.kept).few)) c.loop-i.i
-      (omega (arith, c.loop-i-test.true, c.moves-moves.ensures.value)) c.loop-i.board.laid.items c.loop-i.board.numbers.items c.loop-i.invariant.to
+      (omega (arith, c.loop-i-test.true, c.moves-moves.ensures.value)) c.loop-i.laying.laid.items c.loop-i.laying.numbers.items c.loop-i.invariant.to
       c.turn-turn.result c.turn-turn.ensures,
   c.len-from.ensures.value,
   c.from-in-loop-i.ensures,
@@ -32,8 +32,8 @@ slice_bounds-new-end c = omega (
 pub lay_move-requires : goal.lay_move-requires
 lay_move-requires c = step_can c.args.skel.now (c.moves-moves.ensures.kept).legal c.args.sides.now c.requires.sides
     (omega (arith, c.requires.count, (c.moves-moves.ensures.kept).few)) c.loop-i.i
-    (omega (arith, c.loop-i-test.true, c.moves-moves.ensures.value)) c.loop-i.board.laid.items c.loop-i.board.numbers.items c.loop-i.invariant.to
-    c.turn-turn.result c.turn-turn.ensures c.loop-i.board.width c.len-from.result c.from-in-loop-i.result c.from-first.result
+    (omega (arith, c.loop-i-test.true, c.moves-moves.ensures.value)) c.loop-i.laying.laid.items c.loop-i.laying.numbers.items c.loop-i.invariant.to
+    c.turn-turn.result c.turn-turn.ensures c.loop-i.laying.width c.len-from.result c.from-in-loop-i.result c.from-first.result
     c.from-in-loop-i-2.result c.signs_at-signs.result.now
     (take (c.len-from.result + c.from-in-loop-i.result - c.len-from.result) (drop c.len-from.result c.args.sides.now))
     c.loop-i.invariant.width c.len-from.ensures.value c.from-in-loop-i.ensures c.from-first.ensures c.from-in-loop-i-2.ensures c.signs_at-signs.ensures refl
@@ -41,8 +41,8 @@ lay_move-requires c = step_can c.args.skel.now (c.moves-moves.ensures.kept).lega
 pub returns-then-not-lay_move-clause-only : goal.returns-then-not-lay_move-clause-only
 returns-then-not-lay_move-clause-only c = step_none c.args.skel.now (c.moves-moves.ensures.kept).legal c.args.sides.now c.requires.sides
     (omega (arith, c.requires.count, (c.moves-moves.ensures.kept).few)) c.loop-i.i
-    (omega (arith, c.loop-i-test.true, c.moves-moves.ensures.value)) c.loop-i.board.laid.items c.loop-i.board.numbers.items c.loop-i.invariant.to
-    c.turn-turn.result c.turn-turn.ensures c.loop-i.board.width c.len-from.result c.from-in-loop-i.result c.from-first.result
+    (omega (arith, c.loop-i-test.true, c.moves-moves.ensures.value)) c.loop-i.laying.laid.items c.loop-i.laying.numbers.items c.loop-i.invariant.to
+    c.turn-turn.result c.turn-turn.ensures c.loop-i.laying.width c.len-from.result c.from-in-loop-i.result c.from-first.result
     c.from-in-loop-i-2.result c.signs_at-signs.result.now
     (take (c.len-from.result + c.from-in-loop-i.result - c.len-from.result) (drop c.len-from.result c.args.sides.now))
     c.loop-i.invariant.width c.len-from.ensures.value c.from-in-loop-i.ensures c.from-first.ensures c.from-in-loop-i-2.ensures
@@ -54,33 +54,33 @@ loop-i-preserved c = record {
   to =
       step_more c.args.skel.now (c.moves-moves.ensures.kept).legal c.args.sides.now c.requires.sides
       (omega (arith, c.requires.count, (c.moves-moves.ensures.kept).few)) c.loop-i.i
-      (omega (arith, c.loop-i-test.true, c.moves-moves.ensures.value)) c.loop-i.board.laid.items c.loop-i.board.numbers.items c.loop-i.invariant.to
-      c.turn-turn.result c.turn-turn.ensures c.loop-i.board.width c.len-from.result c.from-in-loop-i.result c.from-first.result
+      (omega (arith, c.loop-i-test.true, c.moves-moves.ensures.value)) c.loop-i.laying.laid.items c.loop-i.laying.numbers.items c.loop-i.invariant.to
+      c.turn-turn.result c.turn-turn.ensures c.loop-i.laying.width c.len-from.result c.from-in-loop-i.result c.from-first.result
       c.from-in-loop-i-2.result c.signs_at-signs.result.now
       (take (c.len-from.result + c.from-in-loop-i.result - c.len-from.result) (drop c.len-from.result c.args.sides.now))
       c.loop-i.invariant.width c.len-from.ensures.value c.from-in-loop-i.ensures c.from-first.ensures c.from-in-loop-i-2.ensures
-      c.signs_at-signs.ensures refl c.lay_move.new.board.laid.items c.lay_move.new.board.numbers.items (c.lay_move.ensures.turn c.if-not-lay_move.false)
+      c.signs_at-signs.ensures refl c.lay_move.new.laying.laid.items c.lay_move.new.laying.numbers.items (c.lay_move.ensures.turn c.if-not-lay_move.false)
       (c.lay_move.ensures.numbers c.if-not-lay_move.false);
 }
 
 pub close-requires : goal.close-requires
 close-requires c = end_can c.args.skel.now c.requires.closed c.args.sides.now c.requires.sides
     (omega (arith, c.requires.count, (c.moves-moves.ensures.kept).few)) c.requires.count c.loop-i.i
-    (omega (arith, c.loop-i-test.false, c.moves-moves.ensures.value)) c.loop-i.board.laid.items c.loop-i.board.numbers.items c.deref.result.now
-    c.loop-i.invariant.to c.loop-i.board.width c.loop-i.invariant.width c.deref.ensures.0
+    (omega (arith, c.loop-i-test.false, c.moves-moves.ensures.value)) c.loop-i.laying.laid.items c.loop-i.laying.numbers.items c.deref.result.now
+    c.loop-i.invariant.to c.loop-i.laying.width c.loop-i.invariant.width c.deref.ensures.0
 
 pub returns-clause-placed : goal.returns-clause-placed
 returns-clause-placed c = end_is c.args.skel.now c.requires.closed c.args.sides.now c.requires.sides
     (omega (arith, c.requires.count, (c.moves-moves.ensures.kept).few)) c.requires.count c.loop-i.i
-    (omega (arith, c.loop-i-test.false, c.moves-moves.ensures.value)) c.loop-i.board.laid.items c.loop-i.board.numbers.items c.deref.result.now
-    c.loop-i.invariant.to c.loop-i.board.width c.loop-i.invariant.width c.deref.ensures.0 c.close.new.tiling c.close.ensures
+    (omega (arith, c.loop-i-test.false, c.moves-moves.ensures.value)) c.loop-i.laying.laid.items c.loop-i.laying.numbers.items c.deref.result.now
+    c.loop-i.invariant.to c.loop-i.laying.width c.loop-i.invariant.width c.deref.ensures.0 c.close.new.tiling c.close.ensures
 
 pub returns-clause-only : goal.returns-clause-only
 returns-clause-only c u l = laid_once c.args.skel.now c.args.sides.now c.close.new.tiling u
     (end_is c.args.skel.now c.requires.closed c.args.sides.now c.requires.sides
     (omega (arith, c.requires.count, (c.moves-moves.ensures.kept).few)) c.requires.count c.loop-i.i
-    (omega (arith, c.loop-i-test.false, c.moves-moves.ensures.value)) c.loop-i.board.laid.items c.loop-i.board.numbers.items c.deref.result.now
-    c.loop-i.invariant.to c.loop-i.board.width c.loop-i.invariant.width c.deref.ensures.0 c.close.new.tiling c.close.ensures) l
+    (omega (arith, c.loop-i-test.false, c.moves-moves.ensures.value)) c.loop-i.laying.laid.items c.loop-i.laying.numbers.items c.deref.result.now
+    c.loop-i.invariant.to c.loop-i.laying.width c.loop-i.invariant.width c.deref.ensures.0 c.close.new.tiling c.close.ensures) l
 
 pub sum_of-width-requires-clause-few : goal.sum_of-width-requires-clause-few
 sum_of-width-requires-clause-few c = grind (arith, common_steps)

@@ -1,7 +1,7 @@
 use Rattle.std.proofs.Common.{refl}
 use Rattle.std.proofs.lemmas.Bool.{both_ways}
 use Rattle.bk_word_net.proofs.PlacedSquares.WordTilings.{none_by, realised_by, sides_many}
-use Rattle.bk_skel.proofs.WideWords.{large_by, large_from}
+use Rattle.bk_skel.proofs.WideWords.{large_by, not_large}
 use Rattle.bk_skel.specs.RealisedIn.{tiling_found}
 use Rattle.bk_skel.proofs.realising.realised.Goals as goal
 
@@ -24,10 +24,7 @@ returns-in-Some-clause-realised c = realised_by c.args.skel.now c.requires.close
 pub returns-in-Some-clause-wide : goal.returns-in-Some-clause-wide
 returns-in-Some-clause-wide c = (
   λ e. absurd (both_ways _ refl e),
-  λ h. absurd
-      (both_ways c.has_large.result c.if-has_large.false (c.has_large.ensures.1
-      (large_from c.args.skel.now c.args.flow.now.total c.args.flow.now.currents c.requires.flow c.currents-currents.result.now
-      c.currents-currents.ensures.value h))),
+  λ h. absurd (not_large c.args.skel.now c.requires.flow c.currents-currents.ensures.value c.if-has_large.false c.has_large.ensures.1 h),
 )
 
 pub returns-in-None-clause-realised : goal.returns-in-None-clause-realised
@@ -37,8 +34,5 @@ returns-in-None-clause-realised c = none_by c.args.skel.now c.requires.closed c.
 pub returns-in-None-clause-wide : goal.returns-in-None-clause-wide
 returns-in-None-clause-wide c = (
   λ e. absurd (both_ways _ refl e),
-  λ h. absurd
-      (both_ways c.has_large.result c.if-has_large.false (c.has_large.ensures.1
-      (large_from c.args.skel.now c.args.flow.now.total c.args.flow.now.currents c.requires.flow c.currents-currents.result.now
-      c.currents-currents.ensures.value h))),
+  λ h. absurd (not_large c.args.skel.now c.requires.flow c.currents-currents.ensures.value c.if-has_large.false c.has_large.ensures.1 h),
 )

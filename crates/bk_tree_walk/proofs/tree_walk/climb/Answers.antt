@@ -7,23 +7,14 @@ use Rattle.bk_tree_walk.proofs.tree_walk.climb.Goals as goal
 pub returns-then-moves-eq0-clause-on : goal.returns-then-moves-eq0-clause-on
 returns-then-moves-eq0-clause-on c = λ e. absurd (true≢false (sym e))
 
-pub next_move-requires-clause-count : goal.next_move-requires-clause-count
-next_move-requires-clause-count c =
+pub next_move-requires : goal.next_move-requires
+next_move-requires c =
     let was = taken_last c.args.lined.now c.pop.new.self c.read_move.new.m c.moves-moves.result
     (c.moves-moves.ensures.value ∙ ap length c.skel.ensures.value) (omega (arith, c.if-moves-eq0.false))
     (ap (λ (w : Word). slice_get w (c.moves-moves.result - 1)) (sym c.skel-2.ensures.value) ∙ c.read_move.ensures) c.pop.ensures in
     let last : IsLastMove c.pop.new.self c.read_move.new.m =
     last_move c.args.lined.now c.pop.new.self c.read_move.new.m c.skel.ensures.legal c.requires.small was in
-    omega (arith, last.count)
-
-pub next_move-requires-clause-signs : goal.next_move-requires-clause-signs
-next_move-requires-clause-signs c =
-    let was = taken_last c.args.lined.now c.pop.new.self c.read_move.new.m c.moves-moves.result
-    (c.moves-moves.ensures.value ∙ ap length c.skel.ensures.value) (omega (arith, c.if-moves-eq0.false))
-    (ap (λ (w : Word). slice_get w (c.moves-moves.result - 1)) (sym c.skel-2.ensures.value) ∙ c.read_move.ensures) c.pop.ensures in
-    let last : IsLastMove c.pop.new.self c.read_move.new.m =
-    last_move c.args.lined.now c.pop.new.self c.read_move.new.m c.skel.ensures.legal c.requires.small was in
-    omega (arith, last.signs)
+    record { count = omega (arith, last.count); signs = omega (arith, last.signs) }
 
 pub returns-clause-on : goal.returns-clause-on
 returns-clause-on c _ = record {

@@ -1,11 +1,10 @@
-use Rattle.std.proofs.Common.{[], ap, le_of_eq, subst, sym, ℕ, ◌∙◌, ◌≤◌}
-use Rattle.std.proofs.lemmas.Result.{err_from_is_err_and}
-use Rattle.bk_laws.proofs.Outcomes.{on_err-intro}
-use Rattle.bk_ports.specs.Causes.{HasCause}
+use Rattle.std.proofs.Common.{[], ap, subst, sym, ℕ, ◌∙◌, ◌≤◌}
+use Rattle.bk_laws.proofs.Outcomes.{if_ok-of_error, on_err-intro}
 use Rattle.bk_report.specs.ListLines.{verified_line}
-use Rattle.bk_report.specs.declared.listing.Last.TheVariants.{End}
+use Rattle.bk_report.specs.declared.listing_lines.Last.TheVariants.{End}
 use Rattle.bk_verify_report.proofs.LeftBehind.{closes_report, closing_begun, closing_broken, end_limit, end_wide, lacking}
 use Rattle.bk_verify_report.specs.ReportEnd.{kept_of_rest}
+use Rattle.bk_answer.proofs.Failing.{cause-of_error, cause-of_error_later, cause-of_same}
 use Rattle.bk_verify_report.proofs.closing.close_rest.Goals as goal
 
 pub returns-in_err-missing-clause-begun : goal.returns-in_err-missing-clause-begun
@@ -38,32 +37,26 @@ returns-clause-closed g c =
 
 pub returns-in_err-missing-clause-closed : goal.returns-in_err-missing-clause-closed
 returns-in_err-missing-clause-closed g c =
-    let p = err_from_is_err_and c.from_residual.result c.from_residual.ensures.1 in
-    rw p.1 tt
+    if_ok-of_error _ c.from_residual.result _ c.from_residual.ensures.1
 
 pub returns-in_err-missing-clause-cause : goal.returns-in_err-missing-clause-cause
 returns-in_err-missing-clause-cause g c =
-    let p = err_from_is_err_and c.from_residual.result c.from_residual.ensures.1 in
-    rw p.1 (record { later = c.in_err-missing.ensures.cause.later; ok = tt; failed = c.in_err-missing.ensures.cause.failed })
+    cause-of_error _ c.from_residual.result c.from_residual.ensures.1 c.in_err-missing.ensures.cause
 
 pub returns-in_err-write_all-clause-closed : goal.returns-in_err-write_all-clause-closed
 returns-in_err-write_all-clause-closed g c =
-    let p = err_from_is_err_and c.from_residual-in_err-write_all.result c.from_residual-in_err-write_all.ensures.1 in
-    rw p.1 tt
+    if_ok-of_error _ c.from_residual-in_err-write_all.result _ c.from_residual-in_err-write_all.ensures.1
 
 pub returns-in_err-write_all-clause-cause : goal.returns-in_err-write_all-clause-cause
 returns-in_err-write_all-clause-cause g c =
-    let r = c.from_residual-in_err-write_all.result in
-    let p = err_from_is_err_and r c.from_residual-in_err-write_all.ensures.1 in
-    let cause = c.in_err-write_all.ensures.cause in
-    subst (λ (k : ℕ). HasCause k (g.O.Sink.faults c.write_all.new.self) r) c.in_ok-missing.ensures.cause.ok
-    (rw p.1 (record { later = cause.later; ok = tt; failed = cause.failed }))
+    cause-of_error_later _ c.from_residual-in_err-write_all.result c.from_residual-in_err-write_all.ensures.1
+    c.in_ok-missing.ensures.cause.ok c.in_err-write_all.ensures.cause
 
 pub returns-clause-cause : goal.returns-clause-cause
 returns-clause-cause g c =
     let cause = c.in_ok-write_all.ensures.cause in
     let same = cause.ok ∙ c.in_ok-missing.ensures.cause.ok in
-    record { later = le_of_eq (sym same); ok = same; failed = tt }
+    cause-of_same same
 
 pub write_missing_members-requires-clause-most : goal.write_missing_members-requires-clause-most
 write_missing_members-requires-clause-most g c = subst (λ (k : ℕ). k ≤ 16) (sym c.requires.order) c.requires.most

@@ -1,9 +1,8 @@
-use Rattle.std.proofs.Common.{arith, le_of_eq, subst, sym, ℕ, ◌∙◌}
-use Rattle.std.proofs.lemmas.Result.{err_from_is_err_and}
-use Rattle.bk_laws.proofs.Outcomes.{on_err-intro}
-use Rattle.bk_ports.specs.Causes.{HasCause}
+use Rattle.std.proofs.Common.{arith, ◌∙◌}
+use Rattle.bk_laws.proofs.Outcomes.{if_ok-of_error, on_err-intro}
 use Rattle.bk_verify_report.proofs.MissingListed.{word_some}
 use Rattle.bk_verify_report.proofs.Listing.{kept_behind, listing_broken, listing_end, listing_more, listing_none, none_behind}
+use Rattle.bk_answer.proofs.Failing.{cause-of_error_later, cause-of_same}
 use Rattle.bk_verify_report.proofs.closing.write_missing_members.Goals as goal
 
 pub members-init : goal.members-init
@@ -64,26 +63,19 @@ returns-clause-order g c = c.advance_in.ensures.order ∙ c.members.invariant.or
 
 pub returns-in_err-write_missing_entry-clause-listed : goal.returns-in_err-write_missing_entry-clause-listed
 returns-in_err-write_missing_entry-clause-listed g c =
-    let p = err_from_is_err_and c.from_residual.result c.from_residual.ensures.1 in
-    rw p.1 tt
+    if_ok-of_error _ c.from_residual.result _ c.from_residual.ensures.1
 
 pub returns-in_err-write_missing_entry-clause-all : goal.returns-in_err-write_missing_entry-clause-all
 returns-in_err-write_missing_entry-clause-all g c =
-    let p = err_from_is_err_and c.from_residual.result c.from_residual.ensures.1 in
-    rw p.1 tt
+    if_ok-of_error _ c.from_residual.result _ c.from_residual.ensures.1
 
 pub returns-in_err-write_missing_entry-clause-ended : goal.returns-in_err-write_missing_entry-clause-ended
 returns-in_err-write_missing_entry-clause-ended g c =
-    let p = err_from_is_err_and c.from_residual.result c.from_residual.ensures.1 in
-    rw p.1 tt
+    if_ok-of_error _ c.from_residual.result _ c.from_residual.ensures.1
 
 pub returns-in_err-write_missing_entry-clause-cause : goal.returns-in_err-write_missing_entry-clause-cause
 returns-in_err-write_missing_entry-clause-cause g c =
-    let r = c.from_residual.result in
-    let p = err_from_is_err_and r c.from_residual.ensures.1 in
-    let cause = c.in_err-write_missing_entry.ensures.cause in
-    subst (λ (k : ℕ). HasCause k (g.O.Sink.faults c.write_missing_entry.new.out) r) c.members.invariant.faults
-    (rw p.1 (record { later = cause.later; ok = tt; failed = cause.failed }))
+    cause-of_error_later _ c.from_residual.result c.from_residual.ensures.1 c.members.invariant.faults c.in_err-write_missing_entry.ensures.cause
 
 pub returns-in_err-write_missing_entry-clause-order : goal.returns-in_err-write_missing_entry-clause-order
 returns-in_err-write_missing_entry-clause-order g c = c.advance_in.ensures.order ∙ c.members.invariant.order
@@ -92,6 +84,4 @@ pub members-smaller : goal.members-smaller
 members-smaller g c = let few = c.members.invariant.listed.few in omega (arith, few)
 
 pub returns-clause-cause : goal.returns-clause-cause
-returns-clause-cause g c =
-    let same = c.members.invariant.faults in
-    record { later = le_of_eq (sym same); ok = same; failed = tt }
+returns-clause-cause g c = cause-of_same c.members.invariant.faults

@@ -1,13 +1,13 @@
-use Rattle.std.proofs.Common.{arith, false, le_of_eq, lit<, refl, subst, ◌+◌, ◌∙◌}
+use Rattle.std.proofs.Common.{arith, false, lit<, refl, subst, ◌+◌, ◌∙◌}
 use Rattle.std.proofs.KnownBytes.{Keeps-refl}
-use Rattle.std.proofs.lemmas.Result.{err_from_is_err_and}
-use Rattle.bk_laws.proofs.Outcomes.{on_err-intro}
+use Rattle.bk_laws.proofs.Outcomes.{if_ok-of_error, on_err-intro}
 use Rattle.bk_report.specs.ListLines.{foreign_line, repeats_line}
 use Rattle.bk_verify_report.specs.KeptEntries.{IsFed}
 use Rattle.bk_verify_report.specs.declared.entries.Fed.{Fed}
 use Rattle.bk_verify_report.specs.declared.entries.Fed.TheVariants.{Foreign, New, Repeats}
 use Rattle.bk_verify_report.proofs.Entered.{begun_one, written_none, written_one}
 use Rattle.bk_verify_report.specs.ListLine.{feeds}
+use Rattle.bk_answer.proofs.Failing.{cause-of_error, cause-of_same}
 use Rattle.bk_verify_report.proofs.entering.feed.Goals as goal
 
 pub returns-in-Ok-New-clause-outcome : goal.returns-in-Ok-New-clause-outcome
@@ -61,7 +61,7 @@ returns-in_err-write_all-in-Ok-Foreign-clause-failed g c =
     c.in_err-write_all-in-Ok-Foreign.ensures.err)
 
 pub returns-in-Err-clause-cause : goal.returns-in-Err-clause-cause
-returns-in-Err-clause-cause g c = record { later = le_of_eq refl; ok = refl; failed = tt }
+returns-in-Err-clause-cause g c = cause-of_same refl
 
 pub returns-in-Err-clause-ready : goal.returns-in-Err-clause-ready
 returns-in-Err-clause-ready g c =
@@ -69,7 +69,7 @@ returns-in-Err-clause-ready g c =
     record { foreign = omega (arith, ready.foreign); repeated = omega (arith, ready.repeated); refused = omega (arith, ready.refused) }
 
 pub returns-in-Ok-New-clause-cause : goal.returns-in-Ok-New-clause-cause
-returns-in-Ok-New-clause-cause g c = record { later = le_of_eq refl; ok = refl; failed = tt }
+returns-in-Ok-New-clause-cause g c = cause-of_same refl
 
 pub returns-in-Ok-New-clause-ready : goal.returns-in-Ok-New-clause-ready
 returns-in-Ok-New-clause-ready g c =
@@ -78,23 +78,18 @@ returns-in-Ok-New-clause-ready g c =
 
 pub returns-in_err-write_all-in-Ok-Repeats-clause-outcome : goal.returns-in_err-write_all-in-Ok-Repeats-clause-outcome
 returns-in_err-write_all-in-Ok-Repeats-clause-outcome g c =
-    let p = err_from_is_err_and c.from_residual.result c.from_residual.ensures.1 in
-    rw p.1 tt
+    if_ok-of_error _ c.from_residual.result _ c.from_residual.ensures.1
 
 pub returns-in_err-write_all-in-Ok-Repeats-clause-cause : goal.returns-in_err-write_all-in-Ok-Repeats-clause-cause
 returns-in_err-write_all-in-Ok-Repeats-clause-cause g c =
-    let p = err_from_is_err_and c.from_residual.result c.from_residual.ensures.1 in
-    rw p.1 (record { later = c.in_err-write_all-in-Ok-Repeats.ensures.cause.later; ok = tt; failed = c.in_err-write_all-in-Ok-Repeats.ensures.cause.failed })
+    cause-of_error _ c.from_residual.result c.from_residual.ensures.1 c.in_err-write_all-in-Ok-Repeats.ensures.cause
 
 pub returns-in_err-write_all-in-Ok-Repeats-clause-ready : goal.returns-in_err-write_all-in-Ok-Repeats-clause-ready
 returns-in_err-write_all-in-Ok-Repeats-clause-ready g c =
-    let p = err_from_is_err_and c.from_residual.result c.from_residual.ensures.1 in
-    rw p.1 tt
+    if_ok-of_error _ c.from_residual.result _ c.from_residual.ensures.1
 
 pub returns-in_ok-write_all-in-Ok-Repeats-clause-cause : goal.returns-in_ok-write_all-in-Ok-Repeats-clause-cause
-returns-in_ok-write_all-in-Ok-Repeats-clause-cause g c =
-    let cause = c.in_ok-write_all-in-Ok-Repeats.ensures.cause in
-    record { later = cause.later; ok = cause.ok; failed = tt }
+returns-in_ok-write_all-in-Ok-Repeats-clause-cause g c = cause-of_same c.in_ok-write_all-in-Ok-Repeats.ensures.cause.ok
 
 pub returns-in_ok-write_all-in-Ok-Repeats-clause-ready : goal.returns-in_ok-write_all-in-Ok-Repeats-clause-ready
 returns-in_ok-write_all-in-Ok-Repeats-clause-ready g c =
@@ -106,23 +101,19 @@ overflow_add-state g c = omega (arith, c.requires.early, c.requires.ready.repeat
 
 pub returns-in_err-write_all-in-Ok-Foreign-clause-outcome : goal.returns-in_err-write_all-in-Ok-Foreign-clause-outcome
 returns-in_err-write_all-in-Ok-Foreign-clause-outcome g c =
-    let p = err_from_is_err_and c.from_residual-in_err-write_all-in-Ok-Foreign.result c.from_residual-in_err-write_all-in-Ok-Foreign.ensures.1 in
-    rw p.1 tt
+    if_ok-of_error _ c.from_residual-in_err-write_all-in-Ok-Foreign.result _ c.from_residual-in_err-write_all-in-Ok-Foreign.ensures.1
 
 pub returns-in_err-write_all-in-Ok-Foreign-clause-cause : goal.returns-in_err-write_all-in-Ok-Foreign-clause-cause
 returns-in_err-write_all-in-Ok-Foreign-clause-cause g c =
-    let p = err_from_is_err_and c.from_residual-in_err-write_all-in-Ok-Foreign.result c.from_residual-in_err-write_all-in-Ok-Foreign.ensures.1 in
-    rw p.1 (record { later = c.in_err-write_all-in-Ok-Foreign.ensures.cause.later; ok = tt; failed = c.in_err-write_all-in-Ok-Foreign.ensures.cause.failed })
+    cause-of_error _ c.from_residual-in_err-write_all-in-Ok-Foreign.result c.from_residual-in_err-write_all-in-Ok-Foreign.ensures.1
+    c.in_err-write_all-in-Ok-Foreign.ensures.cause
 
 pub returns-in_err-write_all-in-Ok-Foreign-clause-ready : goal.returns-in_err-write_all-in-Ok-Foreign-clause-ready
 returns-in_err-write_all-in-Ok-Foreign-clause-ready g c =
-    let p = err_from_is_err_and c.from_residual-in_err-write_all-in-Ok-Foreign.result c.from_residual-in_err-write_all-in-Ok-Foreign.ensures.1 in
-    rw p.1 tt
+    if_ok-of_error _ c.from_residual-in_err-write_all-in-Ok-Foreign.result _ c.from_residual-in_err-write_all-in-Ok-Foreign.ensures.1
 
 pub returns-in_ok-write_all-in-Ok-Foreign-clause-cause : goal.returns-in_ok-write_all-in-Ok-Foreign-clause-cause
-returns-in_ok-write_all-in-Ok-Foreign-clause-cause g c =
-    let cause = c.in_ok-write_all-in-Ok-Foreign.ensures.cause in
-    record { later = cause.later; ok = cause.ok; failed = tt }
+returns-in_ok-write_all-in-Ok-Foreign-clause-cause g c = cause-of_same c.in_ok-write_all-in-Ok-Foreign.ensures.cause.ok
 
 pub returns-in_ok-write_all-in-Ok-Foreign-clause-ready : goal.returns-in_ok-write_all-in-Ok-Foreign-clause-ready
 returns-in_ok-write_all-in-Ok-Foreign-clause-ready g c =

@@ -2,9 +2,6 @@ use Rattle.std.proofs.Common.{List, [], ap, arith, get_or, length, lit<, map, sy
 use Rattle.std.proofs.lemmas.List.{length-map, length-take-le, map_push, take_all, take_more}
 use Rattle.bk_verify_report.proofs.kept.flat_of.Goals as goal
 
-pub returns-clause-width : goal.returns-clause-width
-returns-clause-width c = c.width.ensures.value
-
 -- one more of a list is pushed
 pushed_more : {A B : Type 0} (xs : List A) (k : ℕ) (d : A) (f : A → B) (old new : List B) → k < length xs → new ≡ old ++ f (get_or xs k d) ∷ []
     → old ≡ map f (take k xs) → new ≡ map f (take (k + 1) xs)
@@ -21,13 +18,14 @@ loop-q-preserved c =
     pushed_more c.squares-q-items.result.now c.loop-q.q-index _ (λ q. q.s) c.loop-q.sides.items c.push.new.self.items c.loop-q-test.true
     c.push.ensures.items c.loop-q.invariant
 
-pub returns-clause-sides : goal.returns-clause-sides
-returns-clause-sides c =
-    pushed_all c.squares-q-items.result.now c.args.tiling.now.squares c.loop-q.q-index (λ q. q.s) c.loop-q.sides.items c.loop-q-test.false
-    c.squares-q-items.ensures.value c.loop-q.invariant
-
-pub returns-clause-tiling : goal.returns-clause-tiling
-returns-clause-tiling c = c.squares-q-items.ensures.kept.tiling
+pub returns : goal.returns
+returns c = record {
+  tiling = c.squares-q-items.ensures.kept.tiling;
+  width = c.width.ensures.value;
+  sides =
+      pushed_all c.squares-q-items.result.now c.args.tiling.now.squares c.loop-q.q-index (λ q. q.s) c.loop-q.sides.items c.loop-q-test.false
+      c.squares-q-items.ensures.value c.loop-q.invariant;
+}
 
 pub new-sides-requires : goal.new-sides-requires
 new-sides-requires c = lit< tt

@@ -1,4 +1,4 @@
-use Rattle.std.proofs.Common.{List, [], ap, get_or, length, sym, take, ℕ, ◌++◌, ◌+◌, ◌<◌, ◌∙◌, ◌∷◌, ◌≡◌}
+use Rattle.std.proofs.Common.{List, [], ap, get_or, length, refl, sym, take, ℕ, ◌++◌, ◌+◌, ◌<◌, ◌∙◌, ◌∷◌, ◌≡◌}
 use Rattle.std.proofs.lemmas.List.{take_all, take_more}
 use Rattle.bk_verify_report.proofs.kept.seen_on.Goals as goal
 
@@ -12,6 +12,9 @@ loop-q-preserved c =
     pushed_more c.squares-q-items.result.now c.loop-q.q-index _ c.loop-q.squares.items c.push.new.self.items c.loop-q-test.true
     c.push.ensures.items c.loop-q.invariant
 
-pub returns-clause-squares : goal.returns-clause-squares
-returns-clause-squares c =
-    c.loop-q.invariant ∙ take_all c.loop-q.q-index c.squares-q-items.result.now c.loop-q-test.false ∙ c.squares-q-items.ensures.value
+pub returns : goal.returns
+returns c = record {
+  on = refl;
+  height = c.height.ensures.value;
+  squares = c.loop-q.invariant ∙ take_all c.loop-q.q-index c.squares-q-items.result.now c.loop-q-test.false ∙ c.squares-q-items.ensures.value;
+}

@@ -2,7 +2,8 @@ use Rattle.std.proofs.Common.{ap, arith, length, refl, ◌<◌}
 use Rattle.bk_word.specs.Word.{order_of}
 use Rattle.bk_tree_walk.proofs.SearchLoop.{counts_none}
 use Rattle.bk_tree_walk.proofs.SearchTurns.{stays_then}
-use Rattle.bk_walk.proofs.GoingTo.{going_by, going_next, is_there, played_each, played_goes, played_nearer, played_stays}
+use Rattle.bk_walk.proofs.GoingTo.{IsNextTo, going_by, going_next, is_there, played_each, played_goes, played_nearer, played_stays}
+use Rattle.bk_walk.proofs.leaping.go_to.Goals.{After-read_next}
 use Rattle.bk_walk.proofs.leaping.go_to.Goals as goal
 
 pub moves-init : goal.moves-init
@@ -20,37 +21,33 @@ read_next-requires g c =
     going_by c.args.tree.now.order c.moves.tree c.args.number c.moves.invariant.goes c.moves.invariant.stays.order c.skel-in-moves.ensures.kept
     c.skel-in-moves.result.now c.skel-in-moves.ensures.value few
 
-pub play-requires-clause-legal : goal.play-requires-clause-legal
-play-requires-clause-legal g c =
+-- the move that was read leads on to the word
+next_move : (g : _) (c : After-read_next g) → IsNextTo c.args.tree.now.order c.moves.tree.front c.args.number c.read_next.new.m
+next_move g c =
     let few : order_of c.moves.tree.front < c.args.tree.now.order =
     omega (arith, c.moves-test.true, c.order-in-moves.ensures.value, ap order_of c.skel.ensures.value, c.moves.invariant.ordered) in
-    let next = going_next c.args.tree.now.order c.moves.tree c.args.number c.moves.invariant.goes c.moves.invariant.stays.order
-    c.skel-in-moves.ensures.kept c.skel-in-moves.result.now c.skel-in-moves.ensures.value few c.read_next.new.m c.read_next.ensures in
+    going_next c.args.tree.now.order c.moves.tree c.args.number c.moves.invariant.goes c.moves.invariant.stays.order
+    c.skel-in-moves.ensures.kept c.skel-in-moves.result.now c.skel-in-moves.ensures.value few c.read_next.new.m c.read_next.ensures
+
+pub play-requires-clause-legal : goal.play-requires-clause-legal
+play-requires-clause-legal g c =
+    let next = next_move g (goal.at.play-requires-clause-legal g c).After-read_next in
     next.legal
 
 pub play-requires-clause-few : goal.play-requires-clause-few
 play-requires-clause-few g c =
-    let few : order_of c.moves.tree.front < c.args.tree.now.order =
-    omega (arith, c.moves-test.true, c.order-in-moves.ensures.value, ap order_of c.skel.ensures.value, c.moves.invariant.ordered) in
-    let next = going_next c.args.tree.now.order c.moves.tree c.args.number c.moves.invariant.goes c.moves.invariant.stays.order
-    c.skel-in-moves.ensures.kept c.skel-in-moves.result.now c.skel-in-moves.ensures.value few c.read_next.new.m c.read_next.ensures in
+    let next = next_move g (goal.at.play-requires-clause-few g c).After-read_next in
     omega (arith, next.few, c.moves.invariant.stays.order)
 
 pub moves-smaller : goal.moves-smaller
 moves-smaller g c =
-    let few : order_of c.moves.tree.front < c.args.tree.now.order =
-    omega (arith, c.moves-test.true, c.order-in-moves.ensures.value, ap order_of c.skel.ensures.value, c.moves.invariant.ordered) in
-    let next = going_next c.args.tree.now.order c.moves.tree c.args.number c.moves.invariant.goes c.moves.invariant.stays.order
-    c.skel-in-moves.ensures.kept c.skel-in-moves.result.now c.skel-in-moves.ensures.value few c.read_next.new.m c.read_next.ensures in
+    let next = next_move g (goal.at.moves-smaller g c).After-read_next in
     played_nearer c.moves.tree c.play.new.self c.read_next.new.m c.play.ensures.state c.args.tree.now.order c.args.number
     c.moves.invariant.stays.order next
 
 pub moves-preserved : goal.moves-preserved
 moves-preserved g c =
-    let few : order_of c.moves.tree.front < c.args.tree.now.order =
-    omega (arith, c.moves-test.true, c.order-in-moves.ensures.value, ap order_of c.skel.ensures.value, c.moves.invariant.ordered) in
-    let next = going_next c.args.tree.now.order c.moves.tree c.args.number c.moves.invariant.goes c.moves.invariant.stays.order
-    c.skel-in-moves.ensures.kept c.skel-in-moves.result.now c.skel-in-moves.ensures.value few c.read_next.new.m c.read_next.ensures in
+    let next = next_move g (goal.at.moves-preserved g c).After-read_next in
     record {
       goes = played_goes c.moves.tree c.play.new.self c.read_next.new.m c.play.ensures.state c.args.tree.now.order c.args.number next;
       ordered = c.moves.invariant.ordered;

@@ -7,24 +7,21 @@ use Rattle.bk_walk.proofs.search.step.Goals as goal
 pub go_on-requires : goal.go_on-requires
 go_on-requires g c = (search tests, c.in-None.ensures.settles.0)
 
-pub returns-in-Some-clause-leads : goal.returns-in-Some-clause-leads
-returns-in-Some-clause-leads g c = settled_leads c.args.tree.now c.settle.new.self c.in-Some.went c.args.steps.now c.in-Some.ensures.settles
+pub returns-in-Some : goal.returns-in-Some
+returns-in-Some g c = record {
+  leads = settled_leads c.args.tree.now c.settle.new.self c.in-Some.went c.args.steps.now c.in-Some.ensures.settles;
+  member = λ met. absurd (settled_unmet c.args.tree.now c.settle.new.self c.in-Some.went c.in-Some.ensures.settles met);
+  stays = c.in-Some.ensures.stays c.args.steps.now;
+}
 
-pub returns-in-Some-clause-member : goal.returns-in-Some-clause-member
-returns-in-Some-clause-member g c = λ met. absurd (settled_unmet c.args.tree.now c.settle.new.self c.in-Some.went c.in-Some.ensures.settles met)
-
-pub returns-in-Some-clause-stays : goal.returns-in-Some-clause-stays
-returns-in-Some-clause-stays g c = c.in-Some.ensures.stays c.args.steps.now
-
-pub returns-in-None-clause-leads : goal.returns-in-None-clause-leads
-returns-in-None-clause-leads g c = c.in-None.ensures.settles.1 c.go_on.new.tree _ c.go_on.result c.go_on.ensures.leads
-
-pub returns-in-None-clause-member : goal.returns-in-None-clause-member
-returns-in-None-clause-member g c = λ met.
+pub returns-in-None : goal.returns-in-None
+returns-in-None g c =
     let stays = c.in-None.ensures.stays c.args.steps.now in
-    same_entry c.args.tree.now.order c.settle.new.self.order c.args.tree.now.class c.settle.new.self.class c.go_on.new.tree.front c.go_on.new.tree.front
-    c.go_on.new.tiling stays.order stays.class refl (c.go_on.ensures.member met)
-
-pub returns-in-None-clause-stays : goal.returns-in-None-clause-stays
-returns-in-None-clause-stays g c = stays_then c.args.tree.now c.settle.new.self c.go_on.new.tree c.args.steps.now c.args.steps.now c.go_on.new.steps
-    (c.in-None.ensures.stays c.args.steps.now) c.go_on.ensures.stays
+    record {
+      leads = c.in-None.ensures.settles.1 c.go_on.new.tree _ c.go_on.result c.go_on.ensures.leads;
+      member = λ met.
+          same_entry c.args.tree.now.order c.settle.new.self.order c.args.tree.now.class c.settle.new.self.class c.go_on.new.tree.front
+          c.go_on.new.tree.front c.go_on.new.tiling stays.order stays.class refl (c.go_on.ensures.member met);
+      stays = stays_then c.args.tree.now c.settle.new.self c.go_on.new.tree c.args.steps.now c.args.steps.now c.go_on.new.steps stays
+          c.go_on.ensures.stays;
+    }

@@ -8,7 +8,7 @@ use Rattle.bk_word.specs.declared.Sign.TheVariants.{Above, Even}
 use Rattle.bk_walk_cuts.proofs.barren.first_even.Goals as goal
 
 pub overflow_add-end : goal.overflow_add-end
-overflow_add-end c = omega (arith, c.from.ensures, c.requires.from, c.from.type_inv)
+overflow_add-end c = omega (arith, c.from.ensures, c.requires, c.from.type_inv)
 
 pub as_slice-sign-items-requires : goal.as_slice-sign-items-requires
 as_slice-sign-items-requires c = lit< tt

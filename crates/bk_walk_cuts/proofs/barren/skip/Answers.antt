@@ -1,50 +1,37 @@
-use Rattle.std.proofs.Common.{subst, ap, arith, length, sym, true≢false, ◌<◌, ◌∙◌, ◌≤◌}
-use Rattle.bk_word.specs.Word.{Move, Word, order_of}
-use Rattle.bk_walk_cuts.specs.MoveCuts.{IsCut, GrowsByAtMostOne}
-use Rattle.bk_word.specs.Outline.{IsLegalMove}
-use Rattle.bk_word.specs.Play.{outline_of}
+-- A move is passed over with those that begin with as many of its signs as are found.
+use Rattle.std.proofs.Common.{arith, refl, subst, sym, true≢false}
+use Rattle.bk_word.specs.Word.{Move}
+use Rattle.bk_walk_cuts.proofs.CutLaws.{after_near, near_itself}
+use Rattle.bk_walk_cuts.specs.MoveCuts.{GrowsByAtMostOne, IsCut}
 use Rattle.bk_walk_cuts.proofs.barren.skip.Goals as goal
 
-pub returns-then-skip_by_signs-clause-cut : goal.returns-then-skip_by_signs-clause-cut
-returns-then-skip_by_signs-clause-cut c _ = subst (λ (w : Word). IsCut c.args.order c.args.class w c.args.m.now c.skip_by_signs.new.m)
-    c.skel.ensures.value (c.skip_by_signs.ensures.cut c.if-skip_by_signs.true)
+pub cut_front-requires-clause-legal : goal.cut_front-requires-clause-legal
+cut_front-requires-clause-legal c = c.requires.legal
 
-pub returns-clause-cut : goal.returns-clause-cut
-returns-clause-cut c passes = subst (λ (m : Move). IsCut c.args.order c.args.class c.args.lined.now m c.skip_by_sides.new.m)
-    (c.skip_by_signs.ensures.kept c.if-skip_by_signs.false) (c.skip_by_sides.ensures.cut passes c.args.order)
+pub cut_front-requires-clause-small : goal.cut_front-requires-clause-small
+cut_front-requires-clause-small c = c.requires.small
 
-pub skip_by_signs-requires-clause-legal : goal.skip_by_signs-requires-clause-legal
-skip_by_signs-requires-clause-legal c = subst (λ (w : Word). IsLegalMove (outline_of w) c.args.m.now) (sym c.skel.ensures.value) c.requires.legal
+pub pass-requires-clause-count : goal.pass-requires-clause-count
+pass-requires-clause-count c = omega (arith, c.requires.count)
 
-pub skip_by_signs-requires-clause-count : goal.skip_by_signs-requires-clause-count
-skip_by_signs-requires-clause-count c = c.requires.count
+pub pass-requires-clause-signs : goal.pass-requires-clause-signs
+pass-requires-clause-signs c = c.requires.signs
 
-pub skip_by_signs-requires-clause-signs : goal.skip_by_signs-requires-clause-signs
-skip_by_signs-requires-clause-signs c = c.requires.signs
+pub returns-in-Some-clause-cut : goal.returns-in-Some-clause-cut
+returns-in-Some-clause-cut c _ =
+    subst (λ (next : Move). IsCut c.args.order c.args.class c.args.lined.now c.args.m.now next) (sym c.pass.ensures) c.in-Some.ensures
 
-pub skip_by_signs-requires-clause-small : goal.skip_by_signs-requires-clause-small
-skip_by_signs-requires-clause-small c = omega (arith, c.requires.small, ap order_of c.skel.ensures.value)
+pub returns-in-Some-clause-near : goal.returns-in-Some-clause-near
+returns-in-Some-clause-near c = subst (GrowsByAtMostOne c.args.m.now) (sym c.pass.ensures) (after_near c.in-Some.kept c.args.m.now)
 
-pub returns-then-skip_by_signs-clause-near : goal.returns-then-skip_by_signs-clause-near
-returns-then-skip_by_signs-clause-near c = c.skip_by_signs.ensures.near
+pub returns-in-Some-clause-kept : goal.returns-in-Some-clause-kept
+returns-in-Some-clause-kept c e = absurd (true≢false e)
 
-pub returns-then-skip_by_signs-clause-kept : goal.returns-then-skip_by_signs-clause-kept
-returns-then-skip_by_signs-clause-kept c e = absurd (true≢false e)
+pub returns-in-None-clause-cut : goal.returns-in-None-clause-cut
+returns-in-None-clause-cut c e = absurd (true≢false (sym e))
 
-pub skip_by_sides-requires-clause-legal : goal.skip_by_sides-requires-clause-legal
-skip_by_sides-requires-clause-legal c = subst (λ (m : Move). IsLegalMove (outline_of c.args.lined.now) m)
-    (sym (c.skip_by_signs.ensures.kept c.if-skip_by_signs.false)) c.requires.legal
+pub returns-in-None-clause-near : goal.returns-in-None-clause-near
+returns-in-None-clause-near c = near_itself c.args.m.now
 
-pub skip_by_sides-requires-clause-count : goal.skip_by_sides-requires-clause-count
-skip_by_sides-requires-clause-count c = subst (λ (m : Move). m.count < 17) (sym (c.skip_by_signs.ensures.kept c.if-skip_by_signs.false)) c.requires.count
-
-pub skip_by_sides-requires-clause-signs : goal.skip_by_sides-requires-clause-signs
-skip_by_sides-requires-clause-signs c =
-    subst (λ (m : Move). length m.signs ≤ 18) (sym (c.skip_by_signs.ensures.kept c.if-skip_by_signs.false)) c.requires.signs
-
-pub returns-clause-near : goal.returns-clause-near
-returns-clause-near c = subst (λ (m : Move). GrowsByAtMostOne m c.skip_by_sides.new.m)
-    (c.skip_by_signs.ensures.kept c.if-skip_by_signs.false) c.skip_by_sides.ensures.near
-
-pub returns-clause-kept : goal.returns-clause-kept
-returns-clause-kept c e = c.skip_by_sides.ensures.kept e ∙ c.skip_by_signs.ensures.kept c.if-skip_by_signs.false
+pub returns-in-None-clause-kept : goal.returns-in-None-clause-kept
+returns-in-None-clause-kept c _ = refl

@@ -6,7 +6,7 @@ use Rattle.bk_word.specs.Play.{numbers_from, outline_of}
 use Rattle.bk_word.specs.Word.{Move}
 use Rattle.bk_forms.specs.Form.{Form as SeenForm, with_column}
 use Rattle.bk_walk_cuts.proofs.Segments.{beside_short, levels_are, numbers_are}
-use Rattle.bk_walk_cuts.proofs.SmallForms.{small_level, small_more}
+use Rattle.bk_walk_cuts.proofs.SmallForms.{few_small_level}
 use Rattle.bk_walk_cuts.specs.SideForms.{level_of}
 use Rattle.bk_walk_cuts.specs.Trace.{IsSmall}
 use Rattle.bk_walk_cuts.proofs.levels.levels_along.Goals as goal
@@ -44,9 +44,8 @@ push_bottoms-requires c =
         omega (arith, c.order.ensures.value, count, c.requires.few),
         (
           omega (arith, short, beside_short (nat_eq c.first_above-place.result 0) left, count, c.requires.few),
-          subst (IsSmall 5) (sym c.level_of-level.ensures) (small_more (length c.args.bottoms.now) 5
-              (level_of c.args.bottoms.now c.valley_squares.result.now) c.requires.short
-              (small_level c.args.bottoms.now c.valley_squares.result.now c.requires.small)),
+          subst (IsSmall 5) (sym c.level_of-level.ensures)
+              (few_small_level c.args.bottoms.now c.valley_squares.result.now c.requires.bottoms),
         ),
       ),
     )

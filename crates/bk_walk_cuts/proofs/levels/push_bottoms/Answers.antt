@@ -13,7 +13,8 @@ one_more : (before now then : List SeenForm) (valley level : SeenForm) (hung i :
     → then ≡ before ++ map (λ n. with_column valley (n - 1)) (numbers_from (hung + 1) (i + 1))
 one_more before now then valley level hung i is e f = f ∙ (λ j. is j ++ e j ∷ [])
     ∙ append_assoc before (map (λ n. with_column valley (n - 1)) (numbers_from (hung + 1) i)) (with_column valley (hung + i) ∷ [])
-    ∙ ap (λ (l : List SeenForm). before ++ l) (ap (λ (k : ℕ). map (λ n. with_column valley (n - 1)) (numbers_from (hung + 1) i) ++ with_column valley k ∷ []) less
+    ∙ ap (λ (l : List SeenForm). before ++ l)
+    (ap (λ (k : ℕ). map (λ n. with_column valley (n - 1)) (numbers_from (hung + 1) i) ++ with_column valley k ∷ []) less
     ∙ sym (map-append (λ n. with_column valley (n - 1)) (numbers_from (hung + 1) i) ((hung + 1 + i) ∷ []))
     ∙ ap (map (λ n. with_column valley (n - 1))) (sym (numbers-snoc (hung + 1) i) ∙ ap (numbers_from (hung + 1)) one))
   where
@@ -55,5 +56,6 @@ push-requires g c = (
 )
 
 pub returns : goal.returns
-returns g c = c.loop-i.invariant ∙ ap (λ (k : ℕ). c.args.levels.now.items ++ map (λ n. with_column c.args.valley.now (n - 1)) (numbers_from (c.args.hung + 1) k))
+returns g c = c.loop-i.invariant
+    ∙ ap (λ (k : ℕ). c.args.levels.now.items ++ map (λ n. with_column c.args.valley.now (n - 1)) (numbers_from (c.args.hung + 1) k))
     (omega (arith, c.loop-i-test.false, c.from-i-end.ensures))

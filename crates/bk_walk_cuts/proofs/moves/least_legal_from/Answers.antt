@@ -1,5 +1,5 @@
 -- The counts and signs stay as few as is asked.
-use Rattle.std.proofs.Common.{ap, arith, length, lit<}
+use Rattle.std.proofs.Common.{ap, arith, lit<}
 use Rattle.bk_word.specs.Word.{Move}
 use Rattle.bk_walk_cuts.proofs.moves.least_legal_from.Goals as goal
 
@@ -12,14 +12,11 @@ overflow_add-wanted c = omega (arith, c.from.ensures, c.requires.count, c.requir
 pub len-requires : goal.len-requires
 len-requires c = lit< tt
 
-pub truncate-requires : goal.truncate-requires
-truncate-requires c = lit< tt
+pub pass-requires-clause-count : goal.pass-requires-clause-count
+pass-requires-clause-count c = c.requires.count
 
-pub next_move-requires-clause-count : goal.next_move-requires-clause-count
-next_move-requires-clause-count c = omega (arith, c.requires.count, ap (λ (m : Move). m.count) c.m.view_is)
-
-pub next_move-requires-clause-signs : goal.next_move-requires-clause-signs
-next_move-requires-clause-signs c = omega (arith, c.truncate.ensures.len, c.requires.signs, ap (λ (m : Move). length m.signs) c.m.view_is)
+pub pass-requires-clause-signs : goal.pass-requires-clause-signs
+pass-requires-clause-signs c = c.requires.signs
 
 pub pad-requires-clause-sides : goal.pad-requires-clause-sides
 pad-requires-clause-sides c = c.requires.sides

@@ -1,5 +1,5 @@
 use Rattle.std.proofs.Common.{rules}
 use Rattle.bk_word.proofs.Sign.is_above.Goals as goal
 
-pub returns-in-Even : goal.returns-in-Even
-returns-in-Even c = search rules
+pub returns-in_default : goal.returns-in_default
+returns-in_default c = search rules

@@ -2,7 +2,7 @@ use Rattle.std.specs.Prelude.{take}
 use Rattle.std.proofs.Common.{ap, arith, sym, ◌∙◌}
 use Rattle.bk_word.specs.WordReading.{next_word_place}
 use Rattle.bk_word.specs.Taken.{step}
-use Rattle.bk_word.proofs.WordProgress.{at_start, has_room, one_further, stops, stops_at_end, text_kept, whole}
+use Rattle.bk_word.proofs.WordProgress.{at_start, has_room, one_further, stops, stops_at_end, text_kept, progress_whole}
 use Rattle.bk_word.proofs.reading.take_text.Goals as goal
 
 pub loop-at-init : goal.loop-at-init
@@ -24,7 +24,7 @@ loop-at-preserved c =
 
 pub returns-then-not-may_end-clause-err : goal.returns-then-not-may_end-clause-err
 returns-then-not-may_end-clause-err c =
-    stops_at_end c.args.text.now c.loop-at.place c.loop-at.taken (whole c.args.text.now c.loop-at.at c.loop-at.place c.loop-at.taken
+    stops_at_end c.args.text.now c.loop-at.place c.loop-at.taken (progress_whole c.args.text.now c.loop-at.at c.loop-at.place c.loop-at.taken
     (omega arith) c.loop-at.invariant)
     (sym c.may_end.ensures ∙ c.if-not-may_end.true)
 
@@ -33,6 +33,6 @@ end_count-requires c = record { room = λ few. has_room (take c.loop-at.at c.arg
 
 pub returns-clause-ok : goal.returns-clause-ok
 returns-clause-ok c =
-    text_kept c.args.text.now c.loop-at.place c.loop-at.taken c.end_count.new.self (whole c.args.text.now c.loop-at.at c.loop-at.place c.loop-at.taken
+    text_kept c.args.text.now c.loop-at.place c.loop-at.taken c.end_count.new.self (progress_whole c.args.text.now c.loop-at.at c.loop-at.place c.loop-at.taken
     (omega arith) c.loop-at.invariant)
     (sym c.may_end.ensures ∙ c.if-not-may_end.false) c.end_count.ensures.keeps

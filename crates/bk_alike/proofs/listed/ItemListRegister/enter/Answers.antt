@@ -1,4 +1,4 @@
-use Rattle.std.proofs.Common.{Bor, Err, Option, ap, arith, le_of_eq, length, refl, subst, ℕ, ◌+◌, ◌<◌, ◌∙◌, ◌≡◌, ◌≤◌}
+use Rattle.std.proofs.Common.{Bor, Err, Option, ap, arith, length, refl, subst, ℕ, ◌+◌, ◌<◌, ◌∙◌, ◌≡◌, ◌≤◌}
 use Rattle.std.specs.Option.{option_copied}
 use Rattle.std.specs.Prelude.{Ok, OnOk, Result}
 use Rattle.bk_tiling.specs.Tiling.{Tiling}
@@ -8,6 +8,7 @@ use Rattle.bk_answer.specs.Item.{HasTiling, IsLaidLine}
 use Rattle.bk_alike.specs.Listed.{Listed, ListsLine, MayWantItem, with_item, with_refused}
 use Rattle.bk_alike.proofs.ListedLines.{full_line, has_room, kept_apart, kept_line, refused_begun, refused_entry, refused_outcome, skipped_line}
 use Rattle.bk_alike.proofs.ListedLines.{wanting_apart, wanting_line}
+use Rattle.bk_answer.proofs.Failing.{cause-of_same}
 use Rattle.bk_alike.proofs.listed.ItemListRegister.enter.Goals as goal
 
 pub returns-in-Ok-None-clause-outcome : goal.returns-in-Ok-None-clause-outcome
@@ -99,13 +100,13 @@ pub refuse-requires-in-Err : goal.refuse-requires-in-Err
 refuse-requires-in-Err g c = omega (arith, c.requires.early, c.requires.ready, ap (λ (s : Listed). s.refused) c.self.view_is)
 
 pub returns-in-Ok-None-clause-cause : goal.returns-in-Ok-None-clause-cause
-returns-in-Ok-None-clause-cause g c = record { later = le_of_eq refl; ok = refl; failed = tt }
+returns-in-Ok-None-clause-cause g c = cause-of_same refl
 
 pub returns-in-Ok-None-clause-ready : goal.returns-in-Ok-None-clause-ready
 returns-in-Ok-None-clause-ready g c = omega (arith, c.requires.ready, ap (λ (s : Listed). s.refused) c.self.view_is)
 
 pub returns-in-Ok-clause-cause : goal.returns-in-Ok-clause-cause
-returns-in-Ok-clause-cause g c = record { later = le_of_eq refl; ok = refl; failed = tt }
+returns-in-Ok-clause-cause g c = cause-of_same refl
 
 pub returns-in-Ok-clause-ready : goal.returns-in-Ok-clause-ready
 returns-in-Ok-clause-ready g c = omega (arith, c.requires.ready, ap (λ (s : Listed). s.refused) c.self.view_is)
@@ -121,7 +122,7 @@ returns-in-Err-Full-clause-ready g c =
     (ap (λ (s : Listed). s.refused) c.refuse.ensures.state) (ap (λ (s : Listed). s.refused) c.self.view_is) c.requires.ready
 
 pub returns-in-Err-NoMemory-clause-cause : goal.returns-in-Err-NoMemory-clause-cause
-returns-in-Err-NoMemory-clause-cause g c = record { later = le_of_eq refl; ok = refl; failed = tt }
+returns-in-Err-NoMemory-clause-cause g c = cause-of_same refl
 
 pub returns-in-Err-NoMemory-clause-ready : goal.returns-in-Err-NoMemory-clause-ready
 returns-in-Err-NoMemory-clause-ready g c = omega (arith, c.requires.ready, ap (λ (s : Listed). s.refused) c.self.view_is)

@@ -5,7 +5,7 @@ use Rattle.bk_word.specs.Word.{Move, Word, order_of}
 use Rattle.bk_word.proofs.PlayLaws.{moves_many}
 use Rattle.bk_free_search.specs.Lefts.{first_left}
 use Rattle.bk_free_search.specs.Rights.{last_right}
-use Rattle.bk_free_search.proofs.Boards.BoardMoves.{beside_same, board_more}
+use Rattle.bk_free_search.proofs.Boards.BoardMoves.{beside_same, board_more, lists_of}
 use Rattle.bk_free_search.proofs.Boards.LeftLines.{left_count}
 use Rattle.bk_free_search.proofs.Boards.LowLines.{low_lefts_then, low_rights_then}
 use Rattle.bk_free_search.proofs.Boards.OpenSquares.{are_squares-more, valley_squares-are_squares}
@@ -20,14 +20,7 @@ pub invariant_of-self : goal.invariant_of-self
 invariant_of-self c =
     let w = c.self.inside.skel in
     let valley = c.valley_squares-squares.ensures in
-    board_more w c.play.new.self c.args.m.now (record {
-      lefts = c.self.inside.lefts.items;
-      rights = c.self.inside.rights.items;
-      nodes = c.self.inside.nodes.items;
-      first = c.self.inside.first;
-      left = c.self.inside.left;
-      right = c.self.inside.right;
-    })
+    board_more w c.play.new.self c.args.m.now (lists_of c.self.inside)
     (record {
       lefts = c.push_lefts.new.lefts.items;
       rights = c.push_rights.new.rights.items;

@@ -1,22 +1,16 @@
-use Rattle.std.proofs.Common.{List, ap, arith, length, subst, sym, ℕ, ◌∙◌}
-use Rattle.bk_word.specs.Word.{Word, order_of}
+use Rattle.std.proofs.Common.{ap, arith, length, ◌∙◌}
+use Rattle.bk_word.specs.Word.{Word}
 use Rattle.bk_layout.specs.LineNumbers.{right_end, square_lines}
 use Rattle.bk_free_search.specs.Rights.{last_right}
 use Rattle.bk_free_search.proofs.Boards.BoardMoves.{right_end_on_board}
-use Rattle.bk_free_search.proofs.Boards.LowLines.{low_right_end, low_rights}
+use Rattle.bk_free_search.proofs.Boards.LowLines.{low_right_end, low_rights_read}
 use Rattle.bk_free_search.proofs.Boards.RightLines.{as_many_rights}
-use Rattle.bk_free_search.proofs.Boards.OpenSquares.{are_squares-more}
-use Rattle.bk_free_search.specs.NodeLines.{AreLow}
+use Rattle.bk_free_search.proofs.Boards.OpenSquares.{among_lines}
 use Rattle.bk_free_search.proofs.board.Board.right_end.Goals as goal
 
 pub right_of_last-requires : goal.right_of_last-requires
-right_of_last-requires c = are_squares-more c.args.squares.now (order_of c.args.self.now) (length c.as_slice.result.now)
-    (omega (
-      arith,
-      ap length (c.as_slice.ensures.items ∙ c.self.invariant.rights_are),
-      as_many_rights c.self.inside.skel,
-      ap order_of c.self.view_is,
-    )) c.requires
+right_of_last-requires c = among_lines c.self.inside.skel c.args.self.now c.args.squares.now c.self.inside.rights.items c.as_slice.result.now
+    (ap length c.self.invariant.rights_are ∙ as_many_rights c.self.inside.skel) c.as_slice.ensures.items c.self.view_is c.requires
 
 pub returns-clause-value : goal.returns-clause-value
 returns-clause-value c = c.right_of_last.ensures ∙ ap (λ l. last_right l c.args.squares.now) c.as_slice.ensures.items
@@ -28,10 +22,5 @@ returns-clause-low c = omega (
   arith,
   c.right_of_last.ensures,
   low_right_end c.as_slice.result.now c.args.squares.now
-      (subst (λ (ls : List ℕ). AreLow ls) (sym (c.as_slice.ensures.items ∙ c.self.invariant.rights_are)) (low_rights c.self.inside.skel (omega (
-        arith,
-        c.as_slice.ensures.few,
-        ap length (c.as_slice.ensures.items ∙ c.self.invariant.rights_are),
-        as_many_rights c.self.inside.skel,
-      )))),
+      (low_rights_read c.self.inside.skel c.self.invariant.rights_are c.as_slice.ensures.items c.as_slice.ensures.few),
 )

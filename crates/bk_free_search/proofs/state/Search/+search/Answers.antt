@@ -1,6 +1,6 @@
 -- Each call of the search: what it hands on meets what it asks for, its number falls, and all words that are sought are met behind one of them.
-use Rattle.std.proofs.Common.{IsTrue, List, [], ap, arith, false, inl, inr, length, refl, subst, sym, true}
-use Rattle.std.proofs.Common.{◌*◌, ◌++◌, ◌+◌, ◌-◌, ◌<◌, ◌≤◌, ◌⊎◌, ◌∙◌, ◌∷◌, ◌≡◌}
+use Rattle.std.proofs.Common.{Bool, IsTrue, List, [], ap, arith, false, inl, inr, length, refl, subst, sym, true}
+use Rattle.std.proofs.Common.{ℕ, ◌*◌, ◌++◌, ◌+◌, ◌-◌, ◌<◌, ◌≤◌, ◌⊎◌, ◌∙◌, ◌∷◌, ◌≡◌}
 use Rattle.std.proofs.lemmas.List.{length-append}
 use Rattle.std.proofs.lemmas.Bool.{cases_lt}
 use Rattle.bk_laws.proofs.NumberOrder.{lt_add_one-less_or_same}
@@ -17,20 +17,55 @@ use Rattle.bk_free_search.proofs.NextWords.Cutting.{normal}
 use Rattle.bk_free_search.proofs.Asks.AskedNext.{few_behind}
 use Rattle.bk_free_search.proofs.Asks.EvenSigns.{side_few}
 use Rattle.bk_free_search.proofs.NextWords.LastSquare.{all_at_once_is_barren}
-use Rattle.bk_free_search.proofs.NextWords.NextMoves.{HasNextMove, HasNextSign, by_count, by_same, by_sign, by_whole, is_whole}
-use Rattle.bk_free_search.proofs.NextWords.NextMoves.{next_fertile, next_fits, next_move, next_sign, sought_in}
+use Rattle.bk_free_search.proofs.NextWords.NextMoves.{HasNextMove, by_count, by_same, by_whole, is_whole}
+use Rattle.bk_free_search.proofs.NextWords.NextMoves.{next_fertile, next_fits, next_move, sought_in}
 use Rattle.bk_free_search.proofs.NextWords.SignPhases.{above_at_left_is_barred, evens_now, few_now, first_missing}
-use Rattle.bk_free_search.proofs.NextWords.SignPhases.{last_missing, none_goes_on_so, none_missing, not_whole, own_even_is_barred, whole_is_legal}
+use Rattle.bk_free_search.proofs.NextWords.SignPhases.{last_missing, none_missing, not_whole, own_even_is_barred, whole_is_next}
 use Rattle.bk_free_search.proofs.NextWords.TurnsTaken.{begun_with, few_steps, first_fits, handed_on, met_twice, none_met, own_few, own_wanted}
-use Rattle.bk_free_search.proofs.NextWords.TurnsTaken.{room_for_sign, unchanged_twice, untouched, without_last}
+use Rattle.bk_free_search.proofs.NextWords.TurnsTaken.{room_for_sign, unchanged_twice, without_last}
 use Rattle.bk_free_search.specs.AskedSigns.{BarsNext, BarsSigns, IsAsked, IsMoveBegun, IsNextCount, IsOwnSign, IsWithOwn}
 use Rattle.bk_free_search.specs.BoardOutlines.{IsBoardOutline}
-use Rattle.bk_free_search.specs.Sought.{GoesOn, GoesOnBy}
-use Rattle.bk_free_search.specs.Unchanged.{IsUnchanged}
+use Rattle.bk_free_search.specs.Sought.{GoesOn}
+use Rattle.bk_free_search.specs.Unchanged.{IsUnchanged, MeetsAllBy}
+use Rattle.bk_free_search.proofs.NextWords.WordsMet.{by_each_sign, none_by, none_from, then_by, then_kept}
+use Rattle.bk_free_search.specs.declared.asking.Asked.{Asked}
+use Rattle.bk_free_search.specs.declared.asking.Beside.{Beside}
 use Rattle.bk_free_search.specs.declared.state.Begun.{Begun}
 use Rattle.bk_free_search.specs.declared.state.Search.{Search}
 use Rattle.bk_free_search.specs.declared.counts.TheConstants.{FEW, MANY}
 use Rattle.bk_free_search.proofs.state.Search.+search.Goals as goal
+
+-- while a sign between the move's own squares is to come, it has fewer
+still_own : {b seen : Begun} {many : ℕ} → length b.m.signs ≤ b.next.own → (many ≡ seen.next.own → ⊥) → many ≡ length seen.m.signs → seen ≡ b
+    → length b.m.signs < b.next.own
+still_own own differ many same = omega (arith, own, differ, many, ap (λ (b : Begun). length b.m.signs) same, ap (λ (b : Begun). b.next.own) same)
+
+-- a sign between the move's own squares may be the next one, and is barred if too much is asked for with it
+own_sign : {s : Search} {b : Begun} {around : Beside} {asked more : Asked} {barred : Bool} (sign : Sign) → IsWithOwn s b around asked
+    → length b.m.signs < b.next.own
+    → ((front : Word) (signs : List Sign) → IsAsked front signs asked → open_side (has_left_wall (outline_of front)) ≤ length signs
+    → IsAsked front (signs ++ sign ∷ []) more)
+    → (IsTrue barred → (t : Search) (signs : List Sign) → IsMoveBegun t b around → IsAsked t.board signs more
+    → open_side (has_left_wall (outline_of t.board)) ≤ length signs → length signs ≤ b.next.own → BarsSigns t.order t.board b.m.count signs)
+    → IsOwnSign s b around more sign × (IsTrue barred → BarsNext s b sign)
+own_sign {s = s} {b = b} sign own low asks bars = (
+  record { begun = own.begun; asked_is = asks s.board b.m.signs own.asked_is own.from; own = omega (arith, low) },
+  λ barred. bars barred s (b.m.signs ++ sign ∷ []) own.begun (asks s.board b.m.signs own.asked_is own.from) (omega (arith, own.from, longer))
+      (omega (arith, low, longer)),
+)
+  where
+    longer : length (b.m.signs ++ sign ∷ []) ≡ length b.m.signs + 1
+    longer = length-append b.m.signs (sign ∷ [])
+
+-- a last sign that isn't even is handed on over a call: the numbers fall, and it is barred if the test says so
+last_handed_on : {W : Type 0} {n : ℕ} {s t : Search} {a b : Begun} {around : Beside} {asked : Asked} {barred : Bool} (sign : Sign) → IsUnchanged s a t b
+    → 1000 * (s.order - order_of s.board) + 2 < n → W → IsWithOwn s a around asked → length a.m.signs + 1 ≡ a.next.wanted
+    → (IsTrue barred → (u : Search) → IsWithOwn u b around asked → length b.m.signs + 1 ≡ b.next.wanted → (sign ≡ Even → ⊥) → BarsNext u b sign)
+    → (sign ≡ Even → ⊥) → (1000 * (t.order - order_of t.board) + 2 < n)
+    × (W × (IsMoveBegun t b around × ((length b.m.signs + 1 ≡ b.next.wanted) × (IsTrue barred → BarsNext t b sign))))
+last_handed_on {n = n} {t = t} {around = around} {asked = asked} sign same falls within own wanted bars other = handed_on
+    (λ s b. 1000 * (s.order - order_of s.board) + 2 < n) (λ s b. IsWithOwn s b around asked × (length b.m.signs + 1 ≡ b.next.wanted))
+    same falls within (own, wanted) (λ then. (then.0.begun, (then.1, λ barred. bars barred t then.0 then.1 other)))
 
 -- ---- the word of the board, and the last square
 
@@ -89,7 +124,7 @@ meet_all-with_counts-requires g t c κs within = (
 )
 
 pub meet_all-returns : goal.meet_all-returns
-meet_all-returns g t c = record { all = c.with_counts.ensures.all; kept = c.with_counts.ensures.kept; same = c.with_counts.ensures.same }
+meet_all-returns g t c = c.with_counts.ensures
 
 -- ---- the count of the next move
 
@@ -100,11 +135,7 @@ pub with_counts-lacks_next-requires : goal.with_counts-lacks_next-requires
 with_counts-lacks_next-requires g t c = record { few = omega (arith, c.requires.few); beside = c.stand_beside-around.ensures }
 
 pub with_counts-returns-then-lacks_next : goal.with_counts-returns-then-lacks_next
-with_counts-returns-then-lacks_next g t c = record {
-  all = λ w sought on. absurd (sought.fertile c.args.self.now.board on.rest on.is (c.lacks_next.ensures c.if-lacks_next.true));
-  kept = none_met c.args.leaves.now;
-  same = refl;
-}
+with_counts-returns-then-lacks_next g t c = none_from c.args.leaves.now (c.lacks_next.ensures c.if-lacks_next.true)
 
 pub with_counts-overflow_cast-left : goal.with_counts-overflow_cast-left
 with_counts-overflow_cast-left g t c = omega (arith, c.order.ensures.few)
@@ -144,7 +175,7 @@ with_counts-with_left-requires g t c κs within = handed_on
     (λ s b. 1000 * (s.order - order_of s.board) + 850 < t)
     (λ s b. IsMoveBegun s b c.stand_beside-around.result × (b.m.signs ≡ []))
     (record { search = c.counts.invariant.same; begun = refl })
-    (omega (arith, c.decreases)) within (begun, none)
+    (omega (arith, c.decreases)) within (begun, none) (λ then. then)
   where
     none : c.begin.new.begun.m.signs ≡ []
     none = c.begin.ensures.signs ∙ c.counts.invariant.signs
@@ -207,12 +238,8 @@ with_counts-returns g t c = record { all = all; kept = c.counts.invariant.kept; 
 -- ---- the first sign
 
 pub with_left-returns-then-bars_none : goal.with_left-returns-then-bars_none
-with_left-returns-then-bars_none g t c = record {
-  all = λ w sought on. absurd (none_goes_on_so (c.bars_none.ensures c.if-bars_none.true c.args.self.now c.requires.begun c.requires.none
-      (sym c.requires.begun.around_is.left_is ∙ c.if-around.true)) sought on);
-  kept = none_met c.args.leaves.now;
-  same = untouched c.args.self.now c.args.begun.now;
-}
+with_left-returns-then-bars_none g t c = none_by c.args.leaves.now
+    (c.bars_none.ensures c.if-bars_none.true c.args.self.now c.requires.begun c.requires.none (sym c.requires.begun.around_is.left_is ∙ c.if-around.true))
 
 pub with_left-with_own-requires : goal.with_left-with_own-requires
 with_left-with_own-requires g t c κs within = (
@@ -230,7 +257,7 @@ with_left-with_own-requires g t c κs within = (
 )
 
 pub with_left-returns-then-around : goal.with_left-returns-then-around
-with_left-returns-then-around g t c = record { all = c.with_own.ensures.all; kept = c.with_own.ensures.kept; same = c.with_own.ensures.same }
+with_left-returns-then-around g t c = c.with_own.ensures
 
 pub with_left-with_sign-requires : goal.with_left-with_sign-requires
 with_left-with_sign-requires g t c κs within = (
@@ -255,7 +282,7 @@ with_left-with_sign-requires g t c κs within = (
 pub with_left-with_sign-requires-2 : goal.with_left-with_sign-requires-2
 with_left-with_sign-requires-2 g t c κs within = handed_on
     (λ s b. 1000 * (s.order - order_of s.board) + 4 * (b.m.count + 2 - length b.m.signs) < t)
-    (λ s b. IsOwnSign s b c.args.around.now c.args.around.now.before.under Under × (IsTrue c.bars_first_under.result → BarsNext s b Under))
+    (λ s b. IsOwnSign s b c.args.around.now c.args.around.now.before.under Under × (b.m.signs ≡ []) × (has_left_wall (outline_of s.board) ≡ false))
     c.with_sign.ensures.same (omega (arith, c.decreases, few_steps c.requires.begun)) within (
       record {
         begun = c.requires.begun;
@@ -263,41 +290,26 @@ with_left-with_sign-requires-2 g t c κs within = handed_on
             (c.requires.begun.around_is.before_is.under apart);
         own = first_fits c.requires.begun c.requires.none apart;
       },
-      λ barred. bars barred,
+      c.requires.none,
+      apart,
     )
+    (λ then. (then.0, λ barred. c.bars_first_under.ensures barred _ then.0.begun then.1 then.2))
   where
     apart : has_left_wall (outline_of c.args.self.now.board) ≡ false
     apart = sym c.requires.begun.around_is.left_is ∙ c.if-around.false
-
-    bars : IsTrue c.bars_first_under.result → BarsNext c.args.self.now c.args.begun.now Under
-    bars barred = subst (λ (b : Begun). IsMoveBegun c.args.self.now b c.args.around.now → b.m.signs ≡ [] → BarsNext c.args.self.now b Under)
-        c.with_sign.ensures.same.begun (λ begun none. c.bars_first_under.ensures barred c.args.self.now begun none apart)
-        c.requires.begun c.requires.none
 
 pub with_left-returns : goal.with_left-returns
-with_left-returns g t c = record {
-  all = all;
-  kept = met_twice c.with_sign.ensures.kept c.with_sign-2.ensures.kept;
-  same = unchanged_twice c.with_sign.ensures.same c.with_sign-2.ensures.same;
-}
+with_left-returns g t c = by_each_sign c.requires.begun.some (first_missing c.requires.begun c.requires.none apart) each
   where
     apart : has_left_wall (outline_of c.args.self.now.board) ≡ false
     apart = sym c.requires.begun.around_is.left_is ∙ c.if-around.false
 
-    all : (w : Word) → IsNormalSought c.args.self.now.order w → GoesOnBy c.args.self.now.board c.args.begun.now.m.count c.args.begun.now.m.signs w
-        → g.S.Leaves.has_met c.with_sign-2.new.leaves w
-    all w sought on = cases (next).sign (next).on
-      where
-        next : HasNextSign c.args.self.now.board c.args.begun.now.m.count c.args.begun.now.m.signs w
-        next = next_sign c.args.self.now.order c.args.self.now.board w c.args.begun.now.m sought c.requires.begun.some
-            (first_missing c.requires.begun c.requires.none apart) on
-
-        cases : (s : Sign) → GoesOnBy c.args.self.now.board c.args.begun.now.m.count (c.args.begun.now.m.signs ++ s ∷ []) w
-            → g.S.Leaves.has_met c.with_sign-2.new.leaves w
-        cases Above on = absurd (none_goes_on_so (above_at_left_is_barred c.args.self.now.order c.args.self.now.board c.args.begun.now.m.count
-            c.args.begun.now.m.signs apart c.requires.none) sought on)
-        cases Even on = c.with_sign-2.ensures.kept.kept w (c.with_sign.ensures.all w sought on)
-        cases Under on = c.with_sign-2.ensures.all w (sought_in w c.with_sign.ensures.same.search sought) (by_sign Under w c.with_sign.ensures.same on)
+    each : (s : Sign) → MeetsAllBy g.S.Leaves.has_met g.S.Leaves.fixed (c.args.begun.now.m.signs ++ s ∷ []) c.args.self.now c.args.begun.now
+        c.args.leaves.now c.with_sign-2.new.self c.with_sign-2.new.begun c.with_sign-2.new.leaves
+    each Above = then_kept (none_by c.args.leaves.now (above_at_left_is_barred c.args.self.now.order c.args.self.now.board c.args.begun.now.m.count
+        c.args.begun.now.m.signs apart c.requires.none)) (then_kept c.with_sign.ensures c.with_sign-2.ensures)
+    each Even = then_kept c.with_sign.ensures c.with_sign-2.ensures
+    each Under = then_by Under c.with_sign.ensures c.with_sign-2.ensures
 
 -- ---- those between the move's own squares
 
@@ -318,21 +330,11 @@ with_own-with_right-requires g t c κs within = (
 )
 
 pub with_own-returns-then-len-begun : goal.with_own-returns-then-len-begun
-with_own-returns-then-len-begun g t c =
-    record { all = c.with_right.ensures.all; kept = c.with_right.ensures.kept; same = c.with_right.ensures.same }
+with_own-returns-then-len-begun g t c = c.with_right.ensures
 
 pub with_own-with_above-requires : goal.with_own-with_above-requires
-with_own-with_above-requires g t c κs within = (omega (arith, c.decreases), (within, (c.requires, low)))
-  where
-    low : length c.args.begun.now.m.signs < c.args.begun.now.next.own
-    low = omega (
-      arith,
-      c.requires.own,
-      c.if-len-begun.false,
-      c.len.ensures.value,
-      ap (λ (b : Begun). length b.m.signs) c.begun.view_is,
-      ap (λ (b : Begun). b.next.own) c.begun.view_is,
-    )
+with_own-with_above-requires g t c κs within =
+    (omega (arith, c.decreases), (within, (c.requires, still_own c.requires.own c.if-len-begun.false c.len.ensures.value c.begun.view_is)))
 
 pub with_own-asked_with-with_under-requires : goal.with_own-asked_with-with_under-requires
 with_own-asked_with-with_under-requires g t c = record { few = few_now MANY c.requires (omega arith); evens = evens_now c.requires }
@@ -346,76 +348,30 @@ with_own-asks_too_much-requires g t c = record {
 pub with_own-with_sign-requires : goal.with_own-with_sign-requires
 with_own-with_sign-requires g t c κs within = handed_on
     (λ s b. 1000 * (s.order - order_of s.board) + 4 * (b.m.count + 2 - length b.m.signs) < t)
-    (λ s b. IsOwnSign s b c.args.around.now c.asked_with-with_under.result Under × (IsTrue c.asks_too_much.result → BarsNext s b Under))
+    (λ s b. IsWithOwn s b c.args.around.now c.args.asked.now × (length b.m.signs < b.next.own))
     c.with_above.ensures.same (omega (arith, c.decreases)) within
-    (record { begun = c.requires.begun; asked_is = asked; own = omega (arith, low) }, λ barred. bars barred)
-  where
-    low : length c.args.begun.now.m.signs < c.args.begun.now.next.own
-    low = omega (
-      arith,
-      c.requires.own,
-      c.if-len-begun.false,
-      c.len.ensures.value,
-      ap (λ (b : Begun). length b.m.signs) c.begun.view_is,
-      ap (λ (b : Begun). b.next.own) c.begun.view_is,
-    )
-
-    longer : length (c.args.begun.now.m.signs ++ Under ∷ []) ≡ length c.args.begun.now.m.signs + 1
-    longer = length-append c.args.begun.now.m.signs (Under ∷ [])
-
-    asked : IsAsked c.args.self.now.board (c.args.begun.now.m.signs ++ Under ∷ []) c.asked_with-with_under.result
-    asked = c.asked_with-with_under.ensures.asked c.args.self.now.board c.args.begun.now.m.signs c.requires.asked_is c.requires.from
-
-    bars : IsTrue c.asks_too_much.result → BarsNext c.args.self.now c.args.begun.now Under
-    bars barred = subst (λ (b : Begun). IsMoveBegun c.args.self.now b c.args.around.now
-        → length (c.args.begun.now.m.signs ++ Under ∷ []) ≤ b.next.own
-        → BarsSigns c.args.self.now.order c.args.self.now.board b.m.count (c.args.begun.now.m.signs ++ Under ∷ [])) c.with_above.ensures.same.begun
-        (λ begun few. c.asks_too_much.ensures barred c.args.self.now (c.args.begun.now.m.signs ++ Under ∷ []) begun asked
-        (omega (arith, c.requires.from, longer)) few)
-        c.requires.begun (omega (arith, low, longer))
+    (c.requires, still_own c.requires.own c.if-len-begun.false c.len.ensures.value c.begun.view_is)
+    (λ then. own_sign Under then.0 then.1 c.asked_with-with_under.ensures.asked c.asks_too_much.ensures)
 
 pub with_own-returns : goal.with_own-returns
-with_own-returns g t c = record {
-  all = all;
-  kept = met_twice c.with_above.ensures.kept c.with_sign.ensures.kept;
-  same = unchanged_twice c.with_above.ensures.same c.with_sign.ensures.same;
-}
+with_own-returns g t c = by_each_sign c.requires.begun.some (not_whole c.args.self.now.order c.args.self.now.board c.args.begun.now.m.count
+    c.args.begun.now.m.signs c.args.begun.now.next c.requires.begun.next_is (own_wanted c.requires.begun (omega (arith, low)))) each
   where
     low : length c.args.begun.now.m.signs < c.args.begun.now.next.own
-    low = omega (
-      arith,
-      c.requires.own,
-      c.if-len-begun.false,
-      c.len.ensures.value,
-      ap (λ (b : Begun). length b.m.signs) c.begun.view_is,
-      ap (λ (b : Begun). b.next.own) c.begun.view_is,
-    )
+    low = still_own c.requires.own c.if-len-begun.false c.len.ensures.value c.begun.view_is
 
-    all : (w : Word) → IsNormalSought c.args.self.now.order w → GoesOnBy c.args.self.now.board c.args.begun.now.m.count c.args.begun.now.m.signs w
-        → g.S.Leaves.has_met c.with_sign.new.leaves w
-    all w sought on = cases (next).sign (next).on
-      where
-        next : HasNextSign c.args.self.now.board c.args.begun.now.m.count c.args.begun.now.m.signs w
-        next = next_sign c.args.self.now.order c.args.self.now.board w c.args.begun.now.m sought c.requires.begun.some (not_whole c.args.self.now.order
-            c.args.self.now.board c.args.begun.now.m.count c.args.begun.now.m.signs c.args.begun.now.next c.requires.begun.next_is
-            (omega (arith, low, c.requires.begun.next_is.own_is, c.requires.begun.next_is.wanted_is))) on
-
-        cases : (s : Sign) → GoesOnBy c.args.self.now.board c.args.begun.now.m.count (c.args.begun.now.m.signs ++ s ∷ []) w
-            → g.S.Leaves.has_met c.with_sign.new.leaves w
-        cases Above on = c.with_sign.ensures.kept.kept w (c.with_above.ensures.all w sought on)
-        cases Even on = absurd (none_goes_on_so (own_even_is_barred c.args.self.now.order c.args.self.now.board c.args.begun.now.m.count
-            c.args.begun.now.m.signs c.requires.from (omega (arith, low, c.requires.begun.next_is.own_is))) sought on)
-        cases Under on = c.with_sign.ensures.all w (sought_in w c.with_above.ensures.same.search sought) (by_sign Under w c.with_above.ensures.same on)
+    each : (s : Sign) → MeetsAllBy g.S.Leaves.has_met g.S.Leaves.fixed (c.args.begun.now.m.signs ++ s ∷ []) c.args.self.now c.args.begun.now
+        c.args.leaves.now c.with_sign.new.self c.with_sign.new.begun c.with_sign.new.leaves
+    each Above = then_kept c.with_above.ensures c.with_sign.ensures
+    each Even = then_kept (none_by c.args.leaves.now (own_even_is_barred c.args.self.now.order c.args.self.now.board c.args.begun.now.m.count
+        c.args.begun.now.m.signs c.requires.from (omega (arith, low, c.requires.begun.next_is.own_is)))) (then_kept c.with_above.ensures c.with_sign.ensures)
+    each Under = then_by Under c.with_above.ensures c.with_sign.ensures
 
 -- ---- with the sign above between two of them
 
 pub with_above-returns-then-bars_own_above : goal.with_above-returns-then-bars_own_above
-with_above-returns-then-bars_own_above g t c = record {
-  all = λ w sought on. absurd (none_goes_on_so (c.bars_own_above.ensures c.if-bars_own_above.true c.args.self.now c.args.around.now
-      c.requires.with_own c.requires.own) sought on);
-  kept = none_met c.args.leaves.now;
-  same = untouched c.args.self.now c.args.begun.now;
-}
+with_above-returns-then-bars_own_above g t c = none_by c.args.leaves.now
+    (c.bars_own_above.ensures c.if-bars_own_above.true c.args.self.now c.args.around.now c.requires.with_own c.requires.own)
 
 pub with_above-asked_with-with_above-requires : goal.with_above-asked_with-with_above-requires
 with_above-asked_with-with_above-requires g t c =
@@ -430,33 +386,16 @@ with_above-asks_too_much-requires g t c = record {
 pub with_above-with_sign-requires : goal.with_above-with_sign-requires
 with_above-with_sign-requires g t c κs within = (
   omega (arith, c.decreases),
-  (
-    within,
-    (
-      record { begun = c.requires.with_own.begun; asked_is = asked; own = omega (arith, c.requires.own) },
-      λ barred. c.asks_too_much.ensures barred c.args.self.now (c.args.begun.now.m.signs ++ Above ∷ []) c.requires.with_own.begun asked
-          (omega (arith, c.requires.with_own.from, longer)) (omega (arith, c.requires.own, longer)),
-    ),
-  ),
+  (within, own_sign Above c.requires.with_own c.requires.own c.asked_with-with_above.ensures.asked c.asks_too_much.ensures),
 )
-  where
-    longer : length (c.args.begun.now.m.signs ++ Above ∷ []) ≡ length c.args.begun.now.m.signs + 1
-    longer = length-append c.args.begun.now.m.signs (Above ∷ [])
-
-    asked : IsAsked c.args.self.now.board (c.args.begun.now.m.signs ++ Above ∷ []) c.asked_with-with_above.result
-    asked = c.asked_with-with_above.ensures.asked c.args.self.now.board c.args.begun.now.m.signs c.requires.with_own.asked_is c.requires.with_own.from
 
 pub with_above-returns : goal.with_above-returns
-with_above-returns g t c = record { all = c.with_sign.ensures.all; kept = c.with_sign.ensures.kept; same = c.with_sign.ensures.same }
+with_above-returns g t c = c.with_sign.ensures
 
 -- ---- those whose next sign is known
 
 pub with_sign-returns-then-next : goal.with_sign-returns-then-next
-with_sign-returns-then-next g t c = record {
-  all = λ w sought on. absurd (none_goes_on_so (c.requires.barred c.if-next.true) sought on);
-  kept = none_met c.args.leaves.now;
-  same = untouched c.args.self.now c.args.begun.now;
-}
+with_sign-returns-then-next g t c = none_by c.args.leaves.now (c.requires.barred c.if-next.true)
 
 pub with_sign-push_sign-requires : goal.with_sign-push_sign-requires
 with_sign-push_sign-requires g t c = room_for_sign c.requires.own.begun (own_wanted c.requires.own.begun c.requires.own.own)
@@ -514,12 +453,9 @@ with_right-asks_too_much_then-requires g t c = record {
 }
 
 pub with_right-returns-then-asks_too_much_then : goal.with_right-returns-then-asks_too_much_then
-with_right-returns-then-asks_too_much_then g t c = record {
-  all = λ w sought on. absurd (none_goes_on_so (c.asks_too_much_then.ensures c.if-asks_too_much_then.true c.args.self.now c.args.begun.now.m.signs
-      c.requires.with_own.begun c.requires.with_own.asked_is (none_missing c.requires.with_own.begun c.requires.own c.if-around.true)) sought on);
-  kept = none_met c.args.leaves.now;
-  same = untouched c.args.self.now c.args.begun.now;
-}
+with_right-returns-then-asks_too_much_then g t c = none_by c.args.leaves.now
+    (c.asks_too_much_then.ensures c.if-asks_too_much_then.true c.args.self.now c.args.begun.now.m.signs c.requires.with_own.begun
+    c.requires.with_own.asked_is (none_missing c.requires.with_own.begun c.requires.own c.if-around.true))
 
 pub with_right-with_move-requires : goal.with_right-with_move-requires
 with_right-with_move-requires g t c κs within = (
@@ -527,18 +463,8 @@ with_right-with_move-requires g t c κs within = (
   (
     within,
     (
-      c.requires.with_own.begun.least,
-      (
-        c.requires.with_own.begun.most,
-        (
-          c.requires.with_own.begun.fits,
-          (
-            whole_is_legal c.args.begun.now.m c.requires.with_own.begun refl
-                (none_missing c.requires.with_own.begun c.requires.own c.if-around.true),
-            c.requires.with_own.begun.around_is.valley_is,
-          ),
-        ),
-      ),
+      whole_is_next c.args.begun.now.m c.requires.with_own.begun refl (none_missing c.requires.with_own.begun c.requires.own c.if-around.true),
+      c.requires.with_own.begun.around_is.valley_is,
     ),
   ),
 )
@@ -546,7 +472,7 @@ with_right-with_move-requires g t c κs within = (
 pub with_right-returns-then-around : goal.with_right-returns-then-around
 with_right-returns-then-around g t c = record {
   all = λ w sought on. c.with_move.ensures.all w sought (by_whole c.args.self.now.order c.args.self.now.board w c.args.begun.now.m sought
-      (whole_is_legal c.args.begun.now.m c.requires.with_own.begun refl (none_missing c.requires.with_own.begun c.requires.own c.if-around.true)) on);
+      (whole_is_next c.args.begun.now.m c.requires.with_own.begun refl (none_missing c.requires.with_own.begun c.requires.own c.if-around.true)).legal on);
   kept = c.with_move.ensures.kept;
   same = record { search = c.with_move.ensures.same; begun = refl };
 }
@@ -572,18 +498,8 @@ with_right-bars_last-requires g t c = record {
 }
 
 pub with_right-with_last-requires-2 : goal.with_right-with_last-requires-2
-with_right-with_last-requires-2 g t c κs within = handed_on
-    (λ s b. 1000 * (s.order - order_of s.board) + 2 < t)
-    (λ s b. IsMoveBegun s b c.args.around.now × ((length b.m.signs + 1 ≡ b.next.wanted) × (IsTrue c.bars_last.result → BarsNext s b Above)))
-    c.with_last.ensures.same (omega (arith, c.decreases)) within (c.requires.with_own.begun, (last, λ barred. bars barred))
-  where
-    last : length c.args.begun.now.m.signs + 1 ≡ c.args.begun.now.next.wanted
-    last = last_missing c.requires.with_own.begun c.requires.own c.if-around.false
-
-    bars : IsTrue c.bars_last.result → BarsNext c.args.self.now c.args.begun.now Above
-    bars barred = subst (λ (b : Begun). IsWithOwn c.args.self.now b c.args.around.now c.args.asked.now → length b.m.signs + 1 ≡ b.next.wanted
-        → BarsNext c.args.self.now b Above) c.with_last.ensures.same.begun
-        (λ own wanted. c.bars_last.ensures barred c.args.self.now own wanted (λ e. cc)) c.requires.with_own last
+with_right-with_last-requires-2 g t c κs within = last_handed_on Above c.with_last.ensures.same (omega (arith, c.decreases)) within c.requires.with_own
+    (last_missing c.requires.with_own.begun c.requires.own c.if-around.false) (λ barred. c.bars_last.ensures barred) (λ e. cc)
 
 pub with_right-bars_last-requires-2 : goal.with_right-bars_last-requires-2
 with_right-bars_last-requires-2 g t c = record {
@@ -594,54 +510,23 @@ with_right-bars_last-requires-2 g t c = record {
 }
 
 pub with_right-with_last-requires-3 : goal.with_right-with_last-requires-3
-with_right-with_last-requires-3 g t c κs within = handed_on
-    (λ s b. 1000 * (s.order - order_of s.board) + 2 < t)
-    (λ s b. IsMoveBegun s b c.args.around.now × ((length b.m.signs + 1 ≡ b.next.wanted) × (IsTrue c.bars_last-2.result → BarsNext s b Under)))
-    both (omega (arith, c.decreases)) within (c.requires.with_own.begun, (last, λ barred. bars barred))
-  where
-    both : IsUnchanged c.args.self.now c.args.begun.now c.with_last-2.new.self c.with_last-2.new.begun
-    both = unchanged_twice c.with_last.ensures.same c.with_last-2.ensures.same
-
-    last : length c.args.begun.now.m.signs + 1 ≡ c.args.begun.now.next.wanted
-    last = last_missing c.requires.with_own.begun c.requires.own c.if-around.false
-
-    bars : IsTrue c.bars_last-2.result → BarsNext c.args.self.now c.args.begun.now Under
-    bars barred = subst (λ (b : Begun). IsWithOwn c.args.self.now b c.args.around.now c.args.asked.now → length b.m.signs + 1 ≡ b.next.wanted
-        → BarsNext c.args.self.now b Under) (both).begun
-        (λ own wanted. c.bars_last-2.ensures barred c.args.self.now own wanted (λ e. cc)) c.requires.with_own last
+with_right-with_last-requires-3 g t c κs within = last_handed_on Under (unchanged_twice c.with_last.ensures.same c.with_last-2.ensures.same)
+    (omega (arith, c.decreases)) within c.requires.with_own (last_missing c.requires.with_own.begun c.requires.own c.if-around.false)
+    (λ barred. c.bars_last-2.ensures barred) (λ e. cc)
 
 pub with_right-returns : goal.with_right-returns
-with_right-returns g t c = record {
-  all = all;
-  kept = met_twice (met_twice c.with_last.ensures.kept c.with_last-2.ensures.kept) c.with_last-3.ensures.kept;
-  same = unchanged_twice both c.with_last-3.ensures.same;
-}
+with_right-returns g t c = by_each_sign c.requires.with_own.begun.some (not_whole c.args.self.now.order c.args.self.now.board
+    c.args.begun.now.m.count c.args.begun.now.m.signs c.args.begun.now.next c.requires.with_own.begun.next_is
+    (omega (arith, last_missing c.requires.with_own.begun c.requires.own c.if-around.false))) each
   where
-    both : IsUnchanged c.args.self.now c.args.begun.now c.with_last-2.new.self c.with_last-2.new.begun
-    both = unchanged_twice c.with_last.ensures.same c.with_last-2.ensures.same
-
-    all : (w : Word) → IsNormalSought c.args.self.now.order w → GoesOnBy c.args.self.now.board c.args.begun.now.m.count c.args.begun.now.m.signs w
-        → g.S.Leaves.has_met c.with_last-3.new.leaves w
-    all w sought on = cases (next).sign (next).on
-      where
-        next : HasNextSign c.args.self.now.board c.args.begun.now.m.count c.args.begun.now.m.signs w
-        next = next_sign c.args.self.now.order c.args.self.now.board w c.args.begun.now.m sought c.requires.with_own.begun.some
-            (not_whole c.args.self.now.order c.args.self.now.board c.args.begun.now.m.count c.args.begun.now.m.signs c.args.begun.now.next
-            c.requires.with_own.begun.next_is (omega (arith, last_missing c.requires.with_own.begun c.requires.own c.if-around.false))) on
-
-        cases : (s : Sign) → GoesOnBy c.args.self.now.board c.args.begun.now.m.count (c.args.begun.now.m.signs ++ s ∷ []) w
-            → g.S.Leaves.has_met c.with_last-3.new.leaves w
-        cases Even on = c.with_last-3.ensures.kept.kept w (c.with_last-2.ensures.kept.kept w (c.with_last.ensures.all w sought on))
-        cases Above on = c.with_last-3.ensures.kept.kept w (c.with_last-2.ensures.all w (sought_in w c.with_last.ensures.same.search sought)
-            (by_sign Above w c.with_last.ensures.same on))
-        cases Under on = c.with_last-3.ensures.all w (sought_in w (both).search sought) (by_sign Under w both on)
+    each : (s : Sign) → MeetsAllBy g.S.Leaves.has_met g.S.Leaves.fixed (c.args.begun.now.m.signs ++ s ∷ []) c.args.self.now c.args.begun.now
+        c.args.leaves.now c.with_last-3.new.self c.with_last-3.new.begun c.with_last-3.new.leaves
+    each Even = then_kept (then_kept c.with_last.ensures c.with_last-2.ensures) c.with_last-3.ensures
+    each Above = then_kept (then_by Above c.with_last.ensures c.with_last-2.ensures) c.with_last-3.ensures
+    each Under = then_by Under (then_kept c.with_last.ensures c.with_last-2.ensures) c.with_last-3.ensures
 
 pub with_last-returns-then-next : goal.with_last-returns-then-next
-with_last-returns-then-next g t c = record {
-  all = λ w sought on. absurd (none_goes_on_so (c.requires.barred c.if-next.true) sought on);
-  kept = none_met c.args.leaves.now;
-  same = untouched c.args.self.now c.args.begun.now;
-}
+with_last-returns-then-next g t c = none_by c.args.leaves.now (c.requires.barred c.if-next.true)
 
 pub with_last-push_sign-requires : goal.with_last-push_sign-requires
 with_last-push_sign-requires g t c = room_for_sign c.requires.begun (omega (arith, c.requires.last))
@@ -652,18 +537,9 @@ with_last-with_move-requires g t c κs within = (
   (
     within,
     (
-      c.requires.begun.least,
-      (
-        c.requires.begun.most,
-        (
-          omega (arith, c.requires.begun.fits, c.push_sign.ensures.count),
-          (
-            whole_is_legal c.push_sign.new.m c.requires.begun c.push_sign.ensures.count (ap (λ (l : List Sign). length l) c.push_sign.ensures.signs
-                ∙ length-append c.args.begun.now.m.signs (c.args.next.sign ∷ []) ∙ c.requires.last),
-            c.requires.begun.around_is.valley_is,
-          ),
-        ),
-      ),
+      whole_is_next c.push_sign.new.m c.requires.begun c.push_sign.ensures.count (ap (λ (l : List Sign). length l) c.push_sign.ensures.signs
+          ∙ length-append c.args.begun.now.m.signs (c.args.next.sign ∷ []) ∙ c.requires.last),
+      c.requires.begun.around_is.valley_is,
     ),
   ),
 )
@@ -678,8 +554,8 @@ with_last-pop_sign-requires g t c = omega (
 pub with_last-returns : goal.with_last-returns
 with_last-returns g t c = record {
   all = λ w sought on. c.with_move.ensures.all w sought (by_whole c.args.self.now.order c.args.self.now.board w c.push_sign.new.m sought
-      (whole_is_legal c.push_sign.new.m c.requires.begun c.push_sign.ensures.count (ap (λ (l : List Sign). length l) c.push_sign.ensures.signs
-      ∙ length-append c.args.begun.now.m.signs (c.args.next.sign ∷ []) ∙ c.requires.last))
+      (whole_is_next c.push_sign.new.m c.requires.begun c.push_sign.ensures.count (ap (λ (l : List Sign). length l) c.push_sign.ensures.signs
+      ∙ length-append c.args.begun.now.m.signs (c.args.next.sign ∷ []) ∙ c.requires.last)).legal
       (by_same c.push_sign.ensures.count c.push_sign.ensures.signs on));
   kept = c.with_move.ensures.kept;
   same = record {
@@ -697,29 +573,18 @@ with_last-returns g t c = record {
 -- ---- the whole move
 
 pub with_move-bars_move-requires : goal.with_move-bars_move-requires
-with_move-bars_move-requires g t c = record {
-  least = c.requires.least;
-  most = c.requires.most;
-  few = c.requires.few;
-  legal = c.requires.legal;
-  valley = c.requires.valley;
-}
+with_move-bars_move-requires g t c = record { next = c.requires.next; valley = c.requires.valley }
 
 pub with_move-returns-then-bars_move : goal.with_move-returns-then-bars_move
-with_move-returns-then-bars_move g t c = record {
-  all = λ w sought on.
-      absurd (sought.fertile (c.args.self.now.board ++ c.args.begun.now.m ∷ []) on.rest on.is (c.bars_move.ensures c.if-bars_move.true));
-  kept = none_met c.args.leaves.now;
-  same = refl;
-}
+with_move-returns-then-bars_move g t c = none_from c.args.leaves.now (c.bars_move.ensures c.if-bars_move.true)
 
 pub with_move-push-requires : goal.with_move-push-requires
-with_move-push-requires g t c = record { legal = c.requires.legal; few = omega (arith, c.requires.few, c.requires.most) }
+with_move-push-requires g t c = record { legal = c.requires.next.legal; few = omega (arith, c.requires.next.few, c.requires.next.most) }
 
 pub with_move-meet_all-requires : goal.with_move-meet_all-requires
 with_move-meet_all-requires g t c κs within = (
-  omega (arith, c.decreases, more, c.requires.few, c.requires.legal.some),
-  (within, (c.requires.least, (c.requires.most, omega (arith, more, c.requires.few)))),
+  omega (arith, c.decreases, more, c.requires.next.few, c.requires.next.legal.some),
+  (within, (c.requires.next.least, (c.requires.next.most, omega (arith, more, c.requires.next.few)))),
 )
   where
     more : order_of c.push.new.self ≡ order_of c.args.self.now.board + c.args.begun.now.m.count

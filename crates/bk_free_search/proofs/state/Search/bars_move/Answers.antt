@@ -10,19 +10,10 @@ pub joins_barrenly-requires-clause-valley : goal.joins_barrenly-requires-clause-
 joins_barrenly-requires-clause-valley c = c.requires.valley
 
 pub joins_barrenly-requires-clause-legal : goal.joins_barrenly-requires-clause-legal
-joins_barrenly-requires-clause-legal c = c.requires.legal
+joins_barrenly-requires-clause-legal c = c.requires.next.legal
 
-pub ends_otherwise-requires-clause-least : goal.ends_otherwise-requires-clause-least
-ends_otherwise-requires-clause-least c = c.requires.least
-
-pub ends_otherwise-requires-clause-most : goal.ends_otherwise-requires-clause-most
-ends_otherwise-requires-clause-most c = c.requires.most
-
-pub ends_otherwise-requires-clause-few : goal.ends_otherwise-requires-clause-few
-ends_otherwise-requires-clause-few c = c.requires.few
-
-pub ends_otherwise-requires-clause-legal : goal.ends_otherwise-requires-clause-legal
-ends_otherwise-requires-clause-legal c = c.requires.legal
+pub ends_otherwise-requires : goal.ends_otherwise-requires
+ends_otherwise-requires c = c.requires.next
 
 pub returns : goal.returns
 returns c = c.ends_otherwise.ensures

@@ -1,55 +1,46 @@
 -- Of the four ways to attach a square, the number and the turn choose the one that is taken.
 use Rattle.std.specs.Prelude.{Bool, cond, false, true}
-use Rattle.std.proofs.Common.{arith, subst, sym, ℕ, ◌%◌, ◌/◌, ◌^◌, ◌∙◌, ◌≡◌, ◌≤◌}
+use Rattle.std.proofs.Common.{arith, length, subst, sym, ℕ, ◌+◌, ◌<◌, ◌≡◌, ◌≤◌}
 use Rattle.bk_tiling.specs.Tiling.{Tiling}
-use Rattle.bk_gen.specs.Attaching.{goes_up_or_down, is_odd, next_side, with_above, with_below, with_left, with_next, with_right}
+use Rattle.bk_gen.specs.Attaching.{goes_up_or_down, next_side}
+use Rattle.bk_gen.specs.Growing.{IsGrowing, with_behind, with_in_front}
+use Rattle.bk_gen.proofs.GrowingLaws.{growing_height, growing_width, grows_above, grows_below, grows_left, grows_right}
 use Rattle.bk_gen.proofs.growing.Growing.attach.Goals as goal
 
--- what the two bits choose
-chosen : (v turn : ℕ) (t : Tiling) (up set : Bool) → up ≡ goes_up_or_down v turn → set ≡ is_odd (v / 2 ^ (turn % 64))
-    → cond up (cond set (with_above t) (with_below t)) (cond set (with_left t) (with_right t)) ≡ with_next v turn t
-chosen v turn t up set e f = λ i. cond (e i) (cond (f i) (with_above t) (with_below t)) (cond (f i) (with_left t) (with_right t))
+-- a rectangle that can grow with the square of this turn, if it is the one that is shown, can do so as it is shown
+grows : {t now : Tiling} → (v turn : ℕ) (up : Bool) (made : Tiling → Tiling) → t ≡ now → up ≡ goes_up_or_down v turn
+    → length now.squares < 200 → next_side v turn now ≤ 999_999_999_999_999
+    → (length t.squares < 200 → cond up t.width t.height ≤ 999_999_999_999_999 → IsGrowing (made t)) → IsGrowing (made now)
+grows {t} {now} v turn up made same e few side grown = subst (λ (t : Tiling). IsGrowing (made t)) same
+    (grown (subst (λ (t : Tiling). length t.squares < 200) (sym same) few)
+    (subst (λ (b : Bool). cond b t.width t.height ≤ 999_999_999_999_999) (sym e)
+    (subst (λ (t : Tiling). next_side v turn t ≤ 999_999_999_999_999) (sym same) side)))
 
--- the side of the square that is attached
-side : (v turn : ℕ) (t : Tiling) (up : Bool) → up ≡ goes_up_or_down v turn → next_side v turn t ≤ 999_999_999_999_999
-    → cond up t.width t.height ≤ 999_999_999_999_999
-side v turn t up e few = subst (λ (b : Bool). cond b t.width t.height ≤ 999_999_999_999_999) (sym e) few
+pub overflow_add-wide : goal.overflow_add-wide
+overflow_add-wide c = omega (arith, growing_width _ c.self.invariant, growing_height _ c.self.invariant)
+
+pub overflow_add-high : goal.overflow_add-high
+overflow_add-high c = omega (arith, growing_width _ c.self.invariant, growing_height _ c.self.invariant)
 
 pub is_set-requires : goal.is_set-requires
 is_set-requires c = omega arith
 
-pub attach_above-requires-clause-few : goal.attach_above-requires-clause-few
-attach_above-requires-clause-few c = c.requires.few
+pub put_in_front-requires-clause-grows : goal.put_in_front-requires-clause-grows
+put_in_front-requires-clause-grows c =
+    grows c.args.v c.args.turn true (with_in_front c.self.inside.width 0 c.self.inside.width c.self.inside.width (c.self.inside.height + c.self.inside.width)) c.self.view_is c.in-true-true.ensures c.requires.few c.requires.side
+    (grows_above _ c.self.invariant)
 
-pub attach_above-requires-clause-side : goal.attach_above-requires-clause-side
-attach_above-requires-clause-side c = side c.args.v c.args.turn c.args.self.now true c.in-true-true.ensures c.requires.side
+pub put_behind-requires-clause-grows : goal.put_behind-requires-clause-grows
+put_behind-requires-clause-grows c =
+    grows c.args.v c.args.turn true (with_behind (record { x = 0; y = c.self.inside.height; s = c.self.inside.width }) c.self.inside.width (c.self.inside.height + c.self.inside.width)) c.self.view_is c.in-true-false.ensures c.requires.few
+    c.requires.side (grows_below _ c.self.invariant)
 
-pub returns-in-true-true : goal.returns-in-true-true
-returns-in-true-true c = c.attach_above.ensures ∙ chosen c.args.v c.args.turn c.args.self.now true true c.in-true-true.ensures c.in-true-true.ensures'
+pub put_in_front-requires-in-false-true-clause-grows : goal.put_in_front-requires-in-false-true-clause-grows
+put_in_front-requires-in-false-true-clause-grows c =
+    grows c.args.v c.args.turn false (with_in_front c.self.inside.height c.self.inside.height 0 (c.self.inside.width + c.self.inside.height) c.self.inside.height) c.self.view_is c.in-false-true.ensures c.requires.few c.requires.side
+    (grows_left _ c.self.invariant)
 
-pub attach_below-requires-clause-few : goal.attach_below-requires-clause-few
-attach_below-requires-clause-few c = c.requires.few
-
-pub attach_below-requires-clause-side : goal.attach_below-requires-clause-side
-attach_below-requires-clause-side c = side c.args.v c.args.turn c.args.self.now true c.in-true-false.ensures c.requires.side
-
-pub returns-in-true-false : goal.returns-in-true-false
-returns-in-true-false c = c.attach_below.ensures ∙ chosen c.args.v c.args.turn c.args.self.now true false c.in-true-false.ensures c.in-true-false.ensures'
-
-pub attach_left-requires-clause-few : goal.attach_left-requires-clause-few
-attach_left-requires-clause-few c = c.requires.few
-
-pub attach_left-requires-clause-side : goal.attach_left-requires-clause-side
-attach_left-requires-clause-side c = side c.args.v c.args.turn c.args.self.now false c.in-false-true.ensures c.requires.side
-
-pub returns-in-false-true : goal.returns-in-false-true
-returns-in-false-true c = c.attach_left.ensures ∙ chosen c.args.v c.args.turn c.args.self.now false true c.in-false-true.ensures c.in-false-true.ensures'
-
-pub attach_right-requires-clause-few : goal.attach_right-requires-clause-few
-attach_right-requires-clause-few c = c.requires.few
-
-pub attach_right-requires-clause-side : goal.attach_right-requires-clause-side
-attach_right-requires-clause-side c = side c.args.v c.args.turn c.args.self.now false c.in-false-false.ensures c.requires.side
-
-pub returns-in-false-false : goal.returns-in-false-false
-returns-in-false-false c = c.attach_right.ensures ∙ chosen c.args.v c.args.turn c.args.self.now false false c.in-false-false.ensures c.in-false-false.ensures'
+pub put_behind-requires-in-false-false-clause-grows : goal.put_behind-requires-in-false-false-clause-grows
+put_behind-requires-in-false-false-clause-grows c =
+    grows c.args.v c.args.turn false (with_behind (record { x = c.self.inside.width; y = 0; s = c.self.inside.height }) (c.self.inside.width + c.self.inside.height) c.self.inside.height) c.self.view_is c.in-false-false.ensures c.requires.few
+    c.requires.side (grows_right _ c.self.invariant)

@@ -1,30 +1,21 @@
-use Rattle.std.proofs.Common.{List, ap, arith, length, subst, sym}
+use Rattle.std.proofs.Common.{List, ap, arith, length, subst, sym, ◌++◌, ◌+◌, ◌≡◌}
 use Rattle.std.proofs.lemmas.List.{length-append}
 use Rattle.bk_lay.proofs.MeetingRuns.{rises_after}
 use Rattle.bk_lay.proofs.NextTurn.{length_under}
 use Rattle.bk_lay.specs.LevelRuns.{Meet, runs_under}
+use Rattle.bk_tiling.specs.declared.Square.{Square}
 use Rattle.bk_lay.specs.declared.outline.Run.{Run}
 use Rattle.bk_lay.proofs.outline.Outline.lay.Goals as goal
 
+-- as many runs more as squares
+runs_pushed : (after right : List Run) (squares : List Square) → after ≡ right ++ runs_under squares → length after ≡ length right + length squares
+runs_pushed after right squares is = omega (arith, ap length is, length-append right (runs_under squares), length_under squares)
+
 pub take_valley-self-requires-clause-some : goal.take_valley-self-requires-clause-some
-take_valley-self-requires-clause-some c =
-    omega (
-      arith,
-      ap length c.push_runs.ensures,
-      length-append c.args.self.now.right.items (runs_under c.args.squares.now),
-      length_under c.args.squares.now,
-      c.requires.some,
-    )
+take_valley-self-requires-clause-some c = omega (arith, runs_pushed _ c.args.self.now.right.items c.args.squares.now c.push_runs.ensures, c.requires.some)
 
 pub take_valley-self-requires-clause-room : goal.take_valley-self-requires-clause-room
-take_valley-self-requires-clause-room c =
-    omega (
-      arith,
-      ap length c.push_runs.ensures,
-      length-append c.args.self.now.right.items (runs_under c.args.squares.now),
-      length_under c.args.squares.now,
-      c.requires.room,
-    )
+take_valley-self-requires-clause-room c = omega (arith, runs_pushed _ c.args.self.now.right.items c.args.squares.now c.push_runs.ensures, c.requires.room)
 
 pub returns-clause-outline : goal.returns-clause-outline
 returns-clause-outline c width laid m =
@@ -37,10 +28,5 @@ returns-clause-outline c width laid m =
     }
 
 pub returns-clause-fewer : goal.returns-clause-fewer
-returns-clause-fewer c = omega (
-  arith,
-  ap length c.push_runs.ensures,
-  length-append c.args.self.now.right.items (runs_under c.args.squares.now),
-  length_under c.args.squares.now,
-  c.take_valley-self.ensures.fewer,
-)
+returns-clause-fewer c =
+    omega (arith, runs_pushed _ c.args.self.now.right.items c.args.squares.now c.push_runs.ensures, c.take_valley-self.ensures.fewer)

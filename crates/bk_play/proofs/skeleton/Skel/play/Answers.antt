@@ -4,7 +4,7 @@ use Rattle.bk_word.specs.declared.Sign.{Sign}
 use Rattle.bk_play.proofs.Playing.{Playing, moves_shown, playing, stored_played, stored_shown}
 use Rattle.bk_play.proofs.SmallPlaying.{played_lists}
 use Rattle.bk_play.proofs.SkelReads.{counted_in}
-use Rattle.bk_play.specs.Skeleton.{moves_stored}
+use Rattle.bk_play.specs.StoredLists.{lists_of, moves_in}
 use Rattle.bk_play.specs.declared.turns.MoveRecord.{MoveRecord}
 use Rattle.bk_play.proofs.skeleton.Skel.play.Goals as goal
 
@@ -27,29 +27,13 @@ close_and_hang-requires-clause-few c =
     c.deref.ensures.0 c.deref-2.ensures.0 c.deref-3.ensures.0 c.len.ensures.value in
     omega (arith, p.numbers, ap (λ (t : MoveRecord). t.count) p.turn_is)
 
-known : (c : goal.After-deref-4) → Playing 200 (moves_stored c.self.inside.turns.items c.self.inside.played.items)
-    (record { count = c.m.inside.count; signs = c.m.inside.signs.items }) (record {
-      ends = c.self.inside.ends.items;
-      sizes = c.self.inside.sizes.items;
-      signs = c.self.inside.signs.items;
-      closed = c.self.inside.closed.items;
-      turns = c.self.inside.turns.items;
-      played = c.self.inside.played.items;
-    }) c.turn_for-turn.result
+known : (c : goal.After-deref-4) → Playing 200 (moves_in (lists_of c.self.inside))
+    (record { count = c.m.inside.count; signs = c.m.inside.signs.items }) (lists_of c.self.inside) c.turn_for-turn.result
 known c = playing c.self.invariant c.self.view_is c.m.view_is c.requires.legal c.requires.few c.turn_for-turn.ensures
     c.deref.ensures.0 c.deref-2.ensures.0 c.deref-3.ensures.0 c.len.ensures.value
 
-pub apply_signs-requires-clause-sizes_within : goal.apply_signs-requires-clause-sizes_within
-apply_signs-requires-clause-sizes_within c = (known c).sizes_within
-
-pub apply_signs-requires-clause-signs_within : goal.apply_signs-requires-clause-signs_within
-apply_signs-requires-clause-signs_within c = (known c).signs_within
-
-pub apply_signs-requires-clause-sizes_fit : goal.apply_signs-requires-clause-sizes_fit
-apply_signs-requires-clause-sizes_fit c = (known c).sizes_fit
-
-pub apply_signs-requires-clause-signs_fit : goal.apply_signs-requires-clause-signs_fit
-apply_signs-requires-clause-signs_fit c = (known c).signs_fit
+pub apply_signs-requires-clause-room : goal.apply_signs-requires-clause-room
+apply_signs-requires-clause-room c = (known c).gives
 
 pub apply_signs-requires-clause-small : goal.apply_signs-requires-clause-small
 apply_signs-requires-clause-small c = omega (arith, (known c).small, ap (length {A = Sign}) c.deref-4.ensures.0)

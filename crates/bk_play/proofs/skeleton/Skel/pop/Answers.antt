@@ -3,9 +3,10 @@ use Rattle.std.proofs.Common.{ap, arith, drop, length, lit<, take, ◌+◌, ◌-
 use Rattle.std.proofs.lemmas.List.{length-drop, length-map}
 use Rattle.bk_laws.proofs.ListParts.{drop-as_read}
 use Rattle.bk_play.proofs.Playing.{moves_shown, stored_shown}
-use Rattle.bk_play.proofs.TakenBack.{TakesBack, front_left, lists_before, stored_back, taken_back}
+use Rattle.bk_play.proofs.TakenBack.{front_left, lists_before, stored_back, taken_back}
 use Rattle.bk_play.proofs.SkelReads.{counted_in}
-use Rattle.bk_play.specs.Skeleton.{IsStoredSkeleton, move_of, moves_stored}
+use Rattle.bk_play.specs.Skeleton.{move_of}
+use Rattle.bk_play.specs.StoredLists.{lists_of}
 use Rattle.bk_play.proofs.skeleton.Skel.pop.Goals as goal
 
 pub overflow_sub-kept : goal.overflow_sub-kept
@@ -13,28 +14,9 @@ overflow_sub-kept c =
     let b = taken_back c.self.invariant c.take_last-turn.ensures c.requires c.self.view_is in
     omega (arith, b.closed_within, c.len.ensures.value, c.from.ensures)
 
-known : (c : goal.After-turn-1) → TakesBack (moves_stored c.self.inside.turns.items c.self.inside.played.items)
-    (record {
-      ends = c.self.inside.ends.items;
-      sizes = c.self.inside.sizes.items;
-      signs = c.self.inside.signs.items;
-      closed = c.self.inside.closed.items;
-      turns = c.self.inside.turns.items;
-      played = c.self.inside.played.items;
-    }) c.take_last-turn.new.turns.items c.take_last-turn.result
-known c = taken_back c.self.invariant c.take_last-turn.ensures c.requires c.self.view_is
-
-pub undo_signs-requires-clause-sizes_within : goal.undo_signs-requires-clause-sizes_within
-undo_signs-requires-clause-sizes_within c = (known c).sizes_within
-
-pub undo_signs-requires-clause-signs_within : goal.undo_signs-requires-clause-signs_within
-undo_signs-requires-clause-signs_within c = (known c).signs_within
-
-pub undo_signs-requires-clause-sizes_fit : goal.undo_signs-requires-clause-sizes_fit
-undo_signs-requires-clause-sizes_fit c = (known c).sizes_fit
-
-pub undo_signs-requires-clause-signs_fit : goal.undo_signs-requires-clause-signs_fit
-undo_signs-requires-clause-signs_fit c = (known c).signs_fit
+pub undo_signs-requires : goal.undo_signs-requires
+undo_signs-requires c =
+    let b = taken_back c.self.invariant c.take_last-turn.ensures c.requires c.self.view_is in b.gives
 
 pub splice-requires : goal.splice-requires
 splice-requires c =
@@ -53,42 +35,18 @@ splice-requires c =
     (drop (c.len.result - c.from.result) c.deref.result.now)) ≤ 200 = omega (arith, few, b.ends_fit, c.from-2.ensures) in
     (omega arith, (omega arith, (within, fits)))
 
--- the move is taken back from the lists
-left : (c : goal.After-truncate-2) → (b : TakesBack (moves_stored c.self.inside.turns.items c.self.inside.played.items)
-    (record {
-      ends = c.self.inside.ends.items;
-      sizes = c.self.inside.sizes.items;
-      signs = c.self.inside.signs.items;
-      closed = c.self.inside.closed.items;
-      turns = c.self.inside.turns.items;
-      played = c.self.inside.played.items;
-    }) c.take_last-turn.new.turns.items c.take_last-turn.result) × IsStoredSkeleton b.front (record {
-      ends = c.splice.new.list.items;
-      sizes = c.undo_signs.new.sizes.items;
-      signs = c.undo_signs.new.signs.items;
-      closed = c.truncate.new.self.items;
-      turns = c.take_last-turn.new.turns.items;
-      played = c.truncate-2.new.self.items;
-    })
+-- the lists are those with the move taken back
+left : (c : goal.After-truncate-2) → record {
+  ends = c.splice.new.list.items;
+  sizes = c.undo_signs.new.sizes.items;
+  signs = c.undo_signs.new.signs.items;
+  closed = c.truncate.new.self.items;
+  turns = c.take_last-turn.new.turns.items;
+  played = c.truncate-2.new.self.items;
+} ≡ lists_before (lists_of c.self.inside) c.take_last-turn.new.turns.items c.take_last-turn.result
 left c =
-    let b = taken_back c.self.invariant c.take_last-turn.ensures c.requires c.self.view_is in
     let kept : c.len.result - c.from.result ≡ length c.self.inside.closed.items - c.take_last-turn.result.closed =
-    (λ i. c.len.ensures.value i - c.from.ensures i) in
-    let n : record {
-      ends = c.splice.new.list.items;
-      sizes = c.undo_signs.new.sizes.items;
-      signs = c.undo_signs.new.signs.items;
-      closed = c.truncate.new.self.items;
-      turns = c.take_last-turn.new.turns.items;
-      played = c.truncate-2.new.self.items;
-    } ≡ lists_before (record {
-      ends = c.self.inside.ends.items;
-      sizes = c.self.inside.sizes.items;
-      signs = c.self.inside.signs.items;
-      closed = c.self.inside.closed.items;
-      turns = c.self.inside.turns.items;
-      played = c.self.inside.played.items;
-    }) c.take_last-turn.new.turns.items c.take_last-turn.result = λ i. record {
+    (λ i. c.len.ensures.value i - c.from.ensures i) in λ i. record {
       ends = (c.splice.ensures ∙ (λ i. splice c.self.inside.ends.items (c.from-first.ensures i) (c.from-first.ensures i + c.from-2.ensures i)
           (drop-as_read c.self.inside.closed.items c.deref.result.now (c.len.result - c.from.result)
           (length c.self.inside.closed.items - c.take_last-turn.result.closed) c.deref.ensures.0 kept i))) i;
@@ -97,14 +55,15 @@ left c =
       closed = (c.truncate.ensures.items ∙ ap (λ n. take n c.self.inside.closed.items) kept) i;
       turns = c.take_last-turn.new.turns.items;
       played = (c.truncate-2.ensures.items ∙ ap (λ n. take n c.self.inside.played.items) c.from-3.ensures) i;
-    } in
-    (b, stored_back b n)
+    }
 
 pub invariant_of-self : goal.invariant_of-self
-invariant_of-self c = stored_shown (left c).1
+invariant_of-self c = stored_shown (stored_back (taken_back c.self.invariant c.take_last-turn.ensures c.requires c.self.view_is) (left c))
 
 pub returns : goal.returns
-returns c = moves_shown (left c).1 ∙ front_left (left c).0 c.args.self.now c.self.view_is
+returns c =
+    let b = taken_back c.self.invariant c.take_last-turn.ensures c.requires c.self.view_is in
+    moves_shown (stored_back b (left c)) ∙ front_left b c.args.self.now c.self.view_is
 
 pub take_last-turn-requires : goal.take_last-turn-requires
 take_last-turn-requires c = omega (arith, c.requires, ap length c.self.view_is, length-map c.self.inside.turns.items (move_of c.self.inside.played.items))

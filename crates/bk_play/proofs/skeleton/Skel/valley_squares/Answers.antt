@@ -1,30 +1,4 @@
-use Rattle.std.proofs.Common.{ap, ◌∙◌}
-use Rattle.bk_word.specs.Outline.{valley_of}
-use Rattle.bk_word.specs.Play.{outline_of}
-use Rattle.bk_word.specs.Word.{Word}
-use Rattle.bk_play.proofs.ValleyReads.{valley_cut, valley_sizes, valley_within}
 use Rattle.bk_play.proofs.skeleton.Skel.valley_squares.Goals as goal
 
-pub leftmost-place-requires-clause-many : goal.leftmost-place-requires-clause-many
-leftmost-place-requires-clause-many c = (valley_sizes c.self.invariant c.deref.result.now c.deref-2.result.now c.deref.ensures.0 c.deref-2.ensures.0).0
-
-pub leftmost-place-requires-clause-small : goal.leftmost-place-requires-clause-small
-leftmost-place-requires-clause-small c = (valley_sizes c.self.invariant c.deref.result.now c.deref-2.result.now c.deref.ensures.0 c.deref-2.ensures.0).1
-
-pub bounds-deref-place : goal.bounds-deref-place
-bounds-deref-place c =
-    valley_within c.self.invariant c.deref-4.result.now c.deref-2.result.now c.leftmost-place.result.0 c.deref-4.ensures.0 c.deref-2.ensures.0
-    c.leftmost-place.ensures.within
-
-pub slice_bounds-result-end : goal.slice_bounds-result-end
-slice_bounds-result-end c =
-    (valley_cut c.self.invariant c.deref.result.now c.deref-4.result.now c.deref-3.result.now c.deref-2.result.now c.leftmost-place.result.0
-    c.leftmost-place.result.1 c.from.result c.deref.ensures.0 c.deref-4.ensures.0 c.deref-3.ensures.0 c.deref-2.ensures.0
-    c.leftmost-place.ensures.place c.leftmost-place.ensures.within c.leftmost-place.ensures.first c.from.ensures).within
-
 pub returns : goal.returns
-returns c =
-    (valley_cut c.self.invariant c.deref.result.now c.deref-4.result.now c.deref-3.result.now c.deref-2.result.now c.leftmost-place.result.0
-    c.leftmost-place.result.1 c.from.result c.deref.ensures.0 c.deref-4.ensures.0 c.deref-3.ensures.0 c.deref-2.ensures.0
-    c.leftmost-place.ensures.place c.leftmost-place.ensures.within c.leftmost-place.ensures.first c.from.ensures).are
-    ∙ ap (λ (w : Word). valley_of (outline_of w)) c.self.view_is
+returns c = c.valley_at.ensures.squares

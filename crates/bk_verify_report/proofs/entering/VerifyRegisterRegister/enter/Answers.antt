@@ -1,8 +1,7 @@
-use Rattle.std.proofs.Common.{Bor, Option, [], ap, arith, false, le_of_eq, refl, subst, sym, true, ◌+◌, ◌∙◌, ◌∷◌}
+use Rattle.std.proofs.Common.{Bor, Option, [], ap, arith, false, refl, subst, sym, true, ◌+◌, ◌∙◌, ◌∷◌}
 use Rattle.std.specs.Option.{option_copied}
-use Rattle.std.proofs.lemmas.Result.{err_from_is_err_and}
 use Rattle.std.specs.Prelude.{IfOk, OnErr}
-use Rattle.bk_laws.proofs.Outcomes.{on_err-intro}
+use Rattle.bk_laws.proofs.Outcomes.{if_ok-of_error, on_err-intro}
 use Rattle.bk_tiling.specs.Tiling.{Tiling}
 use Rattle.bk_report.specs.ListLines.{refused_line}
 use Rattle.bk_answer.specs.Item.{IsLaidLine}
@@ -10,7 +9,8 @@ use Rattle.bk_ports.specs.WrittenAnswer.{HasOutcome, IsAnswerBegun}
 use Rattle.bk_verify_report.proofs.Entered.{begun_one, written_none, written_one}
 use Rattle.bk_verify_report.specs.ListLine.{CountsAreBelow, EntersLine, MayWantAt, no_item, refuses}
 use Rattle.bk_verify_report.specs.declared.entering.Verifying.{Verifying}
-use Rattle.bk_verify_report.specs.EmptyLine.{still_ready}
+use Rattle.bk_verify_report.specs.EmptyListLine.{still_ready}
+use Rattle.bk_answer.proofs.Failing.{cause-of_error, cause-of_same}
 use Rattle.bk_verify_report.proofs.entering.VerifyRegisterRegister.enter.Goals as goal
 
 pub returns-in-Ok-None-clause-outcome : goal.returns-in-Ok-None-clause-outcome
@@ -52,7 +52,7 @@ pub overflow_add-self : goal.overflow_add-self
 overflow_add-self g c = omega (arith, c.requires.early, c.requires.ready.refused, ap (λ (s : Verifying). s.refused) c.self.view_is)
 
 pub returns-in-Ok-None-clause-cause : goal.returns-in-Ok-None-clause-cause
-returns-in-Ok-None-clause-cause g c = record { later = le_of_eq refl; ok = refl; failed = tt }
+returns-in-Ok-None-clause-cause g c = cause-of_same refl
 
 pub returns-in-Ok-None-clause-ready : goal.returns-in-Ok-None-clause-ready
 returns-in-Ok-None-clause-ready g c =
@@ -81,23 +81,18 @@ returns-in-Ok-Some-clause-ready g c = c.feed.ensures.ready
 
 pub returns-in_err-write_all-in-Err-clause-outcome : goal.returns-in_err-write_all-in-Err-clause-outcome
 returns-in_err-write_all-in-Err-clause-outcome g c =
-    let p = err_from_is_err_and c.from_residual.result c.from_residual.ensures.1 in
-    rw p.1 tt
+    if_ok-of_error _ c.from_residual.result _ c.from_residual.ensures.1
 
 pub returns-in_err-write_all-in-Err-clause-cause : goal.returns-in_err-write_all-in-Err-clause-cause
 returns-in_err-write_all-in-Err-clause-cause g c =
-    let p = err_from_is_err_and c.from_residual.result c.from_residual.ensures.1 in
-    rw p.1 (record { later = c.in_err-write_all-in-Err.ensures.cause.later; ok = tt; failed = c.in_err-write_all-in-Err.ensures.cause.failed })
+    cause-of_error _ c.from_residual.result c.from_residual.ensures.1 c.in_err-write_all-in-Err.ensures.cause
 
 pub returns-in_err-write_all-in-Err-clause-ready : goal.returns-in_err-write_all-in-Err-clause-ready
 returns-in_err-write_all-in-Err-clause-ready g c =
-    let p = err_from_is_err_and c.from_residual.result c.from_residual.ensures.1 in
-    rw p.1 tt
+    if_ok-of_error _ c.from_residual.result _ c.from_residual.ensures.1
 
 pub returns-in_ok-write_all-in-Err-clause-cause : goal.returns-in_ok-write_all-in-Err-clause-cause
-returns-in_ok-write_all-in-Err-clause-cause g c =
-    let cause = c.in_ok-write_all-in-Err.ensures.cause in
-    record { later = cause.later; ok = cause.ok; failed = tt }
+returns-in_ok-write_all-in-Err-clause-cause g c = cause-of_same c.in_ok-write_all-in-Err.ensures.cause.ok
 
 pub returns-in_ok-write_all-in-Err-clause-ready : goal.returns-in_ok-write_all-in-Err-clause-ready
 returns-in_ok-write_all-in-Err-clause-ready g c =

@@ -65,15 +65,7 @@ invariant_of-self-2 c =
     c.self.invariant c.in_ok-keep.ensures.kept
 
 pub returns-clause-kept : goal.returns-clause-kept
-returns-clause-kept c =
-    let stands : StandsFor c.self.inside.order c.args.tiling.now c.canonical-member.result =
-    stands_told c.self.inside.order c.args.tiling.now c.canonical-member.result c.order.result c.from.result c.is_perfect_simple.result
-    c.order.ensures.kept.tiling
-    c.canonical-member.ensures.canonical c.order.ensures.value c.from.ensures c.if-order-from.false c.is_perfect_simple.ensures c.if-not-is_perfect_simple.false
-    in
-    kept_then (record { order = c.self.inside.order; pairs = c.self.inside.kept }) c.args.tiling.now c.canonical-member.result c.args.line
-    c.keep.new.self stands c.in_default.ensures
-    c.self.invariant c.in_ok-keep.ensures.kept
+returns-clause-kept c = invariant_of-self-2 c
 
 pub returns-clause-fed : goal.returns-clause-fed
 returns-clause-fed c =
@@ -94,15 +86,13 @@ pub returns-in_err-keep-clause-unchanged : goal.returns-in_err-keep-clause-uncha
 returns-in_err-keep-clause-unchanged c =
     on_err-intro c.from_residual.result ((λ i. record { order = c.self.inside.order; pairs = c.in_err-keep.ensures.unchanged i }) ∙ c.self.view_is)
 
-pub returns-in_err-keep-clause-kept : goal.returns-in_err-keep-clause-kept
-returns-in_err-keep-clause-kept c =
-    subst (λ (k : List Kept). AreKeptEntries (record { order = c.self.inside.order; pairs = k })) (sym c.in_err-keep.ensures.unchanged)
-    c.self.invariant
-
 pub invariant_of-self : goal.invariant_of-self
 invariant_of-self c =
     subst (λ (k : List Kept). AreKeptEntries (record { order = c.self.inside.order; pairs = k })) (sym c.in_err-keep.ensures.unchanged)
     c.self.invariant
+
+pub returns-in_err-keep-clause-kept : goal.returns-in_err-keep-clause-kept
+returns-in_err-keep-clause-kept c = invariant_of-self c
 
 pub returns-in-Some-clause-kept : goal.returns-in-Some-clause-kept
 returns-in-Some-clause-kept c = subst AreKeptEntries c.self.view_is c.self.invariant

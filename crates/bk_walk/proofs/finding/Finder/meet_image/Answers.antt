@@ -17,9 +17,13 @@ meet_canonical-requires g c = (
   ),
 )
 
-pub returns-clause-put : goal.returns-clause-put
-returns-clause-put g c t turn member same =
-    let is = the_member c.args.self.now.order c.args.self.now.class t c.args.tiling.now c.canonical.result turn member same
-    c.canonical.ensures.canonical in
-    subst (IsHeld c.args.self.now.from c.meet_canonical.new.self.numbers) is
-    (c.meet_canonical.ensures.put (subst (IsMember c.args.self.now.order c.args.self.now.class) (sym is) member))
+pub returns : goal.returns
+returns g c = record {
+  fixed = c.meet_canonical.ensures.fixed;
+  put = λ t turn member same.
+      let is = the_member c.args.self.now.order c.args.self.now.class t c.args.tiling.now c.canonical.result turn member same
+      c.canonical.ensures.canonical in
+      subst (IsHeld c.args.self.now.from c.meet_canonical.new.self.numbers) is
+      (c.meet_canonical.ensures.put (subst (IsMember c.args.self.now.order c.args.self.now.class) (sym is) member));
+  kept = c.meet_canonical.ensures.kept;
+}

@@ -25,39 +25,29 @@ meet_image-requires g c = (
   ),
 )
 
-pub returns-then-order-from-clause-put : goal.returns-then-order-from-clause-put
-returns-then-order-from-clause-put g c t turn member same w word least = absurd (c.if-order-from.true (omega (
-  arith,
-  c.order.ensures.value,
-  c.from.ensures,
-  order_of_image c.args.self.now.order c.args.self.now.class t c.args.tiling.now turn member same,
-  ap (λ (s : Finding). s.order) c.self.view_is,
-)))
+pub returns-then-order-from : goal.returns-then-order-from
+returns-then-order-from g c = record {
+  fixed = refl;
+  put = λ t turn member same w word least. absurd (c.if-order-from.true (omega (
+    arith,
+    c.order.ensures.value,
+    c.from.ensures,
+    order_of_image c.args.self.now.order c.args.self.now.class t c.args.tiling.now turn member same,
+    ap (λ (s : Finding). s.order) c.self.view_is,
+  )));
+  kept = λ x h. h;
+}
 
-pub returns-then-is_canonical-clause-put : goal.returns-then-is_canonical-clause-put
-returns-then-is_canonical-clause-put g c t turn member same =
-    let is = the_member c.args.self.now.order c.args.self.now.class t c.args.tiling.now c.args.tiling.now turn member same
-    (c.is_canonical.ensures.0 c.if-is_canonical.true) in
-    subst (IsHeld c.args.self.now.from c.meet_canonical.new.self.numbers) is
-    (c.meet_canonical.ensures.put (subst (IsMember c.args.self.now.order c.args.self.now.class) (sym is) member))
+pub returns-then-is_canonical : goal.returns-then-is_canonical
+returns-then-is_canonical g c = record {
+  fixed = c.meet_canonical.ensures.fixed;
+  put = λ t turn member same.
+      let is = the_member c.args.self.now.order c.args.self.now.class t c.args.tiling.now c.args.tiling.now turn member same
+      (c.is_canonical.ensures.0 c.if-is_canonical.true) in
+      subst (IsHeld c.args.self.now.from c.meet_canonical.new.self.numbers) is
+      (c.meet_canonical.ensures.put (subst (IsMember c.args.self.now.order c.args.self.now.class) (sym is) member));
+  kept = c.meet_canonical.ensures.kept;
+}
 
-pub returns-then-order-from-clause-fixed : goal.returns-then-order-from-clause-fixed
-returns-then-order-from-clause-fixed g c = refl
-
-pub returns-then-order-from-clause-kept : goal.returns-then-order-from-clause-kept
-returns-then-order-from-clause-kept g c = λ x h. h
-
-pub returns-then-is_canonical-clause-fixed : goal.returns-then-is_canonical-clause-fixed
-returns-then-is_canonical-clause-fixed g c = c.meet_canonical.ensures.fixed
-
-pub returns-then-is_canonical-clause-kept : goal.returns-then-is_canonical-clause-kept
-returns-then-is_canonical-clause-kept g c = c.meet_canonical.ensures.kept
-
-pub returns-else-is_canonical-clause-fixed : goal.returns-else-is_canonical-clause-fixed
-returns-else-is_canonical-clause-fixed g c = c.meet_image.ensures.fixed
-
-pub returns-else-is_canonical-clause-put : goal.returns-else-is_canonical-clause-put
-returns-else-is_canonical-clause-put g c = c.meet_image.ensures.put
-
-pub returns-else-is_canonical-clause-kept : goal.returns-else-is_canonical-clause-kept
-returns-else-is_canonical-clause-kept g c = c.meet_image.ensures.kept
+pub returns-else-is_canonical : goal.returns-else-is_canonical
+returns-else-is_canonical g c = c.meet_image.ensures

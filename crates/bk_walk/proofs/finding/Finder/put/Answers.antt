@@ -1,7 +1,7 @@
 use Rattle.std.proofs.Common.{ap, arith, inl, inr, refl, subst, sym, ◌∙◌, ◌∷◌, ◌⊎◌}
 use Rattle.bk_lay.proofs.Words.{every_tiling_has_a_word}
 use Rattle.std.specs.Prelude.{IsSome}
-use Rattle.bk_found.specs.KeptNumbers.{HasMoreDifferent, Holds}
+use Rattle.bk_packed.specs.KeptNumbers.{HasMoreDifferent, Holds}
 use Rattle.bk_catalogue.specs.Catalogue.{IsMember}
 use Rattle.bk_walk.specs.Finding.{Finding, HasMoreMembers, IsMembersNumber, wanted}
 use Rattle.bk_walk.proofs.FoundMembers.{as_many_members, members_number, more_members, only_with}
@@ -34,31 +34,26 @@ invariant_of-self g c = record {
     more_where_cut (inl some) = c.self.invariant.cut some
     more_where_cut (inr more) = more_members g.row.N s c.number-number.result c.self.invariant.only is_members more
 
-pub returns-then-self-number-clause-put : goal.returns-then-self-number-clause-put
-returns-then-self-number-clause-put g c w is least =
-    subst (λ n. Holds c.put.new.self n) (c.number-number.ensures ∙ c.of_tiling.ensures w is) c.put.ensures.put
+pub returns-then-self-number : goal.returns-then-self-number
+returns-then-self-number g c = record {
+  fixed = ap wanted c.self.view_is;
+  put = λ w is least. subst (λ n. Holds c.put.new.self n) (c.number-number.ensures ∙ c.of_tiling.ensures w is) c.put.ensures.put;
+  kept = λ x held. c.put.ensures.kept x (subst (λ (s : Finding). Holds s.numbers x) (sym c.self.view_is) held);
+}
 
-pub returns-then-self-number-clause-kept : goal.returns-then-self-number-clause-kept
-returns-then-self-number-clause-kept g c x held = c.put.ensures.kept x (subst (λ (s : Finding). Holds s.numbers x) (sym c.self.view_is) held)
-
-pub returns-else-self-number-clause-put : goal.returns-else-self-number-clause-put
-returns-else-self-number-clause-put g c w is least = absurd (omega (
-  arith,
-  least,
-  c.if-self-number.false,
-  c.number-number.ensures,
-  c.of_tiling.ensures w is,
-  ap (λ (s : Finding). s.from) c.self.view_is,
-))
+pub returns-else-self-number : goal.returns-else-self-number
+returns-else-self-number g c = record {
+  fixed = ap wanted c.self.view_is;
+  put = λ w is least. absurd (omega (
+    arith,
+    least,
+    c.if-self-number.false,
+    c.number-number.ensures,
+    c.of_tiling.ensures w is,
+    ap (λ (s : Finding). s.from) c.self.view_is,
+  ));
+  kept = λ x h. subst (λ (s : Finding). Holds s.numbers x) (sym c.self.view_is) h;
+}
 
 pub invariant_of-self-else-self-number : goal.invariant_of-self-else-self-number
 invariant_of-self-else-self-number g c = c.self.invariant
-
-pub returns-then-self-number-clause-fixed : goal.returns-then-self-number-clause-fixed
-returns-then-self-number-clause-fixed g c = ap wanted c.self.view_is
-
-pub returns-else-self-number-clause-fixed : goal.returns-else-self-number-clause-fixed
-returns-else-self-number-clause-fixed g c = ap wanted c.self.view_is
-
-pub returns-else-self-number-clause-kept : goal.returns-else-self-number-clause-kept
-returns-else-self-number-clause-kept g c x h = subst (λ (s : Finding). Holds s.numbers x) (sym c.self.view_is) h

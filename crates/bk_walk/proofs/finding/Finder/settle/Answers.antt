@@ -1,6 +1,6 @@
 use Rattle.std.proofs.Common.{refl, subst, sym}
 use Rattle.std.specs.Prelude.{IsSome}
-use Rattle.bk_found.specs.KeptNumbers.{Holds}
+use Rattle.bk_packed.specs.KeptNumbers.{Holds}
 use Rattle.bk_walk.specs.Finding.{Finding}
 use Rattle.bk_walk.proofs.FoundMembers.{as_many_members, held_settled, only_same}
 use Rattle.bk_walk.proofs.finding.Finder.settle.Goals as goal

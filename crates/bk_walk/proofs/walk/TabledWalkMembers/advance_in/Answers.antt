@@ -1,4 +1,4 @@
-use Rattle.std.proofs.Common.{None, Some, [], ap, arith, false, refl, subst, sym, true, true≢false, ◌-◌, ◌<◌, ◌^◌, ◌∙◌}
+use Rattle.std.proofs.Common.{Bool, None, Some, [], ap, arith, false, refl, subst, sym, true, true≢false, ◌-◌, ◌<◌, ◌^◌, ◌∙◌, ◌≡◌}
 use Rattle.bk_walk.proofs.Answering.{finds_of, kept_at_end, kept_at_word, kept_ended, members_order, next_member, none_after, steps_to_end, steps_to_word}
 use Rattle.bk_tree_walk.proofs.MemberEntries.{same_entry}
 use Rattle.bk_tree_walk.proofs.SearchLoop.{counts_known, counts_none, counts_then}
@@ -6,16 +6,22 @@ use Rattle.bk_catalogue.specs.Tree.{IsAtMostTree}
 use Rattle.bk_catalogue.specs.Following.{HasNoneAfter}
 use Rattle.bk_tiling.specs.Tiling.{Tiling}
 use Rattle.bk_code.specs.Code.{code_of}
-use Rattle.bk_tree_walk.specs.Search.{place_of}
+use Rattle.bk_tree_walk.specs.Search.{Finds, place_of}
 use Rattle.bk_members.specs.Walking.{IsNextMember, PushesGrow, WalkState}
+use Rattle.bk_walk.proofs.walk.TabledWalkMembers.advance_in.Goals.{After-search}
 use Rattle.bk_walk.proofs.walk.TabledWalkMembers.advance_in.Goals as goal
+
+-- what the search found, from the walk's own order and class
+search_finds : (g : _) (c : After-search g) (met : Bool) → c.search.result ≡ met
+    → Finds (record c.resume.new.self { order = c.self.inside.tree.order; class = c.self.inside.tree.class }) c.search.new.tree
+    (c.search.new.steps - c.resume.new.steps) met
+search_finds g c met is = finds_of c.self.inside.tree c.resume.new.self c.search.new.tree (c.search.new.steps - c.resume.new.steps)
+    c.search.result met c.resume.ensures.stays.order c.resume.ensures.stays.class is c.search.ensures.finds
 
 pub invariant_of-self : goal.invariant_of-self
 invariant_of-self g c =
     let s = c.self.inside.tree in
-    let finds = finds_of s c.resume.new.self c.search.new.tree (c.search.new.steps - c.resume.new.steps)
-    c.search.result false c.resume.ensures.stays.order c.resume.ensures.stays.class
-    c.if-not-search.true c.search.ensures.finds in
+    let finds = search_finds g (goal.at.invariant_of-self g c).After-search false c.if-not-search.true in
     kept_ended (record { order = s.order; class = s.class; cursor = c.self.inside.cursor; ended = true; pushes = c.search.new.tree.pushes })
     c.search.new.tree.front c.search.new.tree.order c.search.new.tree.class
     (c.search.ensures.stays.order ∙ c.resume.ensures.stays.order) (c.search.ensures.stays.class ∙ c.resume.ensures.stays.class)
@@ -37,9 +43,7 @@ invariant_of-self-2 g c =
 pub returns-then-not-search-clause-none : goal.returns-then-not-search-clause-none
 returns-then-not-search-clause-none g c _ =
     let s = c.self.inside.tree in
-    let finds = finds_of s c.resume.new.self c.search.new.tree (c.search.new.steps - c.resume.new.steps)
-    c.search.result false c.resume.ensures.stays.order c.resume.ensures.stays.class
-    c.if-not-search.true c.search.ensures.finds in
+    let finds = search_finds g (goal.at.returns-then-not-search-clause-none g c).After-search false c.if-not-search.true in
     subst (λ (w : WalkState). HasNoneAfter w.order w.class w.cursor) c.self.view_is
     (none_after s.order s.class c.self.inside.cursor (place_of c.resume.new.self) c.resume.ensures.place c.args.steps.now c.resume.new.steps
     c.search.new.steps c.resume.ensures.few finds.0)
@@ -47,9 +51,7 @@ returns-then-not-search-clause-none g c _ =
 pub returns-then-not-search-clause-steps_to_end : goal.returns-then-not-search-clause-steps_to_end
 returns-then-not-search-clause-steps_to_end g c _ =
     let s = c.self.inside.tree in
-    let finds = finds_of s c.resume.new.self c.search.new.tree (c.search.new.steps - c.resume.new.steps)
-    c.search.result false c.resume.ensures.stays.order c.resume.ensures.stays.class
-    c.if-not-search.true c.search.ensures.finds in
+    let finds = search_finds g (goal.at.returns-then-not-search-clause-steps_to_end g c).After-search false c.if-not-search.true in
     subst (λ (w : WalkState). IsAtMostTree w.order w.cursor None (c.search.new.steps - c.args.steps.now)) c.self.view_is
     (steps_to_end s.order s.class c.self.inside.cursor (place_of c.resume.new.self) c.resume.ensures.place c.args.steps.now c.resume.new.steps
     c.search.new.steps c.resume.ensures.few finds.0)
@@ -57,9 +59,7 @@ returns-then-not-search-clause-steps_to_end g c _ =
 pub returns-clause-entry : goal.returns-clause-entry
 returns-clause-entry g c _ =
     let s = c.self.inside.tree in
-    let finds = finds_of s c.resume.new.self c.search.new.tree (c.search.new.steps - c.resume.new.steps)
-    c.search.result true c.resume.ensures.stays.order c.resume.ensures.stays.class
-    c.if-not-search.false c.search.ensures.finds in
+    let finds = search_finds g (goal.at.returns-clause-entry g c).After-search true c.if-not-search.false in
     let entry = same_entry s.order c.resume.new.self.order s.class c.resume.new.self.class c.search.new.tree.front c.search.new.tree.front
     c.search.new.tiling c.resume.ensures.stays.order c.resume.ensures.stays.class refl (c.search.ensures.member c.if-not-search.false) in
     let found = c.write_found.new.entry in
@@ -74,9 +74,7 @@ returns-clause-code g c _ = c.write_found.ensures.code ∙ ap code_of (sym c.wri
 pub returns-clause-steps : goal.returns-clause-steps
 returns-clause-steps g c _ =
     let s = c.self.inside.tree in
-    let finds = finds_of s c.resume.new.self c.search.new.tree (c.search.new.steps - c.resume.new.steps)
-    c.search.result true c.resume.ensures.stays.order c.resume.ensures.stays.class
-    c.if-not-search.false c.search.ensures.finds in
+    let finds = search_finds g (goal.at.returns-clause-steps g c).After-search true c.if-not-search.false in
     subst (λ (w : WalkState). IsAtMostTree w.order w.cursor (Some c.write_found.new.cursor) (c.search.new.steps - c.args.steps.now)) c.self.view_is
     (steps_to_word s.order s.class c.self.inside.cursor (place_of c.resume.new.self) c.resume.ensures.place c.args.steps.now c.resume.new.steps
     c.search.new.steps c.resume.ensures.few c.search.new.tree.front c.write_found.new.cursor

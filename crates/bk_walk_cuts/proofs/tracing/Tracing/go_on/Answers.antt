@@ -1,4 +1,4 @@
-use Rattle.std.proofs.Common.{List, [], ap, arith, length, lit<, map, refl, subst, sym, ◌++◌, ◌+◌, ◌-◌, ◌<◌, ◌∙◌, ◌∷◌, ◌≡◌, ◌≤◌}
+use Rattle.std.proofs.Common.{List, [], ap, arith, length, lit<, map, refl, subst, sym, ◌++◌, ◌+◌, ◌-◌, ◌<◌, ◌∙◌, ◌∷◌, ◌≡◌}
 use Rattle.bk_word.specs.Play.{numbers_from, outline_of}
 use Rattle.bk_word.specs.Word.{Move}
 use Rattle.bk_word.specs.Outline.{valley_of}
@@ -8,11 +8,11 @@ use Rattle.bk_walk_cuts.specs.SidesOfTilings.{MeetsMove}
 use Rattle.bk_walk_cuts.specs.Trace.{IsTraceOf, Trace}
 use Rattle.bk_walk_cuts.proofs.Segments.{numbers_are}
 use Rattle.bk_forms.specs.Form.{with_column}
-use Rattle.bk_walk_cuts.proofs.SmallForms.{small_level, small_more}
+use Rattle.bk_walk_cuts.proofs.SmallForms.{few_small, few_small_level}
 use Rattle.bk_walk_cuts.proofs.Traces.{bottoms_room, mark_room}
 use Rattle.bk_walk_cuts.proofs.TraceMore.{trace_more}
 use Rattle.bk_walk_cuts.specs.SideForms.{level_of, new_bottoms}
-use Rattle.bk_walk_cuts.specs.Trace.{AreSmall, IsSmall}
+use Rattle.bk_walk_cuts.specs.Trace.{IsSmall}
 use Rattle.bk_walk_cuts.specs.declared.tracing.Mark.{Mark}
 use Rattle.bk_walk_cuts.proofs.tracing.Tracing.go_on.Goals as goal
 
@@ -29,16 +29,14 @@ pub push_bottoms-requires : goal.push_bottoms-requires
 push_bottoms-requires c =
     let bottoms = ap (λ (t : Trace). length t.bottoms) c.self.view_is ∙ bottoms_room c.args.skel.now c.args.self.now c.requires.trace c.requires.all in
     let count = ap (λ (m : Move). m.count) c.m.view_is in
-    let shown = c.as_slice-2.ensures.value ∙ ap (λ (t : Trace). t.bottoms) c.self.view_is in
-    let short : length c.as_slice-2.result.now ≤ 5 = omega (arith, bottoms, c.requires.few, ap length c.as_slice-2.ensures.value) in (
+    let shown = c.as_slice-2.ensures.value ∙ ap (λ (t : Trace). t.bottoms) c.self.view_is in (
       lit< tt,
       (
         omega (arith, c.order.ensures.value, count, c.requires.few),
         (
           omega (arith, bottoms, count, c.requires.few),
           subst (IsSmall 5) (sym c.level_of-level.ensures)
-              (small_more (length c.as_slice-2.result.now) 5 (level_of c.as_slice-2.result.now c.valley_squares.result.now) short
-              (small_level c.as_slice-2.result.now c.valley_squares.result.now (subst AreSmall (sym shown) c.requires.trace.small))),
+              (few_small_level c.as_slice-2.result.now c.valley_squares.result.now (few_small c.requires.trace shown)),
         ),
       ),
     )
@@ -49,14 +47,9 @@ add_equations-requires c = record { few = c.requires.few }
 pub levels_along-levels-requires-clause-few : goal.levels_along-levels-requires-clause-few
 levels_along-levels-requires-clause-few c = c.requires.few
 
-pub levels_along-levels-requires-clause-short : goal.levels_along-levels-requires-clause-short
-levels_along-levels-requires-clause-short c =
-    let bottoms = ap (λ (t : Trace). length t.bottoms) c.self.view_is ∙ bottoms_room c.args.skel.now c.args.self.now c.requires.trace c.requires.all in
-    omega (arith, bottoms, c.requires.few, ap length c.as_slice.ensures.value)
-
-pub levels_along-levels-requires-clause-small : goal.levels_along-levels-requires-clause-small
-levels_along-levels-requires-clause-small c =
-    subst AreSmall (sym (c.as_slice.ensures.value ∙ ap (λ (t : Trace). t.bottoms) c.self.view_is)) c.requires.trace.small
+pub levels_along-levels-requires-clause-bottoms : goal.levels_along-levels-requires-clause-bottoms
+levels_along-levels-requires-clause-bottoms c =
+    few_small c.requires.trace (c.as_slice.ensures.value ∙ ap (λ (t : Trace). t.bottoms) c.self.view_is)
 
 pub returns-clause-trace : goal.returns-clause-trace
 returns-clause-trace c =

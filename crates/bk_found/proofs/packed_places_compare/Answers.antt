@@ -1,5 +1,0 @@
-use Rattle.bk_found.proofs.PackedOrder.{packed_places_compare}
-use Rattle.bk_found.proofs.packed_places_compare.Goals as goal
-
-pub returns : goal.returns
-returns c = packed_places_compare

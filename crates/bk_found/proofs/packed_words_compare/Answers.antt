@@ -1,5 +1,0 @@
-use Rattle.bk_found.proofs.PackedOrder.{packed_words_compare}
-use Rattle.bk_found.proofs.packed_words_compare.Goals as goal
-
-pub returns : goal.returns
-returns c = packed_words_compare

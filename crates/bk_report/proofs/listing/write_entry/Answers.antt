@@ -1,5 +1,0 @@
-use Rattle.std.proofs.Common.{refl}
-use Rattle.bk_report.proofs.listing.write_entry.Goals as goal
-
-pub returns : goal.returns
-returns c = rw (c.push.ensures.items, c.push_entry.ensures.text, c.clear.ensures) refl

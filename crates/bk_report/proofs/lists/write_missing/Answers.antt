@@ -1,7 +1,0 @@
-use Rattle.std.proofs.Common.{refl}
-use Rattle.bk_report.proofs.lists.write_missing.Goals as goal
-
-pub returns : goal.returns
-returns c =
-    rw (c.push.ensures.items, c.push_entry.ensures.text, c.push_bytes.ensures, c.clear.ensures)
-    refl

@@ -1,4 +1,0 @@
-use Rattle.bk_run_tests.proofs.walk_rows.goes_on_after_any_cursor.Given as goal
-
-abbrev pub ghosts-cursors : goal.ghosts-cursors
-ghosts-cursors g a = record { name = a.blank.name; parts = a.blank.parts }

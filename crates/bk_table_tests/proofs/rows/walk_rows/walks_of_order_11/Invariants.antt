@@ -1,0 +1,4 @@
+use Rattle.bk_table_tests.proofs.rows.walk_rows.walks_of_order_11.Given as goal
+
+abbrev pub ghosts-walks : goal.ghosts-walks
+ghosts-walks g a = record { name = a.blank.name; parts = a.blank.parts }

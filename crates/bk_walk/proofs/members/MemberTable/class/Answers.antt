@@ -1,6 +1,0 @@
-use Rattle.std.proofs.Common.{ap, ◌∙◌}
-use Rattle.bk_walk.specs.Finding.{Finding}
-use Rattle.bk_walk.proofs.members.MemberTable.class.Goals as goal
-
-pub returns : goal.returns
-returns g c = c.class.ensures ∙ ap (λ (f : Finding). f.class) c.self.view_is
