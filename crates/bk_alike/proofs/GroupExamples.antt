@@ -1,7 +1,7 @@
 -- How lines are listed, and three items of two sizes: their groups, and the one pair among them.
 use Rattle.std.specs.Fmt.{digits}
 use Rattle.std.specs.Prelude.{None, codes, ◌≤◌}
-use Rattle.std.proofs.Common.{List, [], arith, false, length, lit<, lit≤, refl, true, ℕ, ◌++◌, ◌∷◌, ◌≡◌}
+use Rattle.std.proofs.Common.{List, [], false, length, lit<, lit≤, refl, true, ℕ, ◌++◌, ◌∷◌, ◌≡◌}
 use Rattle.bk_sym.proofs.CanonicalTests.{canonical_by_test}
 use Rattle.bk_tiling.proofs.ExampleTilings.{rectangle_3x2, square_2x2, square_at}
 use Rattle.bk_tiling.proofs.TilingTest.{tiling_from_test}
@@ -9,7 +9,7 @@ use Rattle.bk_tiling.specs.Tiling.{Tiling}
 use Rattle.bk_text.proofs.WhatWasRead.{read_is_line}
 use Rattle.bk_text.specs.CodeLine.{Item}
 use Rattle.bk_sym.specs.Canonical.{IsCanonicalOf}
-use Rattle.bk_sym.specs.declared.Turn.TheVariants.{FlipX, FlipY, Half, Same, Swap, SwapFlipX, SwapFlipY, SwapHalf}
+use Rattle.bk_sym.specs.declared.Turn.TheVariants.{FlipX}
 use Rattle.bk_report.specs.declared.refusal.Refused.TheVariants.{Gap}
 use Rattle.bk_answer.proofs.CodeAnswerExamples.{gap_refused}
 use Rattle.bk_answer.specs.Item.{HasTiling}

@@ -55,30 +55,31 @@ fn write_pairs_with<O: Sink>(
     let places = items.of_size((tiling.width(), tiling.height()));
     let mut pairs = 0;
     for place in places {
-        let more = write_if_pair(kind, items, i, *place as usize, buffer, out)?;
+        let more = write_if_pair(kind, items, (i, *place as usize), buffer, out)?;
         pairs += more;
     }
     Ok(pairs)
 }
 
-// Writes two items where the second stands behind the first and they are a pair, and says how many lines that makes.
+// Writes the items at two places where the second stands behind the first and they are a pair, and says how many lines
+// that makes.
 fn write_if_pair<O: Sink>(
     kind: Kind,
     items: &Alike,
-    i: usize,
-    j: usize,
+    places: (usize, usize),
     buffer: &mut AnswerBuffer,
     out: &mut O,
 ) -> Result<u64, Failed>
-    requires first { i < length items.now }
-    requires second { j < length items.now }
-    ensures lines { (a : Kept) → slice_get items.now i ≡ Some a
-        → WritesLines (later_lines kind items.now i a j) (O.written out.old) (O.written out.new) result }
-    ensures count { IfOk result (λ n. (a : Kept) → slice_get items.now i ≡ Some a
-        → n ≡ length (later_lines kind items.now i a j)) }
+    requires first { places.0 < length items.now }
+    requires second { places.1 < length items.now }
+    ensures lines { (a : Kept) → slice_get items.now places.0 ≡ Some a
+        → WritesLines (later_lines kind items.now places.0 a places.1) (O.written out.old) (O.written out.new) result }
+    ensures count { IfOk result (λ n. (a : Kept) → slice_get items.now places.0 ≡ Some a
+        → n ≡ length (later_lines kind items.now places.0 a places.1)) }
     ensures few { IfOk result (λ n. n ≤ 1) }
     ensures cause { HasCause (O.faults out.old) (O.faults out.new) result }
 {
+    let (i, j) = places;
     if j <= i {
         return Ok(0);
     }
@@ -87,7 +88,7 @@ fn write_if_pair<O: Sink>(
     if !is_pair(kind, a, b) {
         return Ok(0);
     }
-    write_square(first, a, second, b, buffer, out)?;
+    write_square((first, second), a, b, buffer, out)?;
     Ok(1)
 }
 
@@ -105,21 +106,20 @@ fn is_pair(kind: Kind, a: &KeptTiling, b: &KeptTiling) -> bool
 // tilings is needed only here.
 #[inline(never)]
 fn write_square<O: Sink>(
-    first: u64,
+    lines: (u64, u64),
     a: &KeptTiling,
-    second: u64,
     b: &KeptTiling,
     buffer: &mut AnswerBuffer,
     out: &mut O,
 ) -> Result<(), Failed>
     requires { CanBeLaid a.now b.now }
-    ensures lines { WritesLines (pair_line first second (joined_square a.now b.now) ∷ []) (O.written out.old)
+    ensures lines { WritesLines (pair_line lines.0 lines.1 (joined_square a.now b.now) ∷ []) (O.written out.old)
         (O.written out.new) result }
     ensures cause { HasCause (O.faults out.old) (O.faults out.new) result }
 {
     match lay_pair(&a.tiling(), &b.tiling()) {
         Ok(square) => {
-            write_pair(first, second, &square, buffer);
+            write_pair(lines.0, lines.1, &square, buffer);
             out.write_all(buffer.as_slice())
         }
         Err(_) => unreachable!(),

@@ -3,7 +3,9 @@
 use Rattle.std.specs.Prelude.{Bool, List, length, ℕ, ◌<◌}
 use Rattle.bk_tiling.specs.Tiling.{Tiling, order}
 use Rattle.bk_net.specs.Net.{HasNoLoose, Net}
+use Rattle.bk_flow.specs.declared.TheConstants.{MOST_SMALL_WIRES}
 use Rattle.bk_word.specs.Word.{Word as Moves, order_of}
+use Rattle.bk_word.specs.declared.TheConstants.{INLINE_ORDER}
 use Rattle.bk_answer.specs.CodeAnswer.{AnswersCodeLine}
 use Rattle.bk_answer.specs.Item.{HasTiling}
 use Rattle.bk_answer.specs.NetAnswer.{AnswersNetLine, HasNet}
@@ -23,6 +25,6 @@ AnswersLine (Memory Solve) = AnswersWordLine
 -- for a net of more than 16 wires without a loose node, and `solve` for a word of more than 16 squares
 abbrev pub MayWant : Command → List ℕ → Type 0
 MayWant (Plain command) line = ⊥
-MayWant (Memory Word) line = (t : Tiling) × HasTiling line t × (16 < order t)
-MayWant (Memory Flow) line = (net : Net) × HasNet line net × HasNoLoose net × (16 < length net.wires)
-MayWant (Memory Solve) line = (w : Moves) × HasWord line w × (16 < order_of w)
+MayWant (Memory Word) line = (t : Tiling) × HasTiling line t × (INLINE_ORDER < order t)
+MayWant (Memory Flow) line = (net : Net) × HasNet line net × HasNoLoose net × (MOST_SMALL_WIRES < length net.wires)
+MayWant (Memory Solve) line = (w : Moves) × HasWord line w × (INLINE_ORDER < order_of w)

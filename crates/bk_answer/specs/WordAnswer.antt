@@ -5,11 +5,11 @@ use Rattle.std.specs.Prelude.{Bool, List, [], false, length, slice_range, true, 
 use Rattle.bk_grammar.specs.Grammar.{LineEnd}
 use Rattle.bk_ports.specs.declared.line.TheConstants.{LONGEST_LINE}
 use Rattle.bk_tiling.specs.Tiling.{IsTiling, Tiling}
-use Rattle.bk_tiling.specs.declared.TheConstants.{MOST_SQUARES}
 use Rattle.bk_word.specs.Play.{IsComplete, IsLegal, outline_of}
 use Rattle.bk_word.specs.Word.{Word, order_of}
 use Rattle.bk_word.specs.WordItem.{IsItemAt}
 use Rattle.bk_word.specs.WordText.{IsNoWordText, IsTextOf}
+use Rattle.bk_word.specs.declared.TheConstants.{LARGEST_ORDER}
 use Rattle.bk_lay.specs.TilingWord.{IsWordOf}
 use Rattle.bk_skel.specs.SolveRefusal.{IsFirstIllegal}
 use Rattle.bk_word_net.specs.Realised.{IsTilingOf}
@@ -46,7 +46,7 @@ pub record HasWord (bytes : List ℕ) (w : Word) : Type 0 where
   pub text : List ℕ
   pub item : HasText bytes start text
   pub word : IsTextOf text w
-  pub few : order_of w ≤ MOST_SQUARES
+  pub few : order_of w ≤ LARGEST_ORDER
 
 -- the answer to a word line
 pub data AnswersWordLine (bytes : List ℕ) : List (List ℕ) → Bool → Type 0 where
@@ -57,7 +57,7 @@ pub data AnswersWordLine (bytes : List ℕ) : List (List ℕ) → Bool → Type 
       → AnswersWordLine bytes (refusal_line (Text (start + at)) ∷ []) true
   -- a word of more than 200 squares
   large_word : (start : ℕ) (text : List ℕ) (w : Word) → HasText bytes start text → IsTextOf text w
-      → MOST_SQUARES < order_of w → AnswersWordLine bytes (refusal_line Many ∷ []) true
+      → LARGEST_ORDER < order_of w → AnswersWordLine bytes (refusal_line Many ∷ []) true
   -- a line without an item has no answer
   no_word_item : length bytes ≤ LONGEST_LINE → LineEnd bytes → AnswersWordLine bytes [] false
   -- a word

@@ -3,6 +3,7 @@
 ghost use Rattle.std.specs.Prelude.{◌<◌};
 ghost use Rattle.bk_ports.specs.Causes.{HasCause};
 ghost use Rattle.bk_tiling.specs.Tiling.{IsTiling, order};
+ghost use Rattle.bk_word.specs.declared.TheConstants.{INLINE_ORDER};
 ghost use Rattle.bk_answer.specs.Answer.{MayWant};
 ghost use Rattle.bk_answer.specs.CodeAnswer.{AnswersCodeLine};
 ghost use Rattle.bk_answer.specs.Replies.{IsReplyWith};
@@ -47,8 +48,8 @@ fn tell_word<O: Sink>(
     out: &mut O,
 ) -> Result<Outcome, Failed>
     requires { IsTiling tiling.now }
-    ensures reply { IsReplyWith (TellsPieces (Memory Word) tiling.now) (16 < order tiling.now) (O.written out.old)
-        (O.written out.new) result }
+    ensures reply { IsReplyWith (TellsPieces (Memory Word) tiling.now) (INLINE_ORDER < order tiling.now)
+        (O.written out.old) (O.written out.new) result }
     ensures cause { HasCause (O.faults out.old) (O.faults out.new) result }
 {
     match word_of(alloc, tiling) {

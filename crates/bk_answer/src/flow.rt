@@ -3,6 +3,7 @@
 ghost use Rattle.std.specs.Prelude.{length, ◌<◌, ◌≡◌};
 ghost use Rattle.bk_ports.specs.Causes.{HasCause};
 ghost use Rattle.bk_net.specs.Net.{HasNoLoose};
+ghost use Rattle.bk_flow.specs.declared.TheConstants.{MOST_SMALL_WIRES};
 ghost use Rattle.bk_answer.specs.Answer.{MayWant};
 ghost use Rattle.bk_answer.specs.NetAnswer.{AnswersNet, AnswersNetLine, refused_net};
 ghost use Rattle.bk_answer.specs.Replies.{IsReplyWith};
@@ -45,7 +46,7 @@ fn answer_net<O: Sink>(
     buffer: &mut AnswerBuffer,
     out: &mut O,
 ) -> Result<Outcome, Failed>
-    ensures reply { IsReplyWith (AnswersNet net.now) (HasNoLoose net.now × (16 < length net.now.wires))
+    ensures reply { IsReplyWith (AnswersNet net.now) (HasNoLoose net.now × (MOST_SMALL_WIRES < length net.now.wires))
         (O.written out.old) (O.written out.new) result }
     ensures cause { HasCause (O.faults out.old) (O.faults out.new) result }
 {

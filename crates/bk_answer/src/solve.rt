@@ -3,6 +3,7 @@
 ghost use Rattle.std.specs.Prelude.{length, ◌<◌};
 ghost use Rattle.bk_ports.specs.Causes.{HasCause};
 ghost use Rattle.bk_word.specs.Word.{order_of};
+ghost use Rattle.bk_word.specs.declared.TheConstants.{INLINE_ORDER};
 ghost use Rattle.bk_answer.specs.Answer.{MayWant};
 ghost use Rattle.bk_answer.specs.Replies.{IsReplyWith};
 ghost use Rattle.bk_answer.specs.declared.command.Command.TheVariants.{Memory};
@@ -56,7 +57,7 @@ fn answer_word<O: Sink>(
     out: &mut O,
 ) -> Result<Outcome, Failed>
     requires { 0 < length word.now }
-    ensures reply { IsReplyWith (AnswersWord word.now) (16 < order_of word.now) (O.written out.old)
+    ensures reply { IsReplyWith (AnswersWord word.now) (INLINE_ORDER < order_of word.now) (O.written out.old)
         (O.written out.new) result }
     ensures cause { HasCause (O.faults out.old) (O.faults out.new) result }
 {

@@ -5,6 +5,7 @@ use Rattle.std.specs.Prelude.{List, Option, [], codes, ℕ, ◌∷◌, ◌≡◌
 use Rattle.bk_word.specs.Word.{Word}
 use Rattle.bk_word.specs.declared.Class.{Class}
 use Rattle.bk_word.specs.declared.Class.TheVariants.{Perfect}
+use Rattle.bk_word.specs.declared.TheConstants.{LARGEST_LISTED_ORDER}
 use Rattle.bk_ask.specs.Options.{AreOptions, Given, IsGivenOr, MayHave, options_in}
 use Rattle.bk_ask.specs.OptionValues.{IsClassName, IsCursor, IsKindName, IsNumberWithin}
 use Rattle.bk_ask.specs.declared.Ask.{Ask}
@@ -34,7 +35,7 @@ command_name asks.Help = codes "help"
 pub record AsksListing (words : List (List ℕ)) (order : ℕ) (class : Class) (from : Option Word)
     (limit : Option ℕ) : Type 0 where
   pub options : AreOptions (codes "--order" ∷ codes "--class" ∷ codes "--from" ∷ codes "--limit" ∷ []) words
-  pub has_order : Given (options_in words) (codes "--order") (IsNumberWithin 2 16) order
+  pub has_order : Given (options_in words) (codes "--order") (IsNumberWithin 2 LARGEST_LISTED_ORDER) order
   pub has_class : IsGivenOr (options_in words) (codes "--class") IsClassName Perfect class
   pub has_from : MayHave (options_in words) (codes "--from") IsCursor from
   pub has_limit : MayHave (options_in words) (codes "--limit") (IsNumberWithin 0 1_000_000_000) limit
@@ -48,7 +49,7 @@ pub record AsksTrial (words : List (List ℕ)) (seed count : ℕ) : Type 0 where
 -- verify: an order from 2 to 16
 pub record AsksVerify (words : List (List ℕ)) (order : ℕ) : Type 0 where
   pub options : AreOptions (codes "--order" ∷ []) words
-  pub has_order : Given (options_in words) (codes "--order") (IsNumberWithin 2 16) order
+  pub has_order : Given (options_in words) (codes "--order") (IsNumberWithin 2 LARGEST_LISTED_ORDER) order
 
 -- pair: it may have a kind, which is else perfect
 pub record AsksPair (words : List (List ℕ)) (kind : Kind) : Type 0 where

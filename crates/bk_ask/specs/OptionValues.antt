@@ -6,6 +6,7 @@ use Rattle.bk_word.specs.Word.{Word, order_of}
 use Rattle.bk_word.specs.WordText.{IsTextOf}
 use Rattle.bk_word.specs.declared.Class.{Class}
 use Rattle.bk_word.specs.declared.Class.TheVariants.{Imperfect, Perfect, Simple}
+use Rattle.bk_word.specs.declared.TheConstants.{LARGEST_LISTED_ORDER}
 use Rattle.bk_pair.specs.declared.Kind.{Kind}
 use Rattle.bk_pair.specs.declared.Kind.TheVariants as kinds
 
@@ -18,7 +19,7 @@ pub record IsNumberWithin (least most : ℕ) (bytes : List ℕ) (n : ℕ) : Type
 -- the text of a word of an order of at most 16
 pub record IsCursor (bytes : List ℕ) (w : Word) : Type 0 where
   pub text : IsTextOf bytes w
-  pub few : order_of w ≤ 16
+  pub few : order_of w ≤ LARGEST_LISTED_ORDER
 
 -- the name of a class
 abbrev pub class_name : Class → List ℕ

@@ -12,13 +12,13 @@ ghost use Rattle.bk_ask.specs.OptionValues.{IsClassName, IsCursor, IsKindName, I
 use crate::options::{are_options, value_of};
 use crate::values::{class_named, cursor_in, kind_named, number_within};
 use crate::{Ask, Kind};
-use bk_word::{Class, Word};
+use bk_word::{Class, LARGEST_LISTED_ORDER, Word};
 use std::alloc::Global;
 
 // The orders of catalogues.
 const LEAST_ORDER: u64 = 2;
 
-const GREATEST_ORDER: u64 = 16;
+const GREATEST_ORDER: u64 = LARGEST_LISTED_ORDER as u64;
 
 // At most so many entries are listed, where a limit is asked.
 const MOST_ENTRIES: u64 = 1_000_000_000;

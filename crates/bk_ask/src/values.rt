@@ -7,7 +7,7 @@ ghost use Rattle.bk_pair.specs.declared.Kind.{Kind as KindOf};
 ghost use Rattle.bk_ask.specs.OptionValues.{BeginsNumber, IsClassName, IsCursor, IsKindName, IsNumberWithin};
 
 use crate::Kind;
-use bk_word::{Class, INLINE_ORDER, Word, read_word, text_order};
+use bk_word::{Class, LARGEST_LISTED_ORDER, Word, read_word, text_order};
 use std::alloc::Global;
 
 // The number that the text writes in digits, without a sign and without a leading 0, where it is in this range.
@@ -37,7 +37,7 @@ pub(crate) fn cursor_in(alloc: Global, text: &str) -> Option<Word>
     ensures none { IfNone result ((w : Moves) → IsCursor text.now w → ⊥) }
 {
     match text_order(text.as_bytes()) {
-        Some(order) if usize::from(order) <= INLINE_ORDER => {
+        Some(order) if usize::from(order) <= LARGEST_LISTED_ORDER => {
             read_word(alloc, text.as_bytes()).ok()
         }
         _ => None,

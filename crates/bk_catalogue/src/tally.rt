@@ -8,8 +8,12 @@ ghost use Rattle.bk_word.specs.Signs.{is_under};
 ghost use Rattle.bk_word.specs.declared.Sign.{Sign as SeenSign};
 ghost use Rattle.bk_catalogue.specs.ClosingBound.{closing_bound as bound_of};
 ghost use Rattle.bk_catalogue.specs.Tally.{IsTally};
+ghost use Rattle.bk_catalogue.specs.declared.tally.TheConstants.{TALLY_LIMIT};
 
 use bk_word::Sign;
+
+/// Fewer signs than so many are counted at once, and there is less room for what must be closed.
+pub const TALLY_LIMIT: usize = 1000;
 
 // The closing bound of signs, and how many of them are above.
 #[derive(Drop)]
@@ -42,7 +46,7 @@ fn tally_with(tally: Tally, sign: Sign) -> Tally
 
 /// The closing bound of signs: how many of the segments between which they stand must be closed at least.
 pub fn closing_bound(signs: &[Sign]) -> usize
-    requires { length signs.now < 1000 }
+    requires { length signs.now < TALLY_LIMIT }
     ensures { result ≡ bound_of signs.now }
 {
     let mut tally = Tally {
@@ -57,7 +61,7 @@ pub fn closing_bound(signs: &[Sign]) -> usize
 
 // The tally of signs, where the bound doesn't pass the room; else it goes no further than to one that does.
 fn tally_of(signs: &[Sign], room: usize) -> Option<Tally>
-    requires { room < 1000 }
+    requires { room < TALLY_LIMIT }
     ensures within { IfSome result (λ tally. IsTally signs.now tally.bound tally.aboves) }
     ensures low { IfSome result (λ tally. tally.aboves ≤ tally.bound) }
     ensures room { IfSome result (λ tally. tally.bound ≤ room) }
@@ -79,7 +83,7 @@ fn tally_of(signs: &[Sign], room: usize) -> Option<Tally>
 /// How many of the signs bring the closing bound of those before and these above the room that there is; `None` exactly
 /// where all of them don't. It looks no further than to the first that does.
 pub fn first_over(before: &[Sign], signs: &[Sign], room: usize) -> Option<usize>
-    requires { room < 1000 }
+    requires { room < TALLY_LIMIT }
     ensures over { IfSome result (λ kept. room < bound_of (before.now ++ take kept signs.now)) }
     ensures none { IfNone result (bound_of (before.now ++ signs.now) ≤ room) }
 {

@@ -4,6 +4,7 @@
 ghost use Rattle.std.specs.Prelude.{[], length, slice_index, ℕ, ◌&&◌, ◌+◌, ◌++◌, ◌<◌, ◌==◌, ◌^◌, ◌||◌, ◌≡◌, ◌≤◌, ◌∷◌};
 ghost use Rattle.bk_draw.specs.Drawing.{character, drawing_row, is_across, is_along};
 ghost use Rattle.bk_draw.specs.Mark.{IsDrawnBetween, IsDrawnOver, mark_of, seen};
+ghost use Rattle.bk_draw.specs.declared.TheConstants.{LARGEST_DRAWN, LONGEST_ROW};
 ghost use Rattle.bk_tiling.specs.Point.{is_at_edge, is_at_side};
 
 mod laws;
@@ -15,11 +16,14 @@ pub use laws::no_row_ends_with_a_space;
 /// No rectangle that is wider or higher is drawn.
 pub const LARGEST_DRAWN: u64 = 400;
 
-/// Leaves in `row` one row of the drawing of a tiling, whose width is at most 400: a character for each point of the
-/// grid at level `y`, from left to right, and a line feed. A point is `+` at a corner of a square, else `-` on an upper
-/// or lower side, else `|` on a left or right side, else a space. This drawing is our own.
-pub fn draw_row(tiling: &Tiling, y: u64, row: &mut ArrayVec<u8, 402>)
-    requires width { tiling.now.width ≤ 400 }
+/// No row of a drawing has more characters, with its line feed.
+pub const LONGEST_ROW: usize = LARGEST_DRAWN as usize + 2;
+
+/// Leaves in `row` one row of the drawing of a tiling, whose width is at most `LARGEST_DRAWN`: a character for each
+/// point of the grid at level `y`, from left to right, and a line feed. A point is `+` at a corner of a square, else `-`
+/// on an upper or lower side, else `|` on a left or right side, else a space. This drawing is our own.
+pub fn draw_row(tiling: &Tiling, y: u64, row: &mut ArrayVec<u8, LONGEST_ROW>)
+    requires width { tiling.now.width ≤ LARGEST_DRAWN }
     ensures { row.new.items ≡ drawing_row tiling.now y ++ 10 ∷ [] }
 {
     leave_blank(row, tiling.width() as usize + 1);
@@ -28,8 +32,8 @@ pub fn draw_row(tiling: &Tiling, y: u64, row: &mut ArrayVec<u8, 402>)
 }
 
 // Leaves n spaces in the row.
-fn leave_blank(row: &mut ArrayVec<u8, 402>, n: usize)
-    requires { n ≤ 402 }
+fn leave_blank(row: &mut ArrayVec<u8, LONGEST_ROW>, n: usize)
+    requires { n ≤ LONGEST_ROW }
     ensures length { length row.new.items ≡ n }
     ensures blank { (x : ℕ) → x < n → slice_index row.new.items x ≡ 32 }
 {

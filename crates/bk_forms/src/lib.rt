@@ -6,6 +6,6 @@ mod laws;
 mod ledger;
 mod reduction;
 
-pub use form::{Form, SIDES};
+pub use form::{Form, MOST_SIDES};
 pub use laws::{a_comparison_is_sound, a_contradiction_is_sound, an_addition_is_exact};
 pub use ledger::{Compared, Kept, Ledger};

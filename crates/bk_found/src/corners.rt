@@ -67,15 +67,15 @@ fn with_square(longest: Longest, contact: Contact, side: u64) -> Longest
     let across = contact.left || contact.right;
     let down = contact.top || contact.bottom;
     Longest {
-        top: longer(longest.top, contact.top && across, side),
-        bottom: longer(longest.bottom, contact.bottom && across, side),
-        left: longer(longest.left, contact.left && down, side),
-        right: longer(longest.right, contact.right && down, side),
+        top: longer_if_counted(longest.top, contact.top && across, side),
+        bottom: longer_if_counted(longest.bottom, contact.bottom && across, side),
+        left: longer_if_counted(longest.left, contact.left && down, side),
+        right: longer_if_counted(longest.right, contact.right && down, side),
     }
 }
 
 // The longer of two sides, if the second one counts.
-fn longer(side: u64, counts: bool, other: u64) -> u64
+fn longer_if_counted(side: u64, counts: bool, other: u64) -> u64
     ensures { result ≡ max side (cond counts other 0) }
 {
     if counts && other > side { other } else { side }

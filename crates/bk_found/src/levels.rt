@@ -4,6 +4,8 @@ ghost use Rattle.std.specs.Prelude.{length, pos, slice_index_or, ℕ, ℤ, ◌*�
 ghost use Rattle.bk_found.specs.Candidate.{line_place};
 ghost use Rattle.bk_found.specs.Placing.{AreKnownLines, AreLevels, AreSmallNumbers, EndWithin, HasLevels};
 ghost use Rattle.bk_found.specs.Placing.{IsSmallNumber, edges_by_lefts};
+ghost use Rattle.bk_word.specs.declared.TheConstants.{INLINE_ORDER};
+ghost use Rattle.bk_found.specs.declared.levels.TheConstants.{NODES};
 
 use arrayvec::ArrayVec;
 use bk_word::INLINE_ORDER;
@@ -14,11 +16,11 @@ pub(crate) const NODES: usize = INLINE_ORDER + 1;
 // How far the nodes lie under the first, by the currents of the wires, each of which leads down from a node whose level
 // is known from those before.
 pub(crate) fn levels_of(wires: &[(u16, u16)], currents: &[i64]) -> [i64; NODES]
-    requires ends { EndWithin 17 wires.now }
+    requires ends { EndWithin NODES wires.now }
     requires many { length currents.now ≡ length wires.now }
-    requires few { length wires.now ≤ 16 }
+    requires few { length wires.now ≤ INLINE_ORDER }
     requires small { AreSmallNumbers (2 ^ 34) currents.now }
-    ensures small { (v : ℕ) → v < 17 → IsSmallNumber (16 * 2 ^ 34) (slice_index_or result v (pos 0)) }
+    ensures small { (v : ℕ) → v < NODES → IsSmallNumber (INLINE_ORDER * 2 ^ 34) (slice_index_or result v (pos 0)) }
     ensures right { (at : ℕ → ℤ) → AreLevels wires.now currents.now at → HasLevels wires.now at result }
 {
     let mut levels = [0i64; NODES];
@@ -32,13 +34,13 @@ pub(crate) fn levels_of(wires: &[(u16, u16)], currents: &[i64]) -> [i64; NODES]
 // Where the squares end: each as far behind its left line as its current says.
 pub(crate) fn rights_of(lefts: &[u8], currents: &[i64], total: i64) -> ArrayVec<i64, INLINE_ORDER>
     requires many { length currents.now ≡ length lefts.now }
-    requires few { length lefts.now ≤ 16 }
+    requires few { length lefts.now ≤ INLINE_ORDER }
     requires known { AreKnownLines lefts.now }
     requires small { AreSmallNumbers (2 ^ 34) currents.now }
     requires total { IsSmallNumber (2 ^ 34) total }
     ensures value { result.items ≡ edges_by_lefts total lefts.now currents.now }
     ensures many { length result.items ≡ length lefts.now }
-    ensures small { AreSmallNumbers (17 * 2 ^ 34) result.items }
+    ensures small { AreSmallNumbers ((INLINE_ORDER + 1) * 2 ^ 34) result.items }
 {
     let mut rights = ArrayVec::new();
     for (i, line) in lefts.iter().enumerate() {

@@ -18,6 +18,7 @@ ghost use Rattle.bk_layout.specs.Normal.{Counts};
 ghost use Rattle.bk_layout.specs.NormalImage.{AreCornersSettled, IsMetByNormalWord};
 ghost use Rattle.bk_layout.specs.WordNumbers.{counts_of_word};
 ghost use Rattle.bk_catalogue.specs.Catalogue.{IsOfClass};
+ghost use Rattle.bk_word.specs.declared.TheConstants.{INLINE_ORDER};
 
 use crate::class::class_allows;
 use crate::corners::longest_in_corners;
@@ -46,7 +47,7 @@ pub struct Placed {
 /// word is found. Where it is told which counts of the word tie, images that lose by their corners are passed over.
 pub fn leaf(skel: &SmallSkel, lefts: &[u8], ties: Ties, class: Class) -> Option<Placed>
     requires complete { IsComplete skel.now }
-    requires few { order_of skel.now ≤ 16 }
+    requires few { order_of skel.now ≤ INLINE_ORDER }
     requires lefts { lefts.now ≡ lefts_of skel.now }
     requires ties { AreTiesOf (counts_of_word skel.now) ties }
     ensures { (t : Tiled) → IsMetByNormalWord t skel.now → IsPrimitiveTiling t → IsOfClass class t → IsFound t result }

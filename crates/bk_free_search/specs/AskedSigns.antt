@@ -25,6 +25,7 @@ use Rattle.bk_free_search.specs.declared.line_set.LineSet.{LineSet}
 use Rattle.bk_free_search.specs.declared.state.Begun.{Begun}
 use Rattle.bk_free_search.specs.declared.state.Search.{Search}
 use Rattle.bk_free_search.specs.declared.strong.Passed.{Passed}
+use Rattle.bk_word.specs.declared.TheConstants.{LARGEST_LISTED_ORDER}
 
 -- these are places of marked segments
 abbrev pub AreMarks : Word → LineSet → Type 0
@@ -121,7 +122,7 @@ asks_then b low = cond low b.under b.above
 -- a next move of a search is begun, after which squares are left, and this stands beside the valley
 pub record IsMoveBegun (s : Search) (b : Begun) (around : Beside) : Type 0 where
   pub least : 3 ≤ s.order
-  pub most : s.order ≤ 16
+  pub most : s.order ≤ LARGEST_LISTED_ORDER
   pub some : 0 < b.m.count
   pub fits : order_of s.board + b.m.count < s.order
   pub signs : length b.m.signs ≤ b.next.wanted

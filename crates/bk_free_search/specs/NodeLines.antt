@@ -9,6 +9,7 @@ use Rattle.bk_layout.specs.LineNumbers.{square_lines}
 use Rattle.bk_layout.specs.NodeCut.{TouchesClosed}
 use Rattle.bk_free_search.specs.declared.line_set.LineSet.{LineSet}
 use Rattle.bk_free_search.specs.declared.node_lines.NewSquares.{NewSquares}
+use Rattle.bk_free_search.specs.declared.line_set.TheConstants.{MOST_LINES}
 
 -- the set has the line
 abbrev pub Has : LineSet → ℕ → Type 0
@@ -16,7 +17,7 @@ Has lines line = bit_at lines.bits line ≡ 1
 
 -- lines by these numbers, and the walls, can stand in a set
 abbrev pub AreLow : List ℕ → Type 0
-AreLow lines = (k wall : ℕ) → wall ≤ 1 → slice_index_or lines k wall < 32
+AreLow lines = (k wall : ℕ) → wall ≤ 1 → slice_index_or lines k wall < MOST_LINES
 
 -- the line is at one side of one of these squares, by the lines of all squares at that side, where the wall stands
 pub record IsLineOfOne (lines squares : List ℕ) (wall line : ℕ) : Type 0 where
@@ -79,11 +80,11 @@ pub record StandBetween (lefts rights : List ℕ) (new : NewSquares) : Type 0 wh
   pub lefts_are : (k : ℕ) → k + 1 < new.count → slice_index_or lefts (new.hung + k + 1) 0 ≡ new.hung + k + 2
   pub rights_are : (k : ℕ) → k + 1 < new.count → slice_index_or rights (new.hung + k) 1 ≡ new.hung + k + 2
 
--- for each closed node of the word the set of the lines that touch it; lines with numbers of 32 and more may be left
+-- for each closed node of the word the set of the lines that touch it; lines past those that a set keeps may be left
 -- out
 pub record AreNodeLines (w : Word) (nodes : List LineSet) : Type 0 where
   pub as_many : length nodes ≡ length w
   pub touch : (v line : ℕ) (lines : LineSet) → slice_get nodes v ≡ Some lines → Has lines line
       → TouchesClosed (outline_of w) (square_lines w) line v
-  pub all : (v line : ℕ) (lines : LineSet) → slice_get nodes v ≡ Some lines → line < 32
+  pub all : (v line : ℕ) (lines : LineSet) → slice_get nodes v ≡ Some lines → line < MOST_LINES
       → TouchesClosed (outline_of w) (square_lines w) line v → Has lines line

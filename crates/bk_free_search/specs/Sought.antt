@@ -7,6 +7,7 @@ use Rattle.bk_word.specs.Play.{outline_of}
 use Rattle.bk_word.specs.Word.{Move, Word, order_of}
 use Rattle.bk_word.specs.declared.Sign.{Sign}
 use Rattle.bk_word.specs.declared.Sign.TheVariants.{Above, Even}
+use Rattle.bk_word.specs.declared.TheConstants.{LARGEST_LISTED_ORDER}
 
 -- the word goes on from these moves
 pub record GoesOn (front w : Word) : Type 0 where
@@ -25,7 +26,7 @@ pub record GoesOnBy (front : Word) (count : ℕ) (signs : List Sign) (w : Word) 
 -- a legal next move after which squares are left, of an order from 3 to 16
 pub record IsNextMove (n : ℕ) (front : Word) (m : Move) : Type 0 where
   pub least : 3 ≤ n
-  pub most : n ≤ 16
+  pub most : n ≤ LARGEST_LISTED_ORDER
   pub few : order_of front + m.count < n
   pub legal : IsLegalMove (outline_of front) m
 

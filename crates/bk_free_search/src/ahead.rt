@@ -6,6 +6,7 @@ ghost use Rattle.bk_word.specs.Play.{outline_of};
 ghost use Rattle.bk_word.specs.Word.{order_of};
 ghost use Rattle.bk_free_search.specs.AskedSigns.{AreEvensNeeded, AreMovesLeft};
 ghost use Rattle.bk_free_search.specs.declared.counts.TheConstants.{MANY};
+ghost use Rattle.bk_word.specs.declared.TheConstants.{LARGEST_ORDER};
 
 use crate::board::Board;
 use crate::counts::one_if;
@@ -19,7 +20,7 @@ pub(crate) struct Ahead {
 
 /// What is ahead of a board, whose leftmost valley has walls beside it or not, as is said, in words of the order.
 pub(crate) fn look_ahead(board: &Board, order: u8, left_wall: bool, right_wall: bool) -> Ahead
-    requires few { order_of board.now ≤ 200 }
+    requires few { order_of board.now ≤ LARGEST_ORDER }
     requires left { left_wall ≡ has_left_wall (outline_of board.now) }
     requires right { right_wall ≡ has_right_wall (outline_of board.now) }
     ensures moves { AreMovesLeft order board.now result.moves }

@@ -12,6 +12,8 @@ ghost use Rattle.bk_word.specs.declared.Sign.TheVariants.{Under};
 ghost use Rattle.bk_layout.specs.NormalCuts.{IsNormalBarren};
 ghost use Rattle.bk_free_search.specs.AllUnder.{StandsAfter};
 ghost use Rattle.bk_free_search.specs.Sought.{IsNextMove};
+ghost use Rattle.bk_free_search.specs.declared.counts.TheConstants.{FEW};
+ghost use Rattle.bk_word.specs.declared.TheConstants.{INLINE_ORDER};
 
 use crate::ahead::{are_most_moves, most_moves};
 use crate::board::Board;
@@ -65,10 +67,10 @@ fn are_under_then(board: &Board, m: &SmallMove) -> bool
 
 // What stands after the legal move.
 fn look_after(board: &Board, m: &SmallMove) -> After
-    requires few { order_of board.now + m.now.count ≤ 16 }
+    requires few { order_of board.now + m.now.count ≤ INLINE_ORDER }
     requires legal { IsLegalMove (outline_of board.now) m.now }
     ensures stands { StandsAfter board.now m.now result }
-    ensures few { (result.left ≤ 256) × (result.right ≤ 256) × (result.signs ≤ 100) }
+    ensures few { (result.left ≤ 256) × (result.right ≤ 256) × (result.signs ≤ FEW) }
 {
     let counts = board.counts();
     let (left_wall, right_wall) = board.skel().walls();

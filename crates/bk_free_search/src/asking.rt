@@ -12,6 +12,8 @@ ghost use Rattle.bk_free_search.specs.AskedSigns.{AreAskedBefore, AreFewAsks, Ar
 ghost use Rattle.bk_free_search.specs.AskedSigns.{IsAsked, IsOver, NeedsLeft, StandBeside};
 ghost use Rattle.bk_free_search.specs.Strong.{IsFewPassed, seen_passed};
 ghost use Rattle.bk_free_search.specs.declared.counts.TheConstants.{FEW};
+ghost use Rattle.bk_free_search.specs.declared.line_set.TheConstants.{MOST_LINES};
+ghost use Rattle.bk_word.specs.declared.TheConstants.{INLINE_ORDER};
 
 use crate::ahead::{Ahead, look_ahead};
 use crate::behind::{Asks, Behind, behind_valley};
@@ -78,7 +80,7 @@ pub(crate) struct Asked {
 
 /// What stands beside the leftmost valley of a board, from which words of the order are looked for.
 pub(crate) fn stand_beside(board: &Board, order: u8) -> Beside
-    requires few { order_of board.now ≤ 16 }
+    requires few { order_of board.now ≤ INLINE_ORDER }
     ensures { StandBeside order board.now result }
 {
     let signs = board.skel().signs();
@@ -117,7 +119,7 @@ fn needs_of(before: &Before, behind: &Behind, moves: usize) -> Needs
 
 // What is asked for before the leftmost valley of a board.
 fn before_valley(board: &Board, marks: LineSet, valley: &ValleyPlace) -> Before
-    requires few { order_of board.now ≤ 16 }
+    requires few { order_of board.now ≤ INLINE_ORDER }
     requires marks { AreMarks board.now marks }
     requires valley { IsValleyPlace board.now valley.now }
     ensures asked { AreAskedBefore board.now result }
@@ -201,13 +203,13 @@ fn least_left(passed: &Passed, asks: &Asks, moves: usize) -> usize
 
 // What is counted over so many segments, all before the one before the valley.
 fn pass_before(board: &Board, marks: LineSet, many: usize) -> Passed
-    requires few { order_of board.now ≤ 16 }
+    requires few { order_of board.now ≤ INLINE_ORDER }
     requires marks { AreMarks board.now marks }
     requires many { many + 1 ≡ valley_place (outline_of board.now).signs }
     ensures counted { (m : SeenMove) → IsLegal (board.now ++ m ∷ [])
         → IsCountedTo board.now m many (seen_passed result) }
     ensures few { IsFewPassed result many }
-    ensures small { many ≤ 32 }
+    ensures small { many ≤ MOST_LINES }
 {
     let signs = board.skel().signs();
     let mut passed = none_passed();

@@ -13,6 +13,7 @@ ghost use Rattle.bk_free_search.specs.Apart.{AreAsks};
 ghost use Rattle.bk_free_search.specs.AskedSigns.{AreBehind, AreFewAsks, AreMarks};
 ghost use Rattle.bk_free_search.specs.NodeLines.{Has};
 ghost use Rattle.bk_free_search.specs.declared.counts.TheConstants.{FEW, MANY};
+ghost use Rattle.bk_word.specs.declared.TheConstants.{INLINE_ORDER};
 
 use crate::board::Board;
 use crate::line_set::LineSet;
@@ -39,7 +40,7 @@ pub(crate) struct Behind {
 /// What is asked for behind the leftmost valley of a board, which is the segment at this place. At the right wall the
 /// last new square stands there.
 pub(crate) fn behind_valley(board: &Board, marks: LineSet, place: usize) -> Behind
-    requires few { order_of board.now ≤ 16 }
+    requires few { order_of board.now ≤ INLINE_ORDER }
     requires marks { AreMarks board.now marks }
     requires place { place ≡ valley_place (outline_of board.now).signs }
     ensures { AreBehind board.now result }

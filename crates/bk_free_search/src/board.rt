@@ -13,6 +13,8 @@ ghost use Rattle.bk_layout.specs.WordNumbers.{counts_of_word, first_count};
 ghost use Rattle.bk_free_search.specs.Rights.{rights_of};
 ghost use Rattle.bk_free_search.specs.SeenCounts.{seen_counts};
 ghost use Rattle.bk_free_search.specs.TopLines.{AreSquares};
+ghost use Rattle.bk_free_search.specs.declared.line_set.TheConstants.{MOST_LINES};
+ghost use Rattle.bk_word.specs.declared.TheConstants.{INLINE_ORDER};
 
 use crate::counts::Counts;
 use crate::line_set::LineSet;
@@ -167,7 +169,7 @@ impl Board {
     pub(crate) fn left_end(&self, squares: &[u8]) -> u8
         requires { AreSquares squares.now (order_of self.now) }
         ensures value { result ≡ left_end (square_lines self.now) squares.now }
-        ensures low { result < 32 }
+        ensures low { result < MOST_LINES }
     {
         left_of_first(self.lefts.as_slice(), squares)
     }
@@ -176,7 +178,7 @@ impl Board {
     pub(crate) fn right_end(&self, squares: &[u8]) -> u8
         requires { AreSquares squares.now (order_of self.now) }
         ensures value { result ≡ right_end (square_lines self.now) squares.now }
-        ensures low { result < 32 }
+        ensures low { result < MOST_LINES }
     {
         right_of_last(self.rights.as_slice(), squares)
     }
@@ -191,7 +193,7 @@ impl Board {
     /// Plays a move, which must be legal, with at most 16 squares then.
     pub fn push(&mut self, m: &SmallMove)
         requires legal { IsLegalMove (outline_of self.old) m.now }
-        requires few { order_of self.old + m.now.count ≤ 16 }
+        requires few { order_of self.old + m.now.count ≤ INLINE_ORDER }
         ensures { self.new ≡ self.old ++ m.now ∷ [] }
     {
         let squares = self.skel.valley_squares();

@@ -2,8 +2,12 @@
 
 ghost use Rattle.std.specs.Prelude.{IsTrue, true, ℕ, ◌<◌, ◌≡◌, ◌⊎◌};
 ghost use Rattle.bk_free_search.specs.NodeLines.{Has};
+ghost use Rattle.bk_free_search.specs.declared.line_set.TheConstants.{MOST_LINES};
 
-/// A set of lines, of which it keeps those with numbers below 32.
+/// A set keeps the lines with numbers below this.
+pub(crate) const MOST_LINES: usize = 32;
+
+/// A set of lines, of which it keeps those with low numbers.
 #[derive(Clone, Copy, Default, Drop)]
 pub(crate) struct LineSet {
     pub(crate) bits: u32,
@@ -18,7 +22,7 @@ pub(crate) fn no_line() -> LineSet
 
 /// The set with one line more.
 pub(crate) fn with_line(lines: LineSet, line: u8) -> LineSet
-    requires { line < 32 }
+    requires { line < MOST_LINES }
     ensures only { (other : ℕ) → Has result other → (other ≡ line) ⊎ Has lines other }
     ensures kept { (other : ℕ) → Has lines other → Has result other }
     ensures has { Has result line }
@@ -31,7 +35,7 @@ pub(crate) fn with_line(lines: LineSet, line: u8) -> LineSet
 /// The set with this place more, where that holds.
 #[inline(always)]
 pub(crate) fn with_place(places: LineSet, place: usize, holds: bool) -> LineSet
-    requires { place < 32 }
+    requires { place < MOST_LINES }
     ensures { (j : ℕ) → Has result j → ((j ≡ place) × (holds ≡ true)) ⊎ Has places j }
 {
     if holds {

@@ -14,15 +14,17 @@ ghost use Rattle.bk_free_search.specs.AskedSigns.{AreMarks};
 ghost use Rattle.bk_free_search.specs.NodeLines.{Has};
 ghost use Rattle.bk_free_search.specs.Strong.{AreFilled, marks_by_lists};
 ghost use Rattle.bk_free_search.specs.TopLines.{AreSquares, HasOneFrom, on_top_lines};
+ghost use Rattle.bk_free_search.specs.declared.line_set.TheConstants.{MOST_LINES};
+ghost use Rattle.bk_word.specs.declared.TheConstants.{INLINE_ORDER};
 
 use crate::board::Board;
-use crate::line_set::{LineSet, no_line, with_place};
+use crate::line_set::{LineSet, MOST_LINES, no_line, with_place};
 use crate::top_lines::places_on_lines;
 use bk_play::ValleyPlace;
 
 /// The places of marked segments of a board.
 pub(crate) fn marks_of(board: &Board) -> LineSet
-    requires few { order_of board.now ≤ 16 }
+    requires few { order_of board.now ≤ INLINE_ORDER }
     ensures { AreMarks board.now result }
 {
     let skel = board.skel();
@@ -33,7 +35,7 @@ pub(crate) fn marks_of(board: &Board) -> LineSet
 // and how many squares hang from the top.
 fn marks_in(sizes: &[u8], ends: &[u8], lefts: &[u8], top: u8) -> LineSet
     requires whole { sum sizes.now ≡ length ends.now }
-    requires many { length ends.now ≤ 16 }
+    requires many { length ends.now ≤ INLINE_ORDER }
     requires filled { AreFilled sizes.now }
     requires squares { AreSquares ends.now (length lefts.now) }
     ensures { (i : ℕ) → Has result i
@@ -52,8 +54,8 @@ fn marks_in(sizes: &[u8], ends: &[u8], lefts: &[u8], top: u8) -> LineSet
 
 // Whether a segment of so many squares from a place on is marked, by the places of the squares at lines from the top.
 fn is_marked(on_lines: LineSet, start: usize, size: usize, top: u8) -> bool
-    requires start { start < 32 }
-    requires size { size < 31 }
+    requires start { start < MOST_LINES }
+    requires size { size + 1 < MOST_LINES }
     ensures { IsTrue result → HasOneFrom on_lines start size ⊎ (top ≤ size) }
 {
     has_one(on_lines, start, size) || usize::from(top) <= size
@@ -61,8 +63,8 @@ fn is_marked(on_lines: LineSet, start: usize, size: usize, top: u8) -> bool
 
 // Whether one of so many places from one on is among these, or the one behind them.
 fn has_one(places: LineSet, start: usize, many: usize) -> bool
-    requires start { start < 32 }
-    requires many { many < 31 }
+    requires start { start < MOST_LINES }
+    requires many { many + 1 < MOST_LINES }
     ensures { IsTrue result → HasOneFrom places start many }
 {
     (places.bits >> start) & ((1 << (many + 1)) - 1) != 0
@@ -77,12 +79,12 @@ pub(crate) fn is_left_on_line(board: &Board, valley: &ValleyPlace) -> bool
     2 <= line && line <= board.first()
 }
 
-/// Whether the segment at a place, one of the first 32, is among the marked ones.
+/// Whether the segment at a place, one of those that a set keeps, is among the marked ones.
 #[inline]
 pub(crate) fn has_mark(marks: LineSet, place: usize) -> bool
     ensures { result ≡ true → Has marks place }
 {
-    place < 32 && (marks.bits >> place) & 1 == 1
+    place < MOST_LINES && (marks.bits >> place) & 1 == 1
 }
 
 /// Whether the segment at a place is marked, or is with one square more.

@@ -4,6 +4,8 @@ ghost use Rattle.std.specs.Prelude.{IsTrue, length, ℕ, ◌+◌, ◌<◌, ◌�
 ghost use Rattle.bk_free_search.specs.NodeLines.{AreLow, Has, HasPair, IsAtSquare, IsBesideNew, IsBesideOneOf};
 ghost use Rattle.bk_free_search.specs.NodeLines.{StandBetween, TouchBoth, TouchesWith};
 ghost use Rattle.bk_free_search.specs.TopLines.{AreSquares};
+ghost use Rattle.bk_free_search.specs.declared.line_set.TheConstants.{MOST_LINES};
+ghost use Rattle.bk_word.specs.declared.TheConstants.{INLINE_ORDER};
 
 use crate::line_set::{LineSet, joined_lines, no_line, with_line};
 use crate::sides::line_at;
@@ -22,7 +24,7 @@ pub(crate) struct NewSquares {
 /// ones that hang from it.
 pub(crate) fn node_lines(lefts: &[u8], rights: &[u8], squares: &[u8], new: &NewSquares) -> LineSet
     requires some { 0 < new.now.count }
-    requires few { new.now.hung + new.now.count ≤ 16 }
+    requires few { new.now.hung + new.now.count ≤ INLINE_ORDER }
     requires lefts { AreLow lefts.now }
     requires rights { AreLow rights.now }
     requires between { StandBetween lefts.now rights.now new.now }
@@ -30,7 +32,7 @@ pub(crate) fn node_lines(lefts: &[u8], rights: &[u8], squares: &[u8], new: &NewS
     requires at_right { AreSquares squares.now (length rights.now) }
     ensures only { (line : ℕ) → Has result line → IsBesideOneOf lefts.now rights.now squares.now line
         ⊎ IsBesideNew lefts.now rights.now new.now.hung new.now.count line }
-    ensures all { (line : ℕ) → line < 32 → IsBesideOneOf lefts.now rights.now squares.now line
+    ensures all { (line : ℕ) → line < MOST_LINES → IsBesideOneOf lefts.now rights.now squares.now line
         ⊎ IsBesideNew lefts.now rights.now new.now.hung new.now.count line → Has result line }
 {
     let ended = lines_beside(lefts, rights, squares);
@@ -41,7 +43,7 @@ pub(crate) fn node_lines(lefts: &[u8], rights: &[u8], squares: &[u8], new: &NewS
 // The lines from one number up to another.
 fn lines_between(from: u8, end: u8) -> LineSet
     requires order { from ≤ end }
-    requires few { end < 32 }
+    requires few { end < MOST_LINES }
     ensures only { (line : ℕ) → Has result line → (from ≤ line) × (line < end) }
     ensures all { (line : ℕ) → from ≤ line → line < end → Has result line }
 {
@@ -57,7 +59,8 @@ fn lines_beside(lefts: &[u8], rights: &[u8], squares: &[u8]) -> LineSet
     requires at_left { AreSquares squares.now (length lefts.now) }
     requires at_right { AreSquares squares.now (length rights.now) }
     ensures only { (line : ℕ) → Has result line → IsBesideOneOf lefts.now rights.now squares.now line }
-    ensures all { (line : ℕ) → line < 32 → IsBesideOneOf lefts.now rights.now squares.now line → Has result line }
+    ensures all { (line : ℕ) → line < MOST_LINES → IsBesideOneOf lefts.now rights.now squares.now line
+        → Has result line }
 {
     let mut lines = no_line();
     'squares: for square in squares {
@@ -74,7 +77,7 @@ fn with_sides(lines: LineSet, lefts: &[u8], rights: &[u8], square: u8) -> LineSe
     requires at_left { square ≤ length lefts.now }
     requires at_right { square ≤ length rights.now }
     ensures only { (line : ℕ) → Has result line → IsAtSquare lefts.now rights.now square line ⊎ Has lines line }
-    ensures all { (line : ℕ) → line < 32 → IsAtSquare lefts.now rights.now square line → Has result line }
+    ensures all { (line : ℕ) → line < MOST_LINES → IsAtSquare lefts.now rights.now square line → Has result line }
     ensures kept { (line : ℕ) → Has lines line → Has result line }
 {
     let with_left = with_line(lines, line_at(lefts, square));

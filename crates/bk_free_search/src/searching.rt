@@ -9,6 +9,7 @@ ghost use Rattle.bk_play.specs.SmallSkeleton.{IsValleyPlace};
 ghost use Rattle.bk_free_search.specs.AskedSigns.{BarsNext, IsMoveBegun, IsOwnSign, IsWithOwn};
 ghost use Rattle.bk_free_search.specs.Sought.{IsNextMove};
 ghost use Rattle.bk_free_search.specs.Unchanged.{MeetsAllBy, MeetsAllFrom};
+ghost use Rattle.bk_word.specs.declared.TheConstants.{INLINE_ORDER, LARGEST_LISTED_ORDER};
 
 use crate::asking::{Asked, Beside, asked_with, open_sides, stand_beside};
 use crate::board::Board;
@@ -39,7 +40,7 @@ pub trait Leaves {
     /// Meets the complete word of a board, of at most 16 squares.
     fn meet(&mut self, board: &Board)
         requires complete { IsComplete board.now }
-        requires few { order_of board.now ≤ 16 }
+        requires few { order_of board.now ≤ INLINE_ORDER }
         ensures met { has_met self.new board.now }
         ensures kept { (w : Moves) → has_met self.old w → has_met self.new w }
         ensures fixed { fixed self.new ≡ fixed self.old };
@@ -49,7 +50,7 @@ pub trait Leaves {
 /// layout has. What no meeting changes is as it was.
 pub fn search<S: Leaves>(leaves: &mut S, order: u8)
     requires least { 3 ≤ order }
-    requires most { order ≤ 16 }
+    requires most { order ≤ LARGEST_LISTED_ORDER }
     ensures all { (w : Moves) → IsNormalSought order w → S.has_met leaves.new w }
     ensures kept { (w : Moves) → S.has_met leaves.old w → S.has_met leaves.new w }
     ensures fixed { S.fixed leaves.new ≡ S.fixed leaves.old }
@@ -66,7 +67,7 @@ impl Search {
     #[cycle(search)]
     fn meet_all<S: Leaves>(&mut self, leaves: &mut S)
         requires least { 3 ≤ self.old.order }
-        requires most { self.old.order ≤ 16 }
+        requires most { self.old.order ≤ LARGEST_LISTED_ORDER }
         requires few { order_of self.old.board ≤ self.old.order }
         ensures { MeetsAllFrom S.has_met S.fixed self.old.board self.old leaves.old self.new leaves.new }
     {
@@ -87,7 +88,7 @@ impl Search {
     #[cycle(search)]
     fn with_counts<S: Leaves>(&mut self, leaves: &mut S)
         requires least { 3 ≤ self.old.order }
-        requires most { self.old.order ≤ 16 }
+        requires most { self.old.order ≤ LARGEST_LISTED_ORDER }
         requires few { order_of self.old.board + 1 < self.old.order }
         ensures { MeetsAllFrom S.has_met S.fixed self.old.board self.old leaves.old self.new leaves.new }
     {

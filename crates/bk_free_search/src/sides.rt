@@ -7,6 +7,7 @@ ghost use Rattle.bk_free_search.specs.Lefts.{first_left};
 ghost use Rattle.bk_free_search.specs.NodeLines.{AreLow, Has, IsLineOfOne};
 ghost use Rattle.bk_free_search.specs.Rights.{last_right};
 ghost use Rattle.bk_free_search.specs.TopLines.{AreSquares};
+ghost use Rattle.bk_word.specs.declared.TheConstants.{INLINE_ORDER, LARGEST_ORDER};
 
 use crate::line_set::{LineSet, no_line, with_line};
 use bk_short::Short;
@@ -60,8 +61,8 @@ pub(crate) fn lines_of(lines: &[u8], squares: &[u8]) -> LineSet
 /// before.
 pub(crate) fn push_lefts(lefts: &mut Short<u8, INLINE_ORDER>, first: u8, hung: u8, count: u8)
     requires some { 0 < count }
-    requires few { hung + count ≤ 200 }
-    requires fits { length lefts.old.items + count ≤ 16 }
+    requires few { hung + count ≤ LARGEST_ORDER }
+    requires fits { length lefts.old.items + count ≤ INLINE_ORDER }
     ensures { lefts.new.items ≡ lefts.old.items ++ first ∷ numbers_from (hung + 2) (count - 1) }
 {
     lefts.push(first);
@@ -72,8 +73,8 @@ pub(crate) fn push_lefts(lefts: &mut Short<u8, INLINE_ORDER>, first: u8, hung: u
 /// before.
 pub(crate) fn push_rights(rights: &mut Short<u8, INLINE_ORDER>, last: u8, hung: u8, count: u8)
     requires some { 0 < count }
-    requires few { hung + count ≤ 200 }
-    requires fits { length rights.old.items + count ≤ 16 }
+    requires few { hung + count ≤ LARGEST_ORDER }
+    requires fits { length rights.old.items + count ≤ INLINE_ORDER }
     ensures { rights.new.items ≡ rights.old.items ++ numbers_from (hung + 2) (count - 1) ++ last ∷ [] }
 {
     push_between(rights, hung, count);
@@ -83,8 +84,8 @@ pub(crate) fn push_rights(rights: &mut Short<u8, INLINE_ORDER>, last: u8, hung: 
 // Appends the lines between the squares of a move, where so many squares were hung before.
 fn push_between(lines: &mut Short<u8, INLINE_ORDER>, hung: u8, count: u8)
     requires some { 0 < count }
-    requires few { hung + count ≤ 200 }
-    requires fits { length lines.old.items + count ≤ 17 }
+    requires few { hung + count ≤ LARGEST_ORDER }
+    requires fits { length lines.old.items + count ≤ INLINE_ORDER + 1 }
     ensures { lines.new.items ≡ lines.old.items ++ numbers_from (hung + 2) (count - 1) }
 {
     'others: for k in 1..count {

@@ -10,6 +10,7 @@ ghost use Rattle.bk_free_search.specs.Sought.{GoesOn};
 ghost use Rattle.bk_free_search.specs.declared.asking.Beside.{Beside as BesideSeen};
 ghost use Rattle.bk_word.specs.Outline.{open_side};
 ghost use Rattle.bk_free_search.specs.Unchanged.{KeepsMet};
+ghost use Rattle.bk_word.specs.declared.TheConstants.{INLINE_ORDER, LARGEST_LISTED_ORDER};
 
 use crate::asking::{Next, OpenSides};
 use crate::board::Board;
@@ -79,7 +80,7 @@ pub(crate) fn begin(begun: &mut Begun, sides: OpenSides, count: u8, left: usize)
 /// The move with one sign more.
 #[inline(always)]
 pub(crate) fn push_sign(m: &mut SmallMove, sign: Sign)
-    requires { length m.old.signs < 17 }
+    requires { length m.old.signs ≤ INLINE_ORDER }
     ensures count { m.new.count ≡ m.old.count }
     ensures signs { m.new.signs ≡ m.old.signs ++ sign ∷ [] }
 {
@@ -100,7 +101,7 @@ pub(crate) fn pop_sign(m: &mut SmallMove)
 /// each sign.
 #[inline(never)]
 pub(crate) fn meet_closed<S: Leaves>(board: &Board, leaves: &mut S)
-    requires few { order_of board.now ≤ 16 }
+    requires few { order_of board.now ≤ INLINE_ORDER }
     ensures met { IsComplete board.now → S.has_met leaves.new board.now }
     ensures kept { KeepsMet S.has_met S.fixed leaves.old leaves.new }
 {
@@ -114,7 +115,7 @@ pub(crate) fn meet_closed<S: Leaves>(board: &Board, leaves: &mut S)
 #[inline(never)]
 pub(crate) fn meet_with_last<S: Leaves>(board: &mut Board, order: u8, leaves: &mut S)
     requires least { 3 ≤ order }
-    requires most { order ≤ 16 }
+    requires most { order ≤ LARGEST_LISTED_ORDER }
     requires one { order_of board.old + 1 ≡ order }
     ensures all { (w : Moves) → IsNormalSought order w → GoesOn board.old w → S.has_met leaves.new w }
     ensures kept { KeepsMet S.has_met S.fixed leaves.old leaves.new }

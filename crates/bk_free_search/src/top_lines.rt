@@ -4,13 +4,14 @@ ghost use Rattle.std.specs.Prelude.{length, slice_index_or, true, ℕ, ◌<◌, 
 ghost use Rattle.bk_catalogue.specs.VerticalCut.{on_line};
 ghost use Rattle.bk_free_search.specs.NodeLines.{Has};
 ghost use Rattle.bk_free_search.specs.TopLines.{AreSquares, is_top_line, on_top_lines};
+ghost use Rattle.bk_word.specs.declared.TheConstants.{INLINE_ORDER};
 
 use crate::line_set::{LineSet, no_line, with_place};
 
 /// The places of those of these squares whose left edges lie on lines from the top, between two squares of a first move
 /// of so many.
 pub(crate) fn places_on_lines(ends: &[u8], lefts: &[u8], first: u8) -> LineSet
-    requires few { length ends.now ≤ 16 }
+    requires few { length ends.now ≤ INLINE_ORDER }
     requires squares { AreSquares ends.now (length lefts.now) }
     ensures { (j : ℕ) → Has result j
         → (j < length ends.now) × (on_line (on_top_lines first lefts.now) (slice_index_or ends.now j 0) ≡ true) }

@@ -15,7 +15,10 @@ pub record IsGrowing (t : Tiling) : Type 0 where
 abbrev pub with_behind : Square → ℕ → ℕ → Tiling → Tiling
 with_behind q width height t = record { width = width; height = height; squares = t.squares ++ q ∷ [] }
 
--- a square of side s in the left upper corner, from which the others are moved
-abbrev pub with_in_front : ℕ → ℕ → ℕ → ℕ → ℕ → Tiling → Tiling
-with_in_front s right down width height t =
-    with_behind (record { x = 0; y = 0; s = s }) width height (record t { squares = map (moved_square right down) t.squares })
+-- its squares moved to the right and down
+abbrev pub moved_all : ℕ → ℕ → Tiling → Tiling
+moved_all right down t = record t { squares = map (moved_square right down) t.squares }
+
+-- a square of side s in the left upper corner, behind the others, in a rectangle of this size
+abbrev pub with_corner : ℕ → ℕ → ℕ → Tiling → Tiling
+with_corner s = with_behind (record { x = 0; y = 0; s = s })

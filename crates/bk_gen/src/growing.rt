@@ -32,7 +32,7 @@ impl Model for Growing {
 impl Growing {
     ghost use Rattle.bk_tiling.specs.CodeOrder.{in_code_order};
     ghost use Rattle.bk_gen.specs.Attaching.{next_side, with_next};
-    ghost use Rattle.bk_gen.specs.Growing.{IsGrowing, with_behind, with_in_front};
+    ghost use Rattle.bk_gen.specs.Growing.{IsGrowing, moved_all, with_behind, with_corner};
 
     // The rectangle tiled by these squares.
     pub(crate) fn of(width: u64, height: u64, squares: &[Square]) -> Growing
@@ -100,8 +100,8 @@ impl Growing {
         requires few { length self.old.squares < MOST_SQUARES }
         requires right { right ≤ LONGEST_SIDE }
         requires down { down ≤ LONGEST_SIDE }
-        requires grows { IsGrowing (with_in_front s right down width height self.old) }
-        ensures { self.new ≡ with_in_front s right down width height self.old }
+        requires grows { IsGrowing (with_corner s width height (moved_all right down self.old)) }
+        ensures { self.new ≡ with_corner s width height (moved_all right down self.old) }
     {
         move_all(self.squares.as_mut_slice(), right, down);
         self.squares.push(Square { x: 0, y: 0, s });

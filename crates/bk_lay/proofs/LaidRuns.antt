@@ -13,7 +13,7 @@ use Rattle.bk_tiling.specs.declared.Square.{Square}
 use Rattle.bk_word.specs.Play.{numbers_from}
 use Rattle.bk_lay.proofs.Filling.{in_tiling, is_under}
 use Rattle.bk_lay.proofs.Joining.{levels}
-use Rattle.bk_lay.proofs.Laying.{new_depth, same_depth, under_chain}
+use Rattle.bk_lay.proofs.ValleySquares.{new_depth, same_depth, under_chain}
 use Rattle.bk_lay.specs.Depiction.{FillsFromTop, Hangs, IsSegment, Span}
 use Rattle.bk_lay.specs.TilingWord.{IsLeftmostValley, squares_under}
 

@@ -9,7 +9,7 @@ pub mod SquaresOnce
 -- the outline of what is laid, step by step, and that the word is legal and complete
 pub mod Joining
 pub mod Places
-pub mod Laying
+pub mod ValleySquares
 pub mod Depicting
 pub mod LaidRuns
 pub mod LegalMoves
@@ -17,11 +17,11 @@ pub mod Steps
 pub mod ValleySegment
 pub mod WordPlay
 pub mod DepictionExamples
--- the level runs that the code keeps at both sides of a valley, turn by turn
+-- the level runs that the code keeps at both sides of a valley, move by move
 pub mod CodePlaces
 pub mod MeetingRuns
 pub mod SignLists
 pub mod SquaresAt
-pub mod NextTurn
-pub mod TurnLaws
+pub mod NextLaidMove
+pub mod LaidMoveLaws
 pub mod LevelRunExamples

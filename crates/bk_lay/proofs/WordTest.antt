@@ -61,12 +61,12 @@ abbrev pub moves_under : Tiling → List Square → List Segment → Word
 moves_under t laid [] = []
 moves_under t laid (v ∷ valleys) = move_under t laid v ∷ moves_under t (laid ++ squares_under t v) valleys
 
--- each is the leftmost valley at its turn, and at the end all columns are filled
+-- each is the leftmost valley when it comes, and at the end all columns are filled
 abbrev pub ArePassing : Tiling → List Square → List Segment → Type 0
 ArePassing t laid [] = all_below (λ c. nat_eq (depth laid c) t.height) t.width ≡ true
 ArePassing t laid (v ∷ valleys) = PassesAsValley t.width laid v × (nat_lt v.level t.height ≡ true) × ArePassing t (laid ++ squares_under t v) valleys
 
--- the moves under valleys that pass, turn by turn, are the word
+-- the moves under valleys that pass, one after another, are the word
 pub word_by_valleys : (t : Tiling) (laid : List Square) (valleys : List Segment) → ArePassing t laid valleys → MovesFollow t laid (moves_under t laid valleys)
 word_by_valleys t laid [] p = λ c h. eqb-true (depth laid c) t.height (each_below (λ c. nat_eq (depth laid c) t.height) t.width p c h)
 word_by_valleys t laid (v ∷ valleys) p =
@@ -86,7 +86,7 @@ passes width laid v =
     && (all_below (λ c. nat_le (depth laid (suc c)) (depth laid c)) v.x && (deeper_before laid v.level v.x
     && (not (nat_lt (v.x + v.width) width) || nat_lt v.level (depth laid (v.x + v.width)))))))
 
--- whether all valleys pass at their turns
+-- whether all valleys pass when they come
 abbrev pub all_pass : Tiling → List Square → List Segment → Bool
 all_pass t laid [] = all_below (λ c. nat_eq (depth laid c) t.height) t.width
 all_pass t laid (v ∷ valleys) = passes t.width laid v && (nat_lt v.level t.height && all_pass t (laid ++ squares_under t v) valleys)

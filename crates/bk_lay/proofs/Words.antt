@@ -1,4 +1,4 @@
--- Every tiling has a word: there is a leftmost valley at each turn, and each turn lays a square.
+-- Every tiling has a word: there is a leftmost valley each time, and each time a square is laid.
 use Rattle.std.proofs.Common.{List, [], ap, arith, inl, inr, refl, subst, suc, sym, zero, ℕ, ◌++◌, ◌+◌, ◌-◌, ◌<◌, ◌∙◌, ◌∷◌, ◌≡◌, ◌≤◌, ◌⊎◌}
 use Rattle.std.proofs.lemmas.Bool.{cases_lt}
 use Rattle.bk_tiling.proofs.Cells.{column_from, depth-append, depth_comes_from, depth_reaches, in_all}
@@ -71,9 +71,9 @@ module _ (width : ℕ) (laid : List Square) where
           → (Scanned x (suc n) → x + suc n + fuel ≡ width → (v : Segment) × IsLeftmostValley width laid v × NeverDeeperBefore laid v)
           → (Scanned (x + n) 1 → x + n + 1 + fuel ≡ width → (v : Segment) × IsLeftmostValley width laid v × NeverDeeperBefore laid v)
           → (v : Segment) × IsLeftmostValley width laid v × NeverDeeperBefore laid v
-      cases (inl same) goes turns = goes (longer x n s same) (omega arith)
-      cases (inr (inl more)) goes turns = found_at x n s (omega arith) (λ h. more)
-      cases (inr (inr less)) goes turns = turns (next_run x n s less) (omega arith)
+      cases (inl same) goes further = goes (longer x n s same) (omega arith)
+      cases (inr (inl more)) goes further = found_at x n s (omega arith) (λ h. more)
+      cases (inr (inr less)) goes further = further (next_run x n s less) (omega arith)
 
   -- columns of any depths have a leftmost valley
   pub there_is_a_valley : 0 < width → (v : Segment) × IsLeftmostValley width laid v × NeverDeeperBefore laid v
@@ -225,6 +225,6 @@ module _ (t : Tiling) (tiling : IsTiling t) where
   pub nothing_laid : FillsFromTop t []
   nothing_laid = record { squares = tt; filled = λ c j a b. absurd (omega arith) }
 
--- from there turn by turn each tiling has a word
+-- from there move by move each tiling has a word
 pub every_tiling_has_a_word : EveryTilingHasAWord
 every_tiling_has_a_word t tiling = moves_from t tiling (t.width * t.height) [] (nothing_laid t tiling) (omega arith)

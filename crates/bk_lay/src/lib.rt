@@ -2,13 +2,13 @@
 #![tactic(auto)]
 
 mod laws;
+mod laying;
 mod outline;
 mod signs;
-mod turns;
 
 pub use laws::{
     a_tiling_has_one_word, a_tiling_word_is_complete, every_tiling_has_a_word,
     the_leftmost_valley_is_the_first_rise,
 };
+pub use laying::{Laying, word_of};
 pub use signs::sign_between;
-pub use turns::{Turns, word_of};

@@ -5,7 +5,7 @@
 use Rattle.std.specs.List.{AllByRecursion}
 use Rattle.std.specs.Prelude.{Contains, List, Option, [], flat_map, ℕ, ◌∷◌, ◌≡◌, ◌≤◌, ◌⊎◌}
 use Rattle.bk_word.specs.Word.{Follows, Word}
-use Rattle.bk_word.specs.declared.TheConstants.{INLINE_ORDER}
+use Rattle.bk_word.specs.declared.TheConstants.{LARGEST_LISTED_ORDER}
 use Rattle.bk_catalogue.specs.Catalogue.{AreAscending, Entry, IsEntry}
 use Rattle.bk_list.specs.Listing.{AreFirst, Catalogue, Listing}
 use Rattle.bk_list.specs.StoppedListing.{AtEnd, AtLimit, Ending, EndsAs, WideAt}
@@ -78,6 +78,6 @@ OnlyNamedOnesAreMissing = (c : Catalogue) (cursor last : Word) (runs : List Run)
 -- and of an order of at most 16 nothing is missing: the runs have together the entries of one listing without a limit,
 -- which ends because there are no more members
 abbrev pub NothingIsMissing : Type 0
-NothingIsMissing = (c : Catalogue) (cursor last : Word) (runs : List Run) → c.order ≤ INLINE_ORDER
+NothingIsMissing = (c : Catalogue) (cursor last : Word) (runs : List Run) → c.order ≤ LARGEST_LISTED_ORDER
     → AreListingRuns c cursor runs last → EndsAtEnd runs
     → AreFirst c cursor (run_entries runs) × EndsAs (all_after c cursor) (run_entries runs) AtEnd

@@ -7,6 +7,7 @@ use Rattle.std.specs.Io.KnownBytes.{Appends}
 use Rattle.std.specs.Prelude.{List, None, Option, Some, [], flat_map, length, take, ℕ, ◌*◌, ◌++◌, ◌+◌, ◌-◌, ◌∷◌, ◌≡◌}
 use Rattle.std.specs.Prelude.{◌⊎◌}
 use Rattle.bk_word.specs.Word.{Word}
+use Rattle.bk_word.specs.declared.TheConstants.{LARGEST_LISTED_ORDER}
 use Rattle.bk_catalogue.specs.Catalogue.{Entry}
 use Rattle.bk_report.specs.Listings.{last_line}
 use Rattle.bk_report.specs.declared.listing_lines.Last.{Last}
@@ -20,7 +21,7 @@ use Rattle.bk_list.specs.declared.entries.Next.TheVariants.{Member, Nothing}
 -- at most that many steps in that many calls: the tree count, of the legal words after the cursor and not after the
 -- bound, and 16 for each call
 abbrev pub IsAtMostTreeAnd : ℕ → Word → Option Word → ℕ → ℕ → Type 0
-IsAtMostTreeAnd n cursor bound calls steps = HasAtLeast n cursor bound (steps - 16 * calls)
+IsAtMostTreeAnd n cursor bound calls steps = HasAtLeast n cursor bound (steps - LARGEST_LISTED_ORDER * calls)
 
 -- at most that many steps for a listing of these entries that ends so. At its limit: as many as there are legal words
 -- up to that of its last entry, and 16 for each entry. At the end, where it has made one call more: as many as there

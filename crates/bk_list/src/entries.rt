@@ -3,7 +3,7 @@
 ghost use Rattle.std.specs.Prelude.{IfOk, IsTrue, OnErr, Some, false, ◌-◌, ◌≡◌, ◌≤◌};
 ghost use Rattle.bk_ports.specs.Causes.{HasCause};
 ghost use Rattle.bk_catalogue.specs.Tree.{IsAtMostTree};
-ghost use Rattle.bk_word.specs.declared.TheConstants.{INLINE_ORDER};
+ghost use Rattle.bk_word.specs.declared.TheConstants.{LARGEST_LISTED_ORDER};
 ghost use Rattle.bk_list.specs.Stepping.{AreNextSteps, IsReached, StoppedAtEntry};
 ghost use Rattle.bk_list.specs.Walked.{catalogue_of, listing_of};
 ghost use Rattle.bk_list.specs.Writing.{BeginsListing, HasEntries, IsNext, IsNextBegun};
@@ -38,7 +38,7 @@ pub(crate) fn write_entries<M: Members, L: Ledger, O: Sink>(
     room: &mut EntryRoom,
     out: &mut O,
 ) -> Result<(Last, u64), Failed>
-    requires { (M.at members.old).order ≤ INLINE_ORDER }
+    requires { (M.at members.old).order ≤ LARGEST_LISTED_ORDER }
     ensures ended { let l = listing_of (M.at members.old) limit in
         IfOk result (λ r. (lines : HasEntries l r.0 r.1 (O.written out.old) (O.written out.new))
         × IsReached l r.0 lines.entries (M.at members.new).cursor (steps.new - steps.old)) }

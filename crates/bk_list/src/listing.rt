@@ -2,7 +2,7 @@
 
 ghost use Rattle.std.specs.Prelude.{IfOk, OnErr, ◌-◌, ◌≡◌, ◌≤◌};
 ghost use Rattle.bk_ports.specs.Causes.{HasCause};
-ghost use Rattle.bk_word.specs.declared.TheConstants.{INLINE_ORDER};
+ghost use Rattle.bk_word.specs.declared.TheConstants.{LARGEST_LISTED_ORDER};
 ghost use Rattle.bk_list.specs.Stepping.{TakesSteps, TookSteps};
 ghost use Rattle.bk_list.specs.Walked.{catalogue_of, listing_of};
 ghost use Rattle.bk_list.specs.Writing.{BeginsListing, StandsBehind, WritesListing};
@@ -12,7 +12,7 @@ use bk_grammar::AnswerBuffer;
 use bk_members::Members;
 use bk_play::Steps;
 use bk_ports::{Failed, Sink};
-use bk_report::{Last, write_last};
+use bk_report::{Last, ListedEntries, write_last};
 use std::sync::ledger::Ledger;
 
 /// Writes the listing of these members: the entry line of each one, ascending by word, up to the limit if there is one;
@@ -36,7 +36,7 @@ pub fn write_listing<M: Members, L: Ledger, O: Sink>(
     steps: &mut Steps<L>,
     out: &mut O,
 ) -> Result<Last, Failed>
-    requires most { (M.at members.old).order ≤ INLINE_ORDER }
+    requires most { (M.at members.old).order ≤ LARGEST_LISTED_ORDER }
     ensures listed { let l = listing_of (M.at members.old) limit in
         IfOk result (λ last. WritesListing l last (O.written out.old) (O.written out.new)) }
     ensures begun { let l = listing_of (M.at members.old) limit in
@@ -56,14 +56,12 @@ pub fn write_listing<M: Members, L: Ledger, O: Sink>(
         buffer: AnswerBuffer::new(),
     };
     let (last, listed) = write_entries(members, limit, steps, &mut room, out)?;
-    write_last(
-        last,
-        members.order(),
-        members.class(),
-        listed,
-        members.cursor(),
-        &mut room.buffer,
-    );
+    let entries = ListedEntries {
+        order: members.order(),
+        class: members.class(),
+        count: listed,
+    };
+    write_last(last, &entries, members.cursor(), &mut room.buffer);
     out.write_all(room.buffer.as_slice())?;
     Ok(last)
 }

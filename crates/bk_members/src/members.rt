@@ -3,6 +3,7 @@
 ghost use Rattle.std.specs.Prelude.{IsTrue, None, Some, [], false, ◌-◌, ◌∷◌, ◌≡◌, ◌≤◌, ◌↔◌};
 ghost use Rattle.bk_code.specs.Code.{code_of};
 ghost use Rattle.bk_word.specs.Word.{order_of};
+ghost use Rattle.bk_word.specs.declared.TheConstants.{LARGEST_LISTED_ORDER};
 ghost use Rattle.bk_catalogue.specs.Following.{HasNoneAfter, start_cursor};
 ghost use Rattle.bk_catalogue.specs.Tree.{IsAtMostTree};
 ghost use Rattle.bk_members.specs.Walking.{PushesGrow};
@@ -58,8 +59,8 @@ pub trait Members: Drop {
     /// 16; the word need not be legal, complete or of the catalogue's order.
     fn after(alloc: Global, order: u8, class: Class, from: Option<Word>) -> Self
         requires least { 2 ≤ order }
-        requires most { order ≤ 16 }
-        requires few { order_of (start_cursor from) ≤ 16 }
+        requires most { order ≤ LARGEST_LISTED_ORDER }
+        requires few { order_of (start_cursor from) ≤ LARGEST_LISTED_ORDER }
         ensures { at result ≡ record {
           order = order;
           class = class;

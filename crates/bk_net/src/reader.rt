@@ -3,7 +3,7 @@
 
 ghost use Rattle.std.specs.Prelude.{◌≡◌};
 ghost use Rattle.bk_net.specs.NetReading.{ended_wire as ended_before, net_ending_at, net_kind_of as kind_of_byte};
-ghost use Rattle.bk_net.specs.NetReading.{last_wire as last, next_net_place, with_digit as longer_number};
+ghost use Rattle.bk_net.specs.NetReading.{last_wire as last, next_net_place, with_digit as with_digit_behind};
 
 /// What a byte is to the grammar of network lines; a digit with its value.
 #[derive(Clone, Copy)]
@@ -48,8 +48,8 @@ pub(crate) fn kind_of(byte: u8) -> Kind
 }
 
 // A number and a further digit: none goes on behind a 0, nor behind three digits.
-fn longer(value: u16, digit: u8) -> Option<u16>
-    ensures { result ≡ longer_number value digit }
+fn with_digit(value: u16, digit: u8) -> Option<u16>
+    ensures { result ≡ with_digit_behind value digit }
 {
     if 0 < value && value < 100 {
         Some(value * 10 + u16::from(digit))
@@ -128,7 +128,7 @@ fn in_count(nodes: u16, kind: Kind) -> Option<Place>
 {
     match kind {
         Kind::Blank => Some(Place::Between(nodes)),
-        Kind::Digit(digit) => longer(nodes, digit).map(Place::Count),
+        Kind::Digit(digit) => with_digit(nodes, digit).map(Place::Count),
         Kind::Semicolon => Some(Place::Comment(Ending::Nodes(nodes))),
         _ => None,
     }
@@ -149,7 +149,7 @@ fn in_first(nodes: u16, from: u16, kind: Kind) -> Option<Place>
     ensures { result ≡ next_net_place (Place.First nodes from) kind }
 {
     match kind {
-        Kind::Digit(digit) => longer(from, digit).map(|from| Place::First(nodes, from)),
+        Kind::Digit(digit) => with_digit(from, digit).map(|from| Place::First(nodes, from)),
         Kind::Dash => Some(Place::BehindDash(nodes, from)),
         _ => None,
     }
@@ -160,7 +160,7 @@ fn in_second(nodes: u16, from: u16, to: u16, kind: Kind) -> Option<Place>
 {
     match kind {
         Kind::Blank => Some(Place::Between(nodes)),
-        Kind::Digit(digit) => longer(to, digit).map(|to| Place::Second(nodes, from, to)),
+        Kind::Digit(digit) => with_digit(to, digit).map(|to| Place::Second(nodes, from, to)),
         Kind::Semicolon => Some(Place::Comment(Ending::Nodes(nodes))),
         _ => None,
     }

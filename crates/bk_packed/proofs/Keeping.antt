@@ -208,8 +208,8 @@ module _ (room : ℕ) (t : Numbers) (x : ℕ) (numbers : List ℕ) (table : IsKe
       }
 
 -- a table of kept numbers stays one when its numbers are put in another order
-pub settled : (kept numbers : List ℕ) (limit : Option ℕ) → IsKeptTable (record { kept = kept; limit = limit }) → AreSame numbers kept
+pub thinned : (kept numbers : List ℕ) (limit : Option ℕ) → IsKeptTable (record { kept = kept; limit = limit }) → AreSame numbers kept
     → IsKeptTable (record { kept = numbers; limit = limit })
-settled kept numbers limit table same = record {
+thinned kept numbers limit table same = record {
   below = λ least e. all_same (λ y. y < least) kept numbers (λ y. ((same y).1, (same y).0)) (table.below least e);
 }

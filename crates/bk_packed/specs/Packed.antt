@@ -4,6 +4,7 @@
 use Rattle.std.specs.List.{AllByRecursion, flat_map}
 use Rattle.std.specs.Prelude.{List, [], map, ℕ, ◌%◌, ◌*◌, ◌+◌, ◌-◌, ◌/◌, ◌<◌, ◌^◌, ◌∷◌}
 use Rattle.bk_word.specs.Word.{Move, Word, sign_place}
+use Rattle.bk_packed.specs.declared.digits.TheConstants.{MOST_DIGITS}
 
 -- the digits of a move, each below 4: two for its count less one, and one for each sign, the place in above, even,
 -- under
@@ -22,8 +23,8 @@ begun_by room [] = 0
 begun_by room (d ∷ ds) = d * 4 ^ (room - 1) + begun_by (room - 1) ds
 
 abbrev pub packed : Word → ℕ
-packed w = begun_by 64 (word_digits w)
+packed w = begun_by MOST_DIGITS (word_digits w)
 
 -- the digit of a number at a place, from the first of 64
 abbrev pub digit_at : ℕ → ℕ → ℕ
-digit_at number place = number / 4 ^ (63 - place) % 4
+digit_at number place = number / 4 ^ (MOST_DIGITS - 1 - place) % 4

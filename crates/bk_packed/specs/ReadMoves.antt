@@ -5,6 +5,7 @@ use Rattle.std.specs.Prelude.{List, length, slice_index, take, ℕ, ◌++◌, �
 use Rattle.bk_word.specs.Play.{IsLegal}
 use Rattle.bk_word.specs.Word.{Move, Word, order_of}
 use Rattle.bk_packed.specs.Packed.{digit_at, packed}
+use Rattle.bk_word.specs.declared.TheConstants.{LARGEST_LISTED_ORDER}
 
 -- the number has these digits from the place on
 abbrev pub HasDigits : ℕ → ℕ → List ℕ → Type 0
@@ -15,7 +16,7 @@ pub record GoesOnByNumber (front : Word) (number : ℕ) : Type 0 where
   pub next : Move
   pub rest : Word
   pub legal : IsLegal (front ++ next ∷ rest)
-  pub few : order_of (front ++ next ∷ rest) ≤ 16
+  pub few : order_of (front ++ next ∷ rest) ≤ LARGEST_LISTED_ORDER
   pub is : packed (front ++ next ∷ rest) ≡ number
 
 -- the word w begins with so many moves of v, and not with one more

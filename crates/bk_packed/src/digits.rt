@@ -4,6 +4,8 @@
 ghost use Rattle.std.specs.Prelude.{List, [], length, map, ℕ, ◌%◌, ◌++◌, ◌+◌, ◌-◌, ◌/◌, ◌<◌, ◌∷◌, ◌≡◌, ◌≤◌};
 ghost use Rattle.bk_word.specs.Word.{sign_place};
 ghost use Rattle.bk_packed.specs.Packed.{AreDigits, begun_by, digit_at, move_digits};
+ghost use Rattle.bk_packed.specs.declared.digits.TheConstants.{MOST_DIGITS};
+ghost use Rattle.bk_word.specs.declared.TheConstants.{LARGEST_LISTED_ORDER};
 
 use arrayvec::ArrayVec;
 use bk_word::{Move, Sign};
@@ -20,7 +22,7 @@ const SECOND_UNIT: u128 = 0x1000_0000_0000_0000_0000_0000_0000_0000;
 // Appends the digits of a move.
 pub(crate) fn push_digits(digits: &mut ArrayVec<u8, MOST_DIGITS>, m: &Move)
     requires some { 0 < m.now.count }
-    requires room { length digits.old.items + length m.now.signs + 2 ≤ 64 }
+    requires room { length digits.old.items + length m.now.signs + 2 ≤ MOST_DIGITS }
     ensures { digits.new.items ≡ digits.old.items ++ move_digits m.now }
 {
     push_count(digits, m.count);
@@ -29,7 +31,7 @@ pub(crate) fn push_digits(digits: &mut ArrayVec<u8, MOST_DIGITS>, m: &Move)
 
 // Appends those of its signs.
 pub(crate) fn push_signs(digits: &mut ArrayVec<u8, MOST_DIGITS>, signs: &[Sign])
-    requires room { length digits.old.items + length signs.now ≤ 64 }
+    requires room { length digits.old.items + length signs.now ≤ MOST_DIGITS }
     ensures { digits.new.items ≡ digits.old.items ++ map sign_place signs.now }
 {
     'signs: for sign in signs {
@@ -40,7 +42,7 @@ pub(crate) fn push_signs(digits: &mut ArrayVec<u8, MOST_DIGITS>, signs: &[Sign])
 // Appends those of its count.
 pub(crate) fn push_count(digits: &mut ArrayVec<u8, MOST_DIGITS>, count: u8)
     requires some { 0 < count }
-    requires room { length digits.old.items + 2 ≤ 64 }
+    requires room { length digits.old.items + 2 ≤ MOST_DIGITS }
     ensures { digits.new.items ≡ digits.old.items ++ (count - 1) / 4 ∷ (count - 1) % 4 ∷ [] }
 {
     digits.push((count - 1) / 4);
@@ -72,9 +74,9 @@ pub(crate) fn sign_of(place: u8) -> Sign
 
 // The number of 64 digits of base 4 that begins with these.
 pub(crate) fn number_of(digits: &[u8]) -> u128
-    requires few { length digits.now ≤ 64 }
+    requires few { length digits.now ≤ MOST_DIGITS }
     requires digits { AreDigits digits.now }
-    ensures { result ≡ begun_by 64 digits.now }
+    ensures { result ≡ begun_by MOST_DIGITS digits.now }
 {
     let mut number = 0;
     let mut i = digits.len();
@@ -88,17 +90,17 @@ pub(crate) fn number_of(digits: &[u8]) -> u128
 // The number of 64 digits that begins with those of a move's count and signs and goes on with those of a number.
 pub(crate) fn move_before(count: u8, signs: &[Sign], behind: u128) -> u128
     requires some { 0 < count }
-    requires few { count ≤ 16 }
-    ensures { (ds : List ℕ) → length signs.now + length ds + 2 ≤ 64 → behind ≡ begun_by 64 ds
-        → result ≡ begun_by 64 ((count - 1) / 4 ∷ (count - 1) % 4 ∷ map sign_place signs.now ++ ds) }
+    requires few { count ≤ LARGEST_LISTED_ORDER }
+    ensures { (ds : List ℕ) → length signs.now + length ds + 2 ≤ MOST_DIGITS → behind ≡ begun_by MOST_DIGITS ds
+        → result ≡ begun_by MOST_DIGITS ((count - 1) / 4 ∷ (count - 1) % 4 ∷ map sign_place signs.now ++ ds) }
 {
     u128::from(count - 1) * SECOND_UNIT + signs_before(signs, behind) / 16
 }
 
 // The number of 64 digits that begins with those of signs and goes on with those of a number.
 fn signs_before(signs: &[Sign], behind: u128) -> u128
-    ensures { (ds : List ℕ) → length signs.now + length ds ≤ 64 → behind ≡ begun_by 64 ds
-        → result ≡ begun_by 64 (map sign_place signs.now ++ ds) }
+    ensures { (ds : List ℕ) → length signs.now + length ds ≤ MOST_DIGITS → behind ≡ begun_by MOST_DIGITS ds
+        → result ≡ begun_by MOST_DIGITS (map sign_place signs.now ++ ds) }
 {
     let mut number = behind;
     let mut i = signs.len();
@@ -111,7 +113,7 @@ fn signs_before(signs: &[Sign], behind: u128) -> u128
 
 // The digit of a number at a place, from the first of 64.
 pub(crate) fn digit_at(number: u128, place: usize) -> u8
-    requires { place < 64 }
+    requires { place < MOST_DIGITS }
     ensures { result ≡ digit_at number place }
 {
     ((number >> (126 - 2 * place)) % 4) as u8

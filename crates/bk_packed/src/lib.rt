@@ -8,7 +8,7 @@ mod digits;
 mod number_table;
 mod packed;
 mod reading;
-mod settling;
+mod sorting;
 
 pub use number_table::NumberTable;
 pub use packed::{Packed, number_with};

@@ -6,7 +6,7 @@ ghost use Rattle.std.specs.Prelude.{Contains, IfNone, IfSome, IsSomeAnd, IsTrue,
 ghost use Rattle.std.specs.Prelude.{◌<◌, ◌≡◌, ◌≤◌, ◌↔◌};
 ghost use Rattle.bk_packed.specs.KeptNumbers.{AreAscendingNumbers, HoldsOneMore, IsFirstFrom};
 
-use crate::settling::{cut_off, has, place_of, sort_once};
+use crate::sorting::{cut_off, has, place_of, sort_and_thin};
 use arrayvec::ArrayVec;
 use std::marker::Model;
 
@@ -77,12 +77,12 @@ impl<const N: usize> NumberTable<N> {
     }
 
     /// Brings the numbers into ascending order, each once.
-    pub fn settle(&mut self)
+    pub fn sort_and_thin(&mut self)
         ensures ascending { AreAscendingNumbers self.new.kept }
         ensures same { (x : ℕ) → Contains self.new.kept x ↔ Contains self.old.kept x }
         ensures limit { self.new.limit ≡ self.old.limit }
     {
-        sort_once(&mut self.numbers);
+        sort_and_thin(&mut self.numbers);
     }
 
     /// Puts a number into the table, unless it is one from which on none are kept. Where there is no room, it brings
@@ -98,7 +98,7 @@ impl<const N: usize> NumberTable<N> {
             self.numbers.push(number);
             return;
         }
-        sort_once(&mut self.numbers);
+        sort_and_thin(&mut self.numbers);
         if self.numbers.len() < N {
             self.numbers.push(number);
             return;

@@ -9,10 +9,12 @@ ghost use Rattle.bk_word.specs.Word.{Word as Moves, order_of};
 ghost use Rattle.bk_lay.specs.TilingWord.{IsWordOf};
 ghost use Rattle.bk_packed.specs.Packed.{packed, word_digits};
 ghost use Rattle.bk_packed.specs.TilingDigits.{HasDigitsOf};
+ghost use Rattle.bk_packed.specs.declared.digits.TheConstants.{MOST_DIGITS};
+ghost use Rattle.bk_word.specs.declared.TheConstants.{LARGEST_LISTED_ORDER};
 
 use crate::digits::{MOST_DIGITS, move_before, number_of, push_digits};
 use arrayvec::ArrayVec;
-use bk_lay::Turns;
+use bk_lay::Laying;
 use bk_play::Skel;
 use bk_tiling::Tiling;
 use bk_word::{Move, Word};
@@ -41,7 +43,7 @@ impl Packed {
     /// A word of at most 16 squares, packed.
     pub fn of(word: &Word) -> Packed
         requires legal { IsLegal word.now }
-        requires few { order_of word.now ≤ 16 }
+        requires few { order_of word.now ≤ LARGEST_LISTED_ORDER }
         ensures { result ≡ packed word.now }
     {
         let digits = digits_of(word);
@@ -51,11 +53,11 @@ impl Packed {
     }
 
     /// The word of a tiling of at most 16 squares, packed as the tiling is laid.
-    pub fn of_tiling(turns: &mut Turns, tiling: &Tiling) -> Packed
-        requires { order tiling.now ≤ 16 }
+    pub fn of_tiling(laying: &mut Laying, tiling: &Tiling) -> Packed
+        requires { order tiling.now ≤ LARGEST_LISTED_ORDER }
         ensures { (w : Moves) → IsWordOf tiling.now w → result ≡ packed w }
     {
-        let digits = digits_of_tiling(turns, tiling);
+        let digits = digits_of_tiling(laying, tiling);
         Packed {
             number: number_of(digits.as_slice()),
         }
@@ -73,7 +75,7 @@ impl Packed {
 pub fn number_with(skel: &Skel, m: &Move) -> u128
     requires legal { IsLegal skel.now }
     requires next { IsLegalMove (outline_of skel.now) m.now }
-    requires few { order_of skel.now + m.now.count ≤ 16 }
+    requires few { order_of skel.now + m.now.count ≤ LARGEST_LISTED_ORDER }
     ensures { result ≡ packed (skel.now ++ m.now ∷ []) }
 {
     let mut number = number_of_move(m);
@@ -88,8 +90,8 @@ pub fn number_with(skel: &Skel, m: &Move) -> u128
 // The packed number of one move.
 fn number_of_move(m: &Move) -> u128
     requires some { 0 < m.now.count }
-    requires few { m.now.count ≤ 16 }
-    requires room { length m.now.signs + 2 ≤ 64 }
+    requires few { m.now.count ≤ LARGEST_LISTED_ORDER }
+    requires room { length m.now.signs + 2 ≤ MOST_DIGITS }
     ensures { result ≡ packed (m.now ∷ []) }
 {
     move_before(m.count, m.signs.as_slice(), 0)
@@ -98,7 +100,7 @@ fn number_of_move(m: &Move) -> u128
 // The digits of a word.
 fn digits_of(word: &Word) -> ArrayVec<u8, MOST_DIGITS>
     requires legal { IsLegal word.now }
-    requires few { order_of word.now ≤ 16 }
+    requires few { order_of word.now ≤ LARGEST_LISTED_ORDER }
     ensures { result.items ≡ word_digits word.now }
 {
     let mut digits = ArrayVec::new();
@@ -109,14 +111,14 @@ fn digits_of(word: &Word) -> ArrayVec<u8, MOST_DIGITS>
 }
 
 // The digits of a tiling's word.
-fn digits_of_tiling(turns: &mut Turns, tiling: &Tiling) -> ArrayVec<u8, MOST_DIGITS>
-    requires { order tiling.now ≤ 16 }
+fn digits_of_tiling(laying: &mut Laying, tiling: &Tiling) -> ArrayVec<u8, MOST_DIGITS>
+    requires { order tiling.now ≤ LARGEST_LISTED_ORDER }
     ensures { HasDigitsOf tiling.now result.items }
 {
     let mut digits = ArrayVec::new();
     let mut m = Move::empty();
-    turns.begin(tiling);
-    'moves: while turns.next_in(tiling, &mut m) {
+    laying.begin(tiling);
+    'moves: while laying.next_in(tiling, &mut m) {
         push_digits(&mut digits, &m);
     }
     digits

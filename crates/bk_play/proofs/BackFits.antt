@@ -12,11 +12,11 @@ use Rattle.bk_word_net.proofs.Outlines.OutlineParts.{many_segments}
 use Rattle.bk_play.proofs.PlayedFlat.{closed_are, ends_are, ends_were, signs_are, sizes_after_many, sizes_are}
 use Rattle.bk_word_net.proofs.Outlines.Shape.{Filled, filled_parts, valley_in}
 use Rattle.bk_play.proofs.SkelFacts.{Counted, counted}
-use Rattle.bk_play.proofs.TurnParts.{closed_is, first_is, sides_are, start_is}
+use Rattle.bk_play.proofs.RecordParts.{closed_is, first_is, sides_are, start_is}
 use Rattle.bk_word_net.proofs.Outlines.ValleyCut.{AtValley}
-use Rattle.bk_play.specs.Skeleton.{GiveWay, Shows, first_touched, open_sides_of_record, sizes_after, turn_at}
+use Rattle.bk_play.specs.Skeleton.{exchange_back_of, GiveWay, Shows, first_touched, open_sides_of_record, sizes_after, record_of}
 use Rattle.bk_play.specs.Valley.{IsKeptSkeleton}
-use Rattle.bk_play.specs.declared.turns.MoveRecord.{MoveRecord}
+use Rattle.bk_play.specs.declared.records.MoveRecord.{MoveRecord}
 
 shows_self : (o : Outline) → Shows o (concat o.segments) (sizes_of o) o.signs (concat o.closed)
 shows_self o = record { ends_are = refl; sizes_are = refl; signs_are = refl; closed_are = refl }
@@ -33,11 +33,11 @@ module _ (front : Word) (m : Move) (kept : IsKeptSkeleton front) (legal : IsLega
   abbrev f : Filled (outline_of front) v
   f = filled_parts (outline_of front) v c.shaped
 
-  abbrev turn : MoveRecord
-  turn = turn_at (sizes_of (outline_of front)) (outline_of front).signs m from
+  abbrev noted : MoveRecord
+  noted = record_of (sizes_of (outline_of front)) (outline_of front).signs m from
 
   -- the squares that the move closed are there
-  pub closed_in : (closed : List ℕ) → closed ≡ concat (after_move (outline_of front) m).closed → turn.closed ≤ length closed
+  pub closed_in : (closed : List ℕ) → closed ≡ concat (after_move (outline_of front) m).closed → noted.closed ≤ length closed
   closed_in closed e = omega (
     arith,
     closed_is (outline_of front) c.shaped m from v f,
@@ -57,21 +57,21 @@ module _ (front : Word) (m : Move) (kept : IsKeptSkeleton front) (legal : IsLega
   )
 
   -- the squares that the move hung are there
-  pub ends_in : (ends : List ℕ) → ends ≡ concat (after_move (outline_of front) m).segments → turn.first + m.count ≤ length ends
+  pub ends_in : (ends : List ℕ) → ends ≡ concat (after_move (outline_of front) m).segments → noted.first + m.count ≤ length ends
   ends_in ends e = omega (arith, first_is (outline_of front) c.shaped m from v f, long_ends ends e)
 
   long_sizes : (sizes : List ℕ) → sizes ≡ sizes_of (after_move (outline_of front) m)
-      → length sizes ≡ length v.before + ((turn.parted + 1) + length v.after)
+      → length sizes ≡ length v.before + ((noted.parted + 1) + length v.after)
   long_sizes sizes e = ap length (e ∙ sizes_are (outline_of front) c.shaped m legal from) ∙ omega (
     arith,
-    length-append (map length v.before) (sizes_after turn m.signs ++ map length v.after),
-    length-append (sizes_after turn m.signs) (map length v.after),
+    length-append (map length v.before) (sizes_after noted m.signs ++ map length v.after),
+    length-append (sizes_after noted m.signs) (map length v.after),
     length-map v.before (length {A = ℕ}),
     length-map v.after (length {A = ℕ}),
-    sizes_after_many (max turn.left 1) (max turn.right 1) m.signs,
+    sizes_after_many (max noted.left 1) (max noted.right 1) m.signs,
   )
 
-  long_signs : (signs : List Sign) → signs ≡ (after_move (outline_of front) m).signs → length signs ≡ length v.before + (turn.parted + length v.after)
+  long_signs : (signs : List Sign) → signs ≡ (after_move (outline_of front) m).signs → length signs ≡ length v.before + (noted.parted + length v.after)
   long_signs signs e = ap length (e ∙ signs_are (outline_of front) c.shaped m legal from) ∙ omega (
     arith,
     length-append v.before_signs (filter parts m.signs ++ v.after_signs),
@@ -84,7 +84,7 @@ module _ (front : Word) (m : Move) (kept : IsKeptSkeleton front) (legal : IsLega
   -- the segments that came in the place of those touched are there, and with those in their place the segments are few
   pub gives_back : (sizes : List ℕ) (signs : List Sign) → sizes ≡ sizes_of (after_move (outline_of front) m)
       → signs ≡ (after_move (outline_of front) m).signs
-      → GiveWay 200 (first_touched turn) turn.parted (open_sides_of_record turn) sizes signs
+      → GiveWay 200 (exchange_back_of noted) sizes signs
   gives_back sizes signs e g = record {
     sizes_within = omega (arith, start, long_sizes sizes e);
     signs_within = omega (arith, start, long_signs signs g);
@@ -92,17 +92,17 @@ module _ (front : Word) (m : Move) (kept : IsKeptSkeleton front) (legal : IsLega
     signs_fit = omega (arith, sides, long_signs signs g, many, c.few);
   }
     where
-      start : first_touched turn ≡ length v.before
+      start : first_touched noted ≡ length v.before
       start = start_is (outline_of front) c.shaped m from v f
 
-      sides : open_sides_of_record turn ≡ length v.left + length v.right
+      sides : open_sides_of_record noted ≡ length v.left + length v.right
       sides = sides_are (outline_of front) c.shaped m from v f
 
-      many : length (sizes_of (outline_of front)) ≡ length v.before + (open_sides_of_record turn + 1 + length v.after)
+      many : length (sizes_of (outline_of front)) ≡ length v.before + (open_sides_of_record noted + 1 + length v.after)
       many = length-map (outline_of front).segments (length {A = ℕ}) ∙ omega (arith, many_segments (outline_of front) v, sides)
 
   -- the squares that stand after the move, without the new ones and with those closed, are those that stood before
-  pub ends_few : (ends : List ℕ) → ends ≡ concat (after_move (outline_of front) m).segments → length ends - m.count + turn.closed ≤ 200
+  pub ends_few : (ends : List ℕ) → ends ≡ concat (after_move (outline_of front) m).segments → length ends - m.count + noted.closed ≤ 200
   ends_few ends e = omega (
     arith,
     closed_is (outline_of front) c.shaped m from v f,

@@ -1,9 +1,9 @@
 pub mod Rooms
 pub mod FlatMoves
-pub mod TurnParts
+pub mod RecordParts
 pub mod PlayedFlat
 pub mod StoredMoves
-pub mod TurnRecords
+pub mod RecordReads
 pub mod EndNodes
 pub mod Wirings
 pub mod SkelFacts

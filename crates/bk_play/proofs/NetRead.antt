@@ -11,35 +11,35 @@ use Rattle.bk_word_net.proofs.Outlines.Numbering.{numbered_moves, numbered_start
 use Rattle.bk_word_net.proofs.WordFlows.NoLoose.{a_word_net_has_no_loose, closed_count}
 use Rattle.bk_play.proofs.RecordCounts.{closed_sizes}
 use Rattle.bk_play.proofs.SkelReads.{counted_in}
-use Rattle.bk_play.proofs.StoredMoves.{turns_many}
+use Rattle.bk_play.proofs.StoredMoves.{records_many}
 use Rattle.bk_play.specs.Skeleton.{IsStoredSkeleton, SkeletonLists}
 use Rattle.bk_play.specs.Wiring.{AreWires, closed_of, hung_and_closed, move_wires_from}
 use Rattle.bk_word_net.specs.WordNet.{end_of, net_of_word}
-use Rattle.bk_play.specs.declared.turns.MoveRecord.{MoveRecord}
-use Rattle.bk_play.proofs.RecordCounts.{counts_turns, counts_sum}
+use Rattle.bk_play.specs.declared.records.MoveRecord.{MoveRecord}
+use Rattle.bk_play.proofs.RecordCounts.{counts_records, counts_sum}
 use Rattle.bk_play.proofs.HungWires.{nodes_from, hung_nodes, zip_nodes}
 use Rattle.bk_play.proofs.EndsRead.{ends_read}
 
 -- the net of a complete word, as it is read
-pub record ReadsNet (w : Word) (turns : List MoveRecord) (ends : List ℕ) : Type 0 where
-  pub all : length ends ≡ sum (hung_and_closed turns)
-  pub wires : AreWires (length turns + 1) (move_wires_from 0 (hung_and_closed turns) ends)
-  pub net : (record { nodes = length turns + 1; wires = move_wires_from 0 (hung_and_closed turns) ends }) ≡ net_of_word w
+pub record ReadsNet (w : Word) (records : List MoveRecord) (ends : List ℕ) : Type 0 where
+  pub all : length ends ≡ sum (hung_and_closed records)
+  pub wires : AreWires (length records + 1) (move_wires_from 0 (hung_and_closed records) ends)
+  pub net : (record { nodes = length records + 1; wires = move_wires_from 0 (hung_and_closed records) ends }) ≡ net_of_word w
 
 -- of a complete word, the records and the nodes where the squares end are the net of the word
 pub reads_net : {w : Word} {lists : SkeletonLists}
     → IsStoredSkeleton w lists → IsComplete w → (ended : List ℕ) (n : ℕ) → n ≡ order_of w → length ended ≡ 200
-    → ((k : ℕ) → k < 200 → slice_index ended k ≡ end_of (outline_of w).closed (k + 1)) → ReadsNet w lists.turns (take n ended)
+    → ((k : ℕ) → k < 200 → slice_index ended k ≡ end_of (outline_of w).closed (k + 1)) → ReadsNet w lists.records (take n ended)
 reads_net {w = w} {lists = lists} s complete ended n order long read =
     record { all = all; wires = subst (λ (m : Net). AreWires m.nodes m.wires) (sym net) good; net = net }
   where
     hung : length (outline_of w).hung ≡ order_of w
     hung = (counted_in s).hung
 
-    counts : hung_and_closed lists.turns ≡ map (λ m. m.count) w
-    counts = ap hung_and_closed s.turns_are ∙ counts_turns start 0 w
+    counts : hung_and_closed lists.records ≡ map (λ m. m.count) w
+    counts = ap hung_and_closed s.records_are ∙ counts_records start 0 w
 
-    all : length (take n ended) ≡ sum (hung_and_closed lists.turns)
+    all : length (take n ended) ≡ sum (hung_and_closed lists.records)
     all = length-take-le n ended (omega (arith, order, (s.kept).few)) ∙ order ∙ sym (ap sum counts ∙ counts_sum w)
 
     ends_are : take n ended ≡ map (end_of ((outline_of w).closed ++ (outline_of w).segments)) (numbers_from 1 (length (outline_of w).hung))
@@ -47,16 +47,16 @@ reads_net {w = w} {lists = lists} s complete ended n order long read =
         (omega (arith, order, (s.kept).few)) long read
         ∙ ap (λ k. map (end_of ((outline_of w).closed ++ (outline_of w).segments)) (numbers_from 1 k)) (order ∙ sym hung)
 
-    nodes : length lists.turns ≡ length (outline_of w).closed
-    nodes = omega (arith, ap length s.turns_are, turns_many start 0 w, closed_count start w)
+    nodes : length lists.records ≡ length (outline_of w).closed
+    nodes = omega (arith, ap length s.records_are, records_many start 0 w, closed_count start w)
 
-    wires_are : move_wires_from 0 (hung_and_closed lists.turns) (take n ended)
+    wires_are : move_wires_from 0 (hung_and_closed lists.records) (take n ended)
         ≡ zip (outline_of w).hung (map (end_of ((outline_of w).closed ++ (outline_of w).segments)) (numbers_from 1 (length (outline_of w).hung)))
-    wires_are = sym (zip_nodes 0 (hung_and_closed lists.turns) (take n ended) all) ∙ (λ i. zip (nodes_from 0 (counts i)) (ends_are i))
+    wires_are = sym (zip_nodes 0 (hung_and_closed lists.records) (take n ended) all) ∙ (λ i. zip (nodes_from 0 (counts i)) (ends_are i))
         ∙ ap (λ (l : List ℕ). zip l (map (end_of ((outline_of w).closed ++ (outline_of w).segments))
         (numbers_from 1 (length (outline_of w).hung)))) (sym (hung_nodes start w))
 
-    net : (record { nodes = length lists.turns + 1; wires = move_wires_from 0 (hung_and_closed lists.turns) (take n ended) }) ≡ net_of_word w
+    net : (record { nodes = length lists.records + 1; wires = move_wires_from 0 (hung_and_closed lists.records) (take n ended) }) ≡ net_of_word w
     net = λ i. record { nodes = nodes i + 1; wires = wires_are i }
 
     good : AreWires (net_of_word w).nodes (net_of_word w).wires
@@ -66,7 +66,7 @@ reads_net {w = w} {lists = lists} s complete ended n order long read =
 -- the records and nodes that a skeleton shows of a complete word are the net of the word, where these are read of it
 pub reads_shown : {w now : Word} {lists : SkeletonLists}
     {first again : List MoveRecord} {read : List ℕ}
-    → IsStoredSkeleton w lists → w ≡ now → IsComplete now → first ≡ lists.turns → read ≡ lists.closed → again ≡ lists.turns
+    → IsStoredSkeleton w lists → w ≡ now → IsComplete now → first ≡ lists.records → read ≡ lists.closed → again ≡ lists.records
     → (ended : List ℕ) (open_ones closed_ones : ℕ) → open_ones ≡ length lists.ends → closed_ones ≡ length lists.closed → length ended ≡ 200
     → ((groups : List (List ℕ)) → read ≡ concat groups → closed_of first ≡ map length groups
     → (k : ℕ) → k < 200 → slice_index ended k ≡ end_of groups (k + 1))

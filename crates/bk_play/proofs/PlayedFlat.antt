@@ -18,10 +18,10 @@ use Rattle.bk_play.proofs.FlatMoves.{sizes_between}
 use Rattle.bk_word_net.proofs.Outlines.OutlineParts.{left_one, right_one, valley_is}
 use Rattle.bk_word_net.proofs.Outlines.MovedParts.{many_between, segments_after, signs_after}
 use Rattle.bk_word_net.proofs.Outlines.Shape.{Filled, Shaped, filled_parts, valley_in}
-use Rattle.bk_play.proofs.TurnParts.{closed_is, first_is, left_is, right_is, sides_are, signs_before_are, sizes_before_are, start_is}
+use Rattle.bk_play.proofs.RecordParts.{closed_is, first_is, left_is, right_is, sides_are, signs_before_are, sizes_before_are, start_is}
 use Rattle.bk_word_net.proofs.Outlines.ValleyCut.{AtValley}
-use Rattle.bk_play.specs.Skeleton.{Shows, first_touched, joined_sizes, next_size, open_sides_of_record, signs_before, sizes_after, sizes_before, turn_at}
-use Rattle.bk_play.specs.declared.turns.MoveRecord.{MoveRecord}
+use Rattle.bk_play.specs.Skeleton.{Shows, first_touched, joined_sizes, next_size, open_sides_of_record, signs_before, sizes_after, sizes_before, record_of}
+use Rattle.bk_play.specs.declared.records.MoveRecord.{MoveRecord}
 
 -- how many segments the signs leave
 pub sizes_after_many : (size last : ℕ) (signs : List Sign) → length (joined_sizes size last signs) ≡ count_by parts signs + 1
@@ -40,8 +40,8 @@ module _ (o : Outline) (shaped : Shaped o) (m : Move) (legal : IsLegalMove o m) 
   abbrev f : Filled o (valley_in o shaped)
   f = filled_parts o (valley_in o shaped) shaped
 
-  abbrev turn : MoveRecord
-  turn = turn_at (sizes_of o) o.signs m from
+  abbrev noted : MoveRecord
+  noted = record_of (sizes_of o) o.signs m from
 
   -- the segments that come in the place of those touched
   abbrev between : List (List ℕ)
@@ -73,11 +73,11 @@ module _ (o : Outline) (shaped : Shaped o) (m : Move) (legal : IsLegalMove o m) 
       ∙ append-regroup_five (concat v.before) (concat v.left) (new_squares o m) (concat v.right) (concat v.after)
 
   -- how many squares each segment has after it
-  pub sizes_are : sizes_of (after_move o m) ≡ map length v.before ++ (sizes_after turn m.signs ++ map length v.after)
+  pub sizes_are : sizes_of (after_move o m) ≡ map length v.before ++ (sizes_after noted m.signs ++ map length v.after)
   sizes_are = ap (map length) (segments_after o v m legal) ∙ map-append length v.before (joined m.signs between ++ v.after)
       ∙ ap (λ (l : List ℕ). map length v.before ++ l) (map-append length (joined m.signs between) v.after ∙ ap (λ (l : List ℕ). l ++ map length v.after) middle)
     where
-      middle : map length (joined m.signs between) ≡ sizes_after turn m.signs
+      middle : map length (joined m.signs between) ≡ sizes_after noted m.signs
       middle = sizes_between v.left v.right (new_squares o m) m.signs (left_one o v).1 (right_one o v).1 f.left f.right
           (omega (arith, legal.some, numbers-length (length o.hung + 1) m.count)) (many_between o v m legal)
           ∙ (λ i. joined_sizes (max (sym (left_is o shaped m from v f) i) 1) (max (sym (right_is o shaped m from v f) i) 1) m.signs)
@@ -91,16 +91,17 @@ module _ (o : Outline) (shaped : Shaped o) (m : Move) (legal : IsLegalMove o m) 
   closed_are = concat-append o.closed (valley_of o ∷ []) ∙ ap (λ (l : List ℕ). concat o.closed ++ l) (append-nil (valley_of o) ∙ valley_is o v)
 
   -- how far the parts reach
-  first_long : length (concat v.before ++ concat v.left) ≡ turn.first
+  first_long : length (concat v.before ++ concat v.left) ≡ noted.first
   first_long = length-append (concat v.before) (concat v.left) ∙ sym (first_is o shaped m from v f)
 
-  start_long : length (map length v.before) ≡ first_touched turn
+  start_long : length (map length v.before) ≡ first_touched noted
   start_long = length-map v.before length ∙ sym (start_is o shaped m from v f)
 
-  start_signs : length v.before_signs ≡ first_touched turn
+  start_signs : length v.before_signs ≡ first_touched noted
   start_signs = sym v.before_many ∙ sym (start_is o shaped m from v f)
 
-  sizes_long : first_touched turn + length (map length v.left ++ (length v.valley ∷ map length v.right)) ≡ first_touched turn + (open_sides_of_record turn + 1)
+  sizes_long : first_touched noted + length (map length v.left ++ (length v.valley ∷ map length v.right))
+      ≡ first_touched noted + (open_sides_of_record noted + 1)
   sizes_long = omega (
     arith,
     sides_are o shaped m from v f,
@@ -109,76 +110,76 @@ module _ (o : Outline) (shaped : Shaped o) (m : Move) (legal : IsLegalMove o m) 
     length-map v.right length,
   )
 
-  signs_long : first_touched turn + length (v.left_signs ++ v.right_signs) ≡ first_touched turn + open_sides_of_record turn
+  signs_long : first_touched noted + length (v.left_signs ++ v.right_signs) ≡ first_touched noted + open_sides_of_record noted
   signs_long = omega (arith, sides_are o shaped m from v f, length-append v.left_signs v.right_signs, (left_one o v).0, (right_one o v).0)
 
   -- the lists that are stored after a move
   pub shows_move : (ends sizes : List ℕ) (signs : List Sign) (closed : List ℕ) → Shows o ends sizes signs closed
       → Shows (after_move o m)
-      (splice ends turn.first (turn.first + turn.closed) (new_squares o m))
-      (splice sizes (first_touched turn) (first_touched turn + (open_sides_of_record turn + 1)) (sizes_after turn m.signs))
-      (splice signs (first_touched turn) (first_touched turn + open_sides_of_record turn) (filter parts m.signs))
-      (closed ++ slice_range ends turn.first (turn.first + turn.closed))
+      (splice ends noted.first (noted.first + noted.closed) (new_squares o m))
+      (splice sizes (first_touched noted) (first_touched noted + (open_sides_of_record noted + 1)) (sizes_after noted m.signs))
+      (splice signs (first_touched noted) (first_touched noted + open_sides_of_record noted) (filter parts m.signs))
+      (closed ++ slice_range ends noted.first (noted.first + noted.closed))
   shows_move ends sizes signs closed s = record {
-    ends_are = ap (λ (l : List ℕ). splice l turn.first (turn.first + turn.closed) (new_squares o m)) (s.ends_are ∙ ends_were)
-        ∙ splice-middle (concat v.before ++ concat v.left) v.valley (concat v.right ++ concat v.after) (new_squares o m) turn.first
-        (turn.first + turn.closed) first_long (omega (arith, closed_is o shaped m from v f))
+    ends_are = ap (λ (l : List ℕ). splice l noted.first (noted.first + noted.closed) (new_squares o m)) (s.ends_are ∙ ends_were)
+        ∙ splice-middle (concat v.before ++ concat v.left) v.valley (concat v.right ++ concat v.after) (new_squares o m) noted.first
+        (noted.first + noted.closed) first_long (omega (arith, closed_is o shaped m from v f))
         ∙ sym ends_are;
-    sizes_are = ap (λ (l : List ℕ). splice l (first_touched turn) (first_touched turn + (open_sides_of_record turn + 1)) (sizes_after turn m.signs))
+    sizes_are = ap (λ (l : List ℕ). splice l (first_touched noted) (first_touched noted + (open_sides_of_record noted + 1)) (sizes_after noted m.signs))
         (s.sizes_are ∙ sizes_were)
         ∙ splice-middle (map length v.before) (map length v.left ++ (length v.valley ∷ map length v.right)) (map length v.after)
-        (sizes_after turn m.signs) (first_touched turn) (first_touched turn + (open_sides_of_record turn + 1)) start_long sizes_long
+        (sizes_after noted m.signs) (first_touched noted) (first_touched noted + (open_sides_of_record noted + 1)) start_long sizes_long
         ∙ sym sizes_are;
-    signs_are = ap (λ (l : List Sign). splice l (first_touched turn) (first_touched turn + open_sides_of_record turn) (filter parts m.signs))
+    signs_are = ap (λ (l : List Sign). splice l (first_touched noted) (first_touched noted + open_sides_of_record noted) (filter parts m.signs))
         (s.signs_are ∙ signs_were)
-        ∙ splice-middle v.before_signs (v.left_signs ++ v.right_signs) v.after_signs (filter parts m.signs) (first_touched turn)
-        (first_touched turn + open_sides_of_record turn) start_signs signs_long
+        ∙ splice-middle v.before_signs (v.left_signs ++ v.right_signs) v.after_signs (filter parts m.signs) (first_touched noted)
+        (first_touched noted + open_sides_of_record noted) start_signs signs_long
         ∙ sym signs_are;
-    closed_are = (λ i. s.closed_are i ++ slice_range ((s.ends_are ∙ ends_were) i) turn.first (turn.first + turn.closed))
+    closed_are = (λ i. s.closed_are i ++ slice_range ((s.ends_are ∙ ends_were) i) noted.first (noted.first + noted.closed))
         ∙ ap (λ (l : List ℕ). concat o.closed ++ l) middle ∙ sym closed_are;
   }
     where
-      middle : slice_range ((concat v.before ++ concat v.left) ++ (v.valley ++ (concat v.right ++ concat v.after))) turn.first
-          (turn.first + turn.closed) ≡ v.valley
-      middle = ap (take (turn.first + turn.closed - turn.first))
-          (drop_at (concat v.before ++ concat v.left) (v.valley ++ (concat v.right ++ concat v.after)) turn.first first_long)
-          ∙ take_at v.valley (concat v.right ++ concat v.after) (turn.first + turn.closed - turn.first) (omega (arith, closed_is o shaped m from v f))
+      middle : slice_range ((concat v.before ++ concat v.left) ++ (v.valley ++ (concat v.right ++ concat v.after))) noted.first
+          (noted.first + noted.closed) ≡ v.valley
+      middle = ap (take (noted.first + noted.closed - noted.first))
+          (drop_at (concat v.before ++ concat v.left) (v.valley ++ (concat v.right ++ concat v.after)) noted.first first_long)
+          ∙ take_at v.valley (concat v.right ++ concat v.after) (noted.first + noted.closed - noted.first) (omega (arith, closed_is o shaped m from v f))
 
   -- the lists that are stored where a move is taken back
   pub shows_back : (ends sizes : List ℕ) (signs : List Sign) (closed : List ℕ) → Shows (after_move o m) ends sizes signs closed
       → Shows o
-      (splice ends turn.first (turn.first + turn.count) (drop (length closed - turn.closed) closed))
-      (splice sizes (first_touched turn) (first_touched turn + (turn.parted + 1)) (sizes_before turn))
-      (splice signs (first_touched turn) (first_touched turn + turn.parted) (signs_before turn))
-      (take (length closed - turn.closed) closed)
+      (splice ends noted.first (noted.first + noted.count) (drop (length closed - noted.closed) closed))
+      (splice sizes (first_touched noted) (first_touched noted + (noted.parted + 1)) (sizes_before noted))
+      (splice signs (first_touched noted) (first_touched noted + noted.parted) (signs_before noted))
+      (take (length closed - noted.closed) closed)
   shows_back ends sizes signs closed s = record {
-    ends_are = (λ i. splice ((s.ends_are ∙ ends_are) i) turn.first (turn.first + turn.count) (last i))
-        ∙ splice-middle (concat v.before ++ concat v.left) (new_squares o m) (concat v.right ++ concat v.after) v.valley turn.first
-        (turn.first + turn.count) first_long (ap (λ n. turn.first + n) (numbers-length (length o.hung + 1) m.count))
+    ends_are = (λ i. splice ((s.ends_are ∙ ends_are) i) noted.first (noted.first + noted.count) (last i))
+        ∙ splice-middle (concat v.before ++ concat v.left) (new_squares o m) (concat v.right ++ concat v.after) v.valley noted.first
+        (noted.first + noted.count) first_long (ap (λ n. noted.first + n) (numbers-length (length o.hung + 1) m.count))
         ∙ sym ends_were;
-    sizes_are = (λ i. splice ((s.sizes_are ∙ sizes_are) i) (first_touched turn) (first_touched turn + (turn.parted + 1))
+    sizes_are = (λ i. splice ((s.sizes_are ∙ sizes_are) i) (first_touched noted) (first_touched noted + (noted.parted + 1))
         (sizes_before_are o shaped m from v f i))
-        ∙ splice-middle (map length v.before) (sizes_after turn m.signs) (map length v.after)
-        (map length v.left ++ (length v.valley ∷ map length v.right)) (first_touched turn) (first_touched turn + (turn.parted + 1))
-        start_long (ap (λ n. first_touched turn + n) sizes_many)
+        ∙ splice-middle (map length v.before) (sizes_after noted m.signs) (map length v.after)
+        (map length v.left ++ (length v.valley ∷ map length v.right)) (first_touched noted) (first_touched noted + (noted.parted + 1))
+        start_long (ap (λ n. first_touched noted + n) sizes_many)
         ∙ sym sizes_were;
-    signs_are = (λ i. splice ((s.signs_are ∙ signs_are) i) (first_touched turn) (first_touched turn + turn.parted) (signs_before_are o shaped m from v f i))
-        ∙ splice-middle v.before_signs (filter parts m.signs) v.after_signs (v.left_signs ++ v.right_signs) (first_touched turn)
-        (first_touched turn + turn.parted) start_signs (ap (λ n. first_touched turn + n) (length-filter parts m.signs))
+    signs_are = (λ i. splice ((s.signs_are ∙ signs_are) i) (first_touched noted) (first_touched noted + noted.parted) (signs_before_are o shaped m from v f i))
+        ∙ splice-middle v.before_signs (filter parts m.signs) v.after_signs (v.left_signs ++ v.right_signs) (first_touched noted)
+        (first_touched noted + noted.parted) start_signs (ap (λ n. first_touched noted + n) (length-filter parts m.signs))
         ∙ sym signs_were;
-    closed_are = (λ i. take (length (whole i) - turn.closed) (whole i))
-        ∙ take_at (concat o.closed) v.valley (length (concat o.closed ++ v.valley) - turn.closed) rest;
+    closed_are = (λ i. take (length (whole i) - noted.closed) (whole i))
+        ∙ take_at (concat o.closed) v.valley (length (concat o.closed ++ v.valley) - noted.closed) rest;
   }
     where
       whole : closed ≡ concat o.closed ++ v.valley
       whole = s.closed_are ∙ closed_are
 
-      rest : length (concat o.closed) ≡ length (concat o.closed ++ v.valley) - turn.closed
+      rest : length (concat o.closed) ≡ length (concat o.closed ++ v.valley) - noted.closed
       rest = omega (arith, length-append (concat o.closed) v.valley, closed_is o shaped m from v f)
 
-      last : drop (length closed - turn.closed) closed ≡ v.valley
-      last = (λ i. drop (length (whole i) - turn.closed) (whole i))
-          ∙ drop_at (concat o.closed) v.valley (length (concat o.closed ++ v.valley) - turn.closed) rest
+      last : drop (length closed - noted.closed) closed ≡ v.valley
+      last = (λ i. drop (length (whole i) - noted.closed) (whole i))
+          ∙ drop_at (concat o.closed) v.valley (length (concat o.closed ++ v.valley) - noted.closed) rest
 
-      sizes_many : length (sizes_after turn m.signs) ≡ turn.parted + 1
-      sizes_many = sizes_after_many (max turn.left 1) (max turn.right 1) m.signs
+      sizes_many : length (sizes_after noted m.signs) ≡ noted.parted + 1
+      sizes_many = sizes_after_many (max noted.left 1) (max noted.right 1) m.signs

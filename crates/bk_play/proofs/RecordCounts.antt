@@ -12,22 +12,22 @@ use Rattle.bk_word.specs.Word.{Word, order_of}
 use Rattle.bk_word_net.proofs.Outlines.Numbering.{numbered_moves, numbered_start}
 use Rattle.bk_word_net.proofs.WordFlows.NoLoose.{hung_number}
 use Rattle.bk_play.proofs.SkelReads.{counted_in}
-use Rattle.bk_play.specs.Skeleton.{IsStoredSkeleton, SkeletonLists, turns_from}
+use Rattle.bk_play.specs.Skeleton.{IsStoredSkeleton, SkeletonLists, records_from}
 use Rattle.bk_play.specs.Wiring.{AreNumbers, closed_of, hung_and_closed}
 
 -- how many squares the records say that each move closes and hangs
-pub closed_turns : (o : Outline) (from : ℕ) (w : Word) → map length (after_moves o w).closed ≡ map length o.closed ++ closed_of (turns_from o from w)
-closed_turns o from [] = sym (append-nil (map length o.closed))
-closed_turns o from (m ∷ w) = closed_turns (after_move o m) (from + length m.signs) w
-    ∙ ap (λ (l : List ℕ). l ++ closed_of (turns_from (after_move o m) (from + length m.signs) w))
+pub closed_records : (o : Outline) (from : ℕ) (w : Word) → map length (after_moves o w).closed ≡ map length o.closed ++ closed_of (records_from o from w)
+closed_records o from [] = sym (append-nil (map length o.closed))
+closed_records o from (m ∷ w) = closed_records (after_move o m) (from + length m.signs) w
+    ∙ ap (λ (l : List ℕ). l ++ closed_of (records_from (after_move o m) (from + length m.signs) w))
     (map-append length o.closed (valley_of o ∷ []) ∙ ap (λ n. map length o.closed ++ n ∷ []) (sym (slice_index-map_length o.segments (valley_place o.signs))))
     ∙ append_assoc (map length o.closed) (slice_index (sizes_of o) (valley_place o.signs) ∷ [])
-    (closed_of (turns_from (after_move o m) (from + length m.signs) w))
+    (closed_of (records_from (after_move o m) (from + length m.signs) w))
 
 -- the records say how many squares each move hangs
-pub counts_turns : (o : Outline) (from : ℕ) (w : Word) → hung_and_closed (turns_from o from w) ≡ map (λ m. m.count) w
-counts_turns o from [] = refl
-counts_turns o from (m ∷ w) = ap (λ (l : List ℕ). m.count ∷ l) (counts_turns (after_move o m) (from + length m.signs) w)
+pub counts_records : (o : Outline) (from : ℕ) (w : Word) → hung_and_closed (records_from o from w) ≡ map (λ m. m.count) w
+counts_records o from [] = refl
+counts_records o from (m ∷ w) = ap (λ (l : List ℕ). m.count ∷ l) (counts_records (after_move o m) (from + length m.signs) w)
 
 -- all moves of a word hang as many squares as its order says
 pub counts_sum : (w : Word) → sum (map (λ m. m.count) w) ≡ order_of w
@@ -51,10 +51,10 @@ closed_numbers {w = w} {lists = lists} s =
 
 -- the records say how many squares each node closes
 pub closed_sizes : {w : Word} {lists : SkeletonLists}
-    → IsStoredSkeleton w lists → closed_of lists.turns ≡ map length (outline_of w).closed
-closed_sizes {w = w} s = ap closed_of s.turns_are ∙ sym (closed_turns start 0 w)
+    → IsStoredSkeleton w lists → closed_of lists.records ≡ map length (outline_of w).closed
+closed_sizes {w = w} s = ap closed_of s.records_are ∙ sym (closed_records start 0 w)
 
 -- as many squares are closed as the records say
 pub closed_many : {w : Word} {lists : SkeletonLists}
-    → IsStoredSkeleton w lists → length lists.closed ≡ sum (closed_of lists.turns)
+    → IsStoredSkeleton w lists → length lists.closed ≡ sum (closed_of lists.records)
 closed_many {w = w} s = ap length (s.shows).closed_are ∙ sym (sum-map_length (outline_of w).closed) ∙ ap sum (sym (closed_sizes s))

@@ -16,12 +16,12 @@ use Rattle.bk_play.proofs.PlayedFlat.{ends_were, shows_move}
 use Rattle.bk_word_net.proofs.Outlines.Shape.{AllFilled, Filled, Shaped, filled_many, filled_move, filled_parts, hung_many, joined_many, shaped_move}
 use Rattle.bk_word_net.proofs.Outlines.Shape.{shaped_moves, shaped_start, valley_in}
 use Rattle.bk_word.proofs.PlayLaws.{after-snoc, few_signs, legal-snoc}
-use Rattle.bk_play.proofs.StoredMoves.{signs-snoc, turns-snoc}
-use Rattle.bk_play.proofs.TurnParts.{closed_is, first_is, left_is, right_is, sides_are, start_is}
+use Rattle.bk_play.proofs.StoredMoves.{signs-snoc, records-snoc}
+use Rattle.bk_play.proofs.RecordParts.{closed_is, first_is, left_is, right_is, sides_are, start_is}
 use Rattle.bk_word_net.proofs.Outlines.ValleyCut.{AtValley}
-use Rattle.bk_play.specs.Skeleton.{GiveWay, IsStoredSkeleton, Shows, SkeletonLists, first_touched, open_sides_of_record, signs_of, sizes_after, turn_at}
+use Rattle.bk_play.specs.Skeleton.{exchange_of, GiveWay, IsStoredSkeleton, Shows, SkeletonLists, first_touched, open_sides_of_record, signs_of, sizes_after, record_of}
 use Rattle.bk_play.specs.Valley.{IsKeptSkeleton}
-use Rattle.bk_play.specs.declared.turns.MoveRecord.{MoveRecord}
+use Rattle.bk_play.specs.declared.records.MoveRecord.{MoveRecord}
 
 -- the lists show an outline
 abbrev pub ShowsIn : Outline → SkeletonLists → Type 0
@@ -68,17 +68,17 @@ counted w ends sizes signs closed kept s = record {
     filled (inr all) = omega (arith, long, filled_many (outline_of w).segments all, shaped.counted, hung)
 
 -- the numbers of what a legal move touches, where at most so many squares hang after it
-pub record Touches (most : ℕ) (w : Word) (m : Move) (ends sizes : List ℕ) (signs : List Sign) (closed : List ℕ) (turn : MoveRecord) : Type 0 where
-  pub first : turn.first + turn.closed ≤ length ends
-  pub gives : GiveWay most (first_touched turn) (open_sides_of_record turn) turn.parted sizes signs
-  pub beside : turn.left + turn.closed + turn.right ≤ length ends
+pub record Touches (most : ℕ) (w : Word) (m : Move) (ends sizes : List ℕ) (signs : List Sign) (closed : List ℕ) (noted : MoveRecord) : Type 0 where
+  pub first : noted.first + noted.closed ≤ length ends
+  pub gives : GiveWay most (exchange_of noted) sizes signs
+  pub beside : noted.left + noted.closed + noted.right ≤ length ends
   pub few_signs : length m.signs ≤ m.count + 1
 
 -- what a legal move touches lies within the lists, and what it leaves has room in them
 pub touches : (most : ℕ) (w : Word) (m : Move) (ends sizes : List ℕ) (signs : List Sign) (closed : List ℕ) (from : ℕ) → IsKeptSkeleton w
     → Shows (outline_of w) ends sizes signs closed
     → IsLegalMove (outline_of w) m → order_of w + m.count ≤ most
-    → Touches most w m ends sizes signs closed (turn_at (sizes_of (outline_of w)) (outline_of w).signs m from)
+    → Touches most w m ends sizes signs closed (record_of (sizes_of (outline_of w)) (outline_of w).signs m from)
 touches most w m ends sizes signs closed from kept s legal room = record {
   first = omega (arith, first_is (outline_of w) c.shaped m from v f, closed_is (outline_of w) c.shaped m from v f, squares);
   gives = record {
@@ -145,41 +145,41 @@ touches most w m ends sizes signs closed from kept s legal room = record {
 
 -- the lists after a move of this record
 abbrev pub lists_after : SkeletonLists → Move → MoveRecord → SkeletonLists
-lists_after lists m turn = record {
-  ends = splice lists.ends turn.first (turn.first + turn.closed) (numbers_from (length lists.ends + length lists.closed + 1) m.count);
-  sizes = splice lists.sizes (first_touched turn) (first_touched turn + (open_sides_of_record turn + 1)) (sizes_after turn m.signs);
-  signs = splice lists.signs (first_touched turn) (first_touched turn + open_sides_of_record turn) (filter parts m.signs);
-  closed = lists.closed ++ slice_range lists.ends turn.first (turn.first + turn.closed);
-  turns = lists.turns ++ turn ∷ [];
+lists_after lists m noted = record {
+  ends = splice lists.ends noted.first (noted.first + noted.closed) (numbers_from (length lists.ends + length lists.closed + 1) m.count);
+  sizes = splice lists.sizes (first_touched noted) (first_touched noted + (open_sides_of_record noted + 1)) (sizes_after noted m.signs);
+  signs = splice lists.signs (first_touched noted) (first_touched noted + open_sides_of_record noted) (filter parts m.signs);
+  closed = lists.closed ++ slice_range lists.ends noted.first (noted.first + noted.closed);
+  records = lists.records ++ noted ∷ [];
   played = lists.played ++ m.signs;
 }
 
 -- after a legal move the lists with the move store the word with it
-pub stored_move : (w : Word) (m : Move) (lists : SkeletonLists) (turn : MoveRecord)
+pub stored_move : (w : Word) (m : Move) (lists : SkeletonLists) (noted : MoveRecord)
     → IsStoredSkeleton w lists → IsLegalMove (outline_of w) m → order_of w + m.count ≤ 200
-    → turn ≡ turn_at lists.sizes lists.signs m (length lists.played) → IsStoredSkeleton (w ++ m ∷ []) (lists_after lists m turn)
-stored_move w m lists turn s legal room e = record {
+    → noted ≡ record_of lists.sizes lists.signs m (length lists.played) → IsStoredSkeleton (w ++ m ∷ []) (lists_after lists m noted)
+stored_move w m lists noted s legal room e = record {
   kept = record { legal = legal-snoc start w m (s.kept).legal legal; few = omega (arith, order_one w m, room) };
-  shows = subst (λ (o : Outline). ShowsIn o (lists_after lists m turn)) (sym (after-snoc start w m)) shown;
-  turns_are = (λ i. s.turns_are i ++ turn_is i ∷ []) ∙ sym (turns-snoc start 0 w m);
+  shows = subst (λ (o : Outline). ShowsIn o (lists_after lists m noted)) (sym (after-snoc start w m)) shown;
+  records_are = (λ i. s.records_are i ++ record_is i ∷ []) ∙ sym (records-snoc start 0 w m);
   played_are = (λ i. s.played_are i ++ m.signs) ∙ sym (signs-snoc w m);
 }
   where
     c : Counted w lists.ends lists.sizes lists.signs lists.closed
     c = counted w lists.ends lists.sizes lists.signs lists.closed s.kept s.shows
 
-    turn_was : turn ≡ turn_at (sizes_of (outline_of w)) (outline_of w).signs m (length lists.played)
-    turn_was = e ∙ (λ i. turn_at ((s.shows).sizes_are i) ((s.shows).signs_are i) m (length lists.played))
+    record_was : noted ≡ record_of (sizes_of (outline_of w)) (outline_of w).signs m (length lists.played)
+    record_was = e ∙ (λ i. record_of ((s.shows).sizes_are i) ((s.shows).signs_are i) m (length lists.played))
 
-    turn_is : turn ≡ turn_at (sizes_of (outline_of w)) (outline_of w).signs m (0 + length (signs_of w))
-    turn_is = turn_was ∙ ap (turn_at (sizes_of (outline_of w)) (outline_of w).signs m) (ap length s.played_are ∙ omega arith)
+    record_is : noted ≡ record_of (sizes_of (outline_of w)) (outline_of w).signs m (0 + length (signs_of w))
+    record_is = record_was ∙ ap (record_of (sizes_of (outline_of w)) (outline_of w).signs m) (ap length s.played_are ∙ omega arith)
 
     number : length lists.ends + length lists.closed + 1 ≡ length (outline_of w).hung + 1
     number = omega (arith, c.all, c.hung)
 
-    shown : ShowsIn (after_move (outline_of w) m) (lists_after lists m turn)
-    shown = subst (λ (t : MoveRecord). ShowsIn (after_move (outline_of w) m) (lists_after lists m t)) (sym turn_was)
-        (subst (λ (n : ℕ). let t : MoveRecord = turn_at (sizes_of (outline_of w)) (outline_of w).signs m (length lists.played) in
+    shown : ShowsIn (after_move (outline_of w) m) (lists_after lists m noted)
+    shown = subst (λ (t : MoveRecord). ShowsIn (after_move (outline_of w) m) (lists_after lists m t)) (sym record_was)
+        (subst (λ (n : ℕ). let t : MoveRecord = record_of (sizes_of (outline_of w)) (outline_of w).signs m (length lists.played) in
         let after : SkeletonLists = lists_after lists m t in
         Shows (after_move (outline_of w) m) (splice lists.ends t.first (t.first + t.closed) (numbers_from n m.count)) after.sizes after.signs after.closed)
         (sym number)

@@ -11,8 +11,8 @@ use Rattle.bk_word.specs.declared.Sign.{Sign}
 use Rattle.bk_play.proofs.EndNodes.{CutAt, cut_at, here_is}
 use Rattle.bk_play.proofs.SkelFacts.{Counted, counted}
 use Rattle.bk_word.proofs.PlayLaws.{few_signs}
-use Rattle.bk_play.specs.Skeleton.{IsStoredSkeleton, SkeletonLists, Shows, signs_of, turns_from}
-use Rattle.bk_play.specs.declared.turns.MoveRecord.{MoveRecord}
+use Rattle.bk_play.specs.Skeleton.{IsStoredSkeleton, SkeletonLists, Shows, signs_of, records_from}
+use Rattle.bk_play.specs.declared.records.MoveRecord.{MoveRecord}
 
 -- what is stored has as many items as its word has squares and segments
 pub counted_in : {w : Word} {lists : SkeletonLists}
@@ -43,22 +43,22 @@ segment_read o ends sizes signs closed place s h =
     next = sym (sum-take_suc sizes place h) ∙ ap (λ (l : List ℕ). sum (take (suc place) l)) s.sizes_are
 
 -- the signs of a move, where it is read
-pub record Spans (turn : MoveRecord) (end : ℕ) : Type 0 where
-  pub order : turn.from ≤ turn.to
-  pub within : turn.to ≤ end
-  pub few : turn.to ≤ turn.from + 201
+pub record Spans (noted : MoveRecord) (end : ℕ) : Type 0 where
+  pub order : noted.from ≤ noted.to
+  pub within : noted.to ≤ end
+  pub few : noted.to ≤ noted.from + 201
 
 -- the signs of each move stand among those played, and are at most 201
-pub turn_spans : (o : Outline) (from : ℕ) (w : Word) → AreLegalFrom o w → order_of w ≤ 200 → (i : ℕ) (d : MoveRecord) → i < length w
-    → Spans (get_or (turns_from o from w) i d) (from + length (signs_of w))
-turn_spans o from [] legal few i d h = absurd (omega arith)
-turn_spans o from (m ∷ w) legal few zero d h = record {
+pub record_spans : (o : Outline) (from : ℕ) (w : Word) → AreLegalFrom o w → order_of w ≤ 200 → (i : ℕ) (d : MoveRecord) → i < length w
+    → Spans (get_or (records_from o from w) i d) (from + length (signs_of w))
+record_spans o from [] legal few i d h = absurd (omega arith)
+record_spans o from (m ∷ w) legal few zero d h = record {
   order = omega arith;
   within = omega (arith, length-append m.signs (signs_of w));
   few = omega (arith, few_signs o m legal.0, order_more m w);
 }
-turn_spans o from (m ∷ w) legal few (suc i) d h = let r =
-    turn_spans (after_move o m) (from + length m.signs) w legal.1 (omega (arith, order_more m w)) i d (omega arith) in record {
+record_spans o from (m ∷ w) legal few (suc i) d h = let r =
+    record_spans (after_move o m) (from + length m.signs) w legal.1 (omega (arith, order_more m w)) i d (omega arith) in record {
       order = r.order;
       within = omega (arith, r.within, length-append m.signs (signs_of w));
       few = r.few;

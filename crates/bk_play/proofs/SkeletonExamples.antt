@@ -7,11 +7,11 @@ use Rattle.bk_word.specs.Play.{outline_of}
 use Rattle.bk_word.specs.Word.{Move}
 use Rattle.bk_word.specs.declared.Sign.TheVariants.{Even, Under}
 use Rattle.bk_play.specs.Skeleton.{Shows, first_touched, joined_sizes, moves_stored, open_sides_of_record, signs_before, signs_of, sizes_after}
-use Rattle.bk_play.specs.Skeleton.{sizes_before, turns_from, with_parted}
+use Rattle.bk_play.specs.Skeleton.{sizes_before, records_from, with_parted}
 use Rattle.bk_play.specs.SmallSkeleton.{IsValleyPlace, StandsAt}
-use Rattle.bk_play.specs.TurnRecord.{SaysWhere}
+use Rattle.bk_play.specs.MoveRecords.{SaysWhere}
 use Rattle.bk_play.specs.Valley.{leftmost_valley}
-use Rattle.bk_play.specs.declared.turns.MoveRecord.{MoveRecord}
+use Rattle.bk_play.specs.declared.records.MoveRecord.{MoveRecord}
 
 -- ---- the leftmost valley before each move, and how many squares each open segment has
 
@@ -38,43 +38,43 @@ sizes_after_all = refl
 
 -- ---- the records of the moves
 
-abbrev turn_1 : MoveRecord
-turn_1 = record { place = 0; first = 0; left = 0; closed = 0; right = 0; count = 2; parted = 1; from = 0; to = 1 }
+abbrev record_1 : MoveRecord
+record_1 = record { place = 0; first = 0; left = 0; closed = 0; right = 0; count = 2; parted = 1; from = 0; to = 1 }
 
-abbrev turn_2 : MoveRecord
-turn_2 = record { place = 1; first = 1; left = 1; closed = 1; right = 0; count = 2; parted = 1; from = 1; to = 3 }
+abbrev record_2 : MoveRecord
+record_2 = record { place = 1; first = 1; left = 1; closed = 1; right = 0; count = 2; parted = 1; from = 1; to = 3 }
 
-abbrev turn_3 : MoveRecord
-turn_3 = record { place = 1; first = 2; left = 2; closed = 1; right = 0; count = 1; parted = 0; from = 3; to = 4 }
+abbrev record_3 : MoveRecord
+record_3 = record { place = 1; first = 2; left = 2; closed = 1; right = 0; count = 1; parted = 0; from = 3; to = 4 }
 
 -- the second one, but for the sign that stays
-but_for_one : with_parted turn_2 0 ≡ record { place = 1; first = 1; left = 1; closed = 1; right = 0; count = 2; parted = 0; from = 1; to = 3 }
+but_for_one : with_parted record_2 0 ≡ record { place = 1; first = 1; left = 1; closed = 1; right = 0; count = 2; parted = 0; from = 1; to = 3 }
 but_for_one = refl
 
-turns : turns_from start 0 staircase ≡ turn_1 ∷ turn_2 ∷ turn_3 ∷ []
-turns = refl
+records : records_from start 0 staircase ≡ record_1 ∷ record_2 ∷ record_3 ∷ []
+records = refl
 
 signs : signs_of staircase ≡ Under ∷ Even ∷ Under ∷ Even ∷ []
 signs = refl
 
-stored : moves_stored (turn_1 ∷ turn_2 ∷ turn_3 ∷ []) (Under ∷ Even ∷ Under ∷ Even ∷ []) ≡ staircase
+stored : moves_stored (record_1 ∷ record_2 ∷ record_3 ∷ []) (Under ∷ Even ∷ Under ∷ Even ∷ []) ≡ staircase
 stored = refl
 
 -- the third move touches both segments: they had two squares and one, with the sign under between them, and its own sign
 -- makes one segment of three of them
-touched : first_touched turn_3 ≡ 0
+touched : first_touched record_3 ≡ 0
 touched = refl
 
-sides : open_sides_of_record turn_3 ≡ 1
+sides : open_sides_of_record record_3 ≡ 1
 sides = refl
 
-sizes : sizes_before turn_3 ≡ 2 ∷ 1 ∷ []
+sizes : sizes_before record_3 ≡ 2 ∷ 1 ∷ []
 sizes = refl
 
-between : signs_before turn_3 ≡ Under ∷ []
+between : signs_before record_3 ≡ Under ∷ []
 between = refl
 
-joined : sizes_after turn_3 (Even ∷ []) ≡ 3 ∷ []
+joined : sizes_after record_3 (Even ∷ []) ≡ 3 ∷ []
 joined = refl
 
 -- of a first segment of two squares and a last one of three, whose signs are even, under, even
@@ -82,7 +82,7 @@ joined_both : joined_sizes 2 3 (Even ∷ Under ∷ Even ∷ []) ≡ 3 ∷ 4 ∷ 
 joined_both = refl
 
 -- the valley of the third move has square 4 alone, with squares 1 and 3 before it; its sign is the fourth of all
-says_where : SaysWhere staircase 2 turn_3
+says_where : SaysWhere staircase 2 record_3
 says_where = record {
   count = λ m e. ap (λ (n : Move). n.count) (third m e);
   first = refl;

@@ -10,32 +10,33 @@ use Rattle.bk_word.specs.Play.{outline_of}
 use Rattle.bk_word.specs.Word.{Move, Word, order_of}
 use Rattle.bk_word.specs.declared.Sign.{Sign}
 use Rattle.bk_play.proofs.Playing.{moves_shown, stored_shown}
-use Rattle.bk_play.proofs.StoredMoves.{Ends, last_move, signs-snoc, turns-snoc, turns_many}
-use Rattle.bk_play.specs.Skeleton.{IsStoredSkeleton, SkeletonLists, moves_stored, signs_of, turns_from}
+use Rattle.bk_play.proofs.StoredMoves.{Ends, last_move, signs-snoc, records-snoc, records_many}
+use Rattle.bk_play.specs.Skeleton.{IsStoredSkeleton, SkeletonLists, moves_stored, signs_of, records_from}
 use Rattle.bk_play.specs.SmallSkeleton.{IsOutlineOf, IsStoredSmall}
 use Rattle.bk_play.specs.declared.small.SmallOutline.{SmallOutline}
-use Rattle.bk_play.specs.declared.turns.MoveRecord.{MoveRecord}
+use Rattle.bk_play.specs.declared.records.MoveRecord.{MoveRecord}
 
 -- the lists with the last move taken back: the open segments as they were, and of the closed squares, the records and the
 -- signs as much as there was
 abbrev pub lists_cut : SmallOutline → List ℕ → List MoveRecord → List Sign → SkeletonLists
-lists_cut before closed turns played = record {
+lists_cut before closed records played = record {
   ends = before.open.ends.items;
   sizes = before.open.sizes.items;
   signs = before.open.signs.items;
   closed = take before.closed closed;
-  turns = take before.turns turns;
+  records = take before.records records;
   played = take before.played played;
 }
 
 -- the lists are so where each other one is cut off at the number that was kept
-pub cut_back : (before : SmallOutline) (closed : List ℕ) (turns : List MoveRecord) (played : List Sign) {new_closed : List ℕ}
-    {new_turns : List MoveRecord} {new_played : List Sign} {a b d : ℕ} → new_closed ≡ take a closed → a ≡ before.closed → new_turns ≡ take b turns
-    → b ≡ before.turns → new_played ≡ take d played → d ≡ before.played
-    → record (lists_cut before closed turns played) { closed = new_closed; turns = new_turns; played = new_played } ≡ lists_cut before closed turns played
-cut_back before closed turns played e a f b g d = λ i. record (lists_cut before closed turns played) {
+pub cut_back : (before : SmallOutline) (closed : List ℕ) (records : List MoveRecord) (played : List Sign) {new_closed : List ℕ}
+    {new_records : List MoveRecord} {new_played : List Sign} {a b d : ℕ} → new_closed ≡ take a closed → a ≡ before.closed → new_records ≡ take b records
+    → b ≡ before.records → new_played ≡ take d played → d ≡ before.played
+    → record (lists_cut before closed records played) { closed = new_closed; records = new_records; played = new_played }
+    ≡ lists_cut before closed records played
+cut_back before closed records played e a f b g d = λ i. record (lists_cut before closed records played) {
   closed = (e ∙ ap (λ n. take n closed) a) i;
-  turns = (f ∙ ap (λ n. take n turns) b) i;
+  records = (f ∙ ap (λ n. take n records) b) i;
   played = (g ∙ ap (λ n. take n played) d) i;
 }
 
@@ -54,12 +55,12 @@ closed_first front last n e =
 -- the lists then store the moves before the last one
 pub small_back : {w : Word} {lists : SkeletonLists} {before : SmallOutline} {new : SkeletonLists} {place first : ℕ}
     → IsStoredSmall w lists place first → 0 < length w → IsOutlineOf (take (length w - 1) w) before
-    → new ≡ lists_cut before lists.closed lists.turns lists.played
+    → new ≡ lists_cut before lists.closed lists.records lists.played
     → IsStoredSkeleton (take (length w - 1) w) new
 small_back {w} {lists} {before} s some b n = subst (IsStoredSkeleton (take (length w - 1) w)) (sym n) (back (last_move w some))
   where
-    back : Ends w → IsStoredSkeleton (take (length w - 1) w) (lists_cut before lists.closed lists.turns lists.played)
-    back r = subst (λ (v : Word). IsStoredSkeleton v (lists_cut before lists.closed lists.turns lists.played)) (sym front_is) (record {
+    back : Ends w → IsStoredSkeleton (take (length w - 1) w) (lists_cut before lists.closed lists.records lists.played)
+    back r = subst (λ (v : Word). IsStoredSkeleton v (lists_cut before lists.closed lists.records lists.played)) (sym front_is) (record {
       kept = o.kept;
       shows = record {
         ends_are = o.ends_are;
@@ -68,8 +69,8 @@ small_back {w} {lists} {before} s some b n = subst (IsStoredSkeleton (take (leng
         closed_are = ap (take before.closed) ((s.stored).shows.closed_are ∙ ap (λ (v : Word). concat (outline_of v).closed) r.whole)
             ∙ closed_first r.front r.last before.closed o.closed_is;
       };
-      turns_are = ap (take before.turns) ((s.stored).turns_are ∙ ap (turns_from start 0) r.whole ∙ turns-snoc start 0 r.front r.last)
-          ∙ take_at (turns_from start 0 r.front) _ before.turns (turns_many start 0 r.front ∙ sym o.turns_is);
+      records_are = ap (take before.records) ((s.stored).records_are ∙ ap (records_from start 0) r.whole ∙ records-snoc start 0 r.front r.last)
+          ∙ take_at (records_from start 0 r.front) _ before.records (records_many start 0 r.front ∙ sym o.records_is);
       played_are = ap (take before.played) ((s.stored).played_are ∙ ap signs_of r.whole ∙ signs-snoc r.front r.last)
           ∙ take_at (signs_of r.front) (r.last).signs before.played (sym o.played_is);
     })
@@ -96,8 +97,8 @@ fewer_before w some = fewer (last_move w some)
 -- the lists after the last move is taken back store few squares, of the moves that they show
 pub small_kept_back : {w : Word} {lists : SkeletonLists} {before : SmallOutline} {new : SkeletonLists} {place first : ℕ}
     → IsStoredSmall w lists place first → 0 < length w → IsOutlineOf (take (length w - 1) w) before
-    → new ≡ lists_cut before lists.closed lists.turns lists.played
-    → IsStoredSmall (moves_stored new.turns new.played) new before.open.place before.open.first
+    → new ≡ lists_cut before lists.closed lists.records lists.played
+    → IsStoredSmall (moves_stored new.records new.played) new before.open.place before.open.first
 small_kept_back {w} {before = before} s some b n = record {
   valley = record {
     place_is = b.valley.place_is ∙ ap (λ (l : SkeletonLists). valley_place l.signs) (sym n);

@@ -7,8 +7,8 @@ use Rattle.bk_word.specs.Outline.{Outline, sizes_of, start}
 use Rattle.bk_word.specs.Play.{AreLegalFrom, after_move, after_moves}
 use Rattle.bk_word.specs.Word.{Move, Word, order_of}
 use Rattle.bk_word.specs.declared.Sign.{Sign}
-use Rattle.bk_play.specs.Skeleton.{moves_stored, signs_of, turn_at, turns_from}
-use Rattle.bk_play.specs.declared.turns.MoveRecord.{MoveRecord}
+use Rattle.bk_play.specs.Skeleton.{moves_stored, signs_of, record_of, records_from}
+use Rattle.bk_play.specs.declared.records.MoveRecord.{MoveRecord}
 use Rattle.bk_word.proofs.PlayLaws.{few_signs}
 
 -- the signs of a word are those of its first move and then the others
@@ -20,23 +20,23 @@ pub signs-snoc : (w : Word) (m : Move) → signs_of (w ++ m ∷ []) ≡ signs_of
 signs-snoc w m = flat_map-append (λ (m : Move). m.signs) w (m ∷ []) ∙ ap (λ (l : List Sign). signs_of w ++ l) (append-nil m.signs)
 
 -- the records of a word with a further move end with that of the move
-pub turns-snoc : (o : Outline) (from : ℕ) (w : Word) (m : Move)
-    → turns_from o from (w ++ m ∷ []) ≡ turns_from o from w
-    ++ turn_at (sizes_of (after_moves o w)) (after_moves o w).signs m (from + length (signs_of w)) ∷ []
-turns-snoc o from [] m = ap (λ n. turn_at (sizes_of o) o.signs m n ∷ []) (omega arith)
-turns-snoc o from (n ∷ w) m = ap (λ (l : List MoveRecord). turn_at (sizes_of o) o.signs n from ∷ l)
-    (turns-snoc (after_move o n) (from + length n.signs) w m
-    ∙ ap (λ k. turns_from (after_move o n) (from + length n.signs) w
-    ++ turn_at (sizes_of (after_moves (after_move o n) w)) (after_moves (after_move o n) w).signs m k ∷ []) same)
+pub records-snoc : (o : Outline) (from : ℕ) (w : Word) (m : Move)
+    → records_from o from (w ++ m ∷ []) ≡ records_from o from w
+    ++ record_of (sizes_of (after_moves o w)) (after_moves o w).signs m (from + length (signs_of w)) ∷ []
+records-snoc o from [] m = ap (λ n. record_of (sizes_of o) o.signs m n ∷ []) (omega arith)
+records-snoc o from (n ∷ w) m = ap (λ (l : List MoveRecord). record_of (sizes_of o) o.signs n from ∷ l)
+    (records-snoc (after_move o n) (from + length n.signs) w m
+    ∙ ap (λ k. records_from (after_move o n) (from + length n.signs) w
+    ++ record_of (sizes_of (after_moves (after_move o n) w)) (after_moves (after_move o n) w).signs m k ∷ []) same)
   where
     same : from + length n.signs + length (signs_of w) ≡ from + length (signs_of (n ∷ w))
     same = omega (arith, ap length (signs-cons n w), length-append n.signs (signs_of w))
 
 -- what is stored of a word is the word
-stored_from : (o : Outline) (from : ℕ) (w : Word) (front : List Sign) → length front ≡ from → moves_stored (turns_from o from w) (front ++ signs_of w) ≡ w
+stored_from : (o : Outline) (from : ℕ) (w : Word) (front : List Sign) → length front ≡ from → moves_stored (records_from o from w) (front ++ signs_of w) ≡ w
 stored_from o from [] front e = refl
 stored_from o from (n ∷ w) front e = (λ i. record { count = n.count; signs = own i }
-    ∷ moves_stored (turns_from (after_move o n) (from + length n.signs) w) (whole i))
+    ∷ moves_stored (records_from (after_move o n) (from + length n.signs) w) (whole i))
     ∙ ap (λ (l : Word). n ∷ l) (stored_from (after_move o n) (from + length n.signs) w (front ++ n.signs) (omega (arith, e, length-append front n.signs)))
   where
     whole : front ++ signs_of (n ∷ w) ≡ (front ++ n.signs) ++ signs_of w
@@ -47,13 +47,13 @@ stored_from o from (n ∷ w) front e = (λ i. record { count = n.count; signs = 
         ∙ take_at n.signs (signs_of w) (from + length n.signs - from) (omega arith)
 
 -- the records and signs of a word spell that word
-pub stored_word : (w : Word) → moves_stored (turns_from start 0 w) (signs_of w) ≡ w
+pub stored_word : (w : Word) → moves_stored (records_from start 0 w) (signs_of w) ≡ w
 stored_word w = stored_from start 0 w [] refl
 
 -- there is a record for each move
-pub turns_many : (o : Outline) (from : ℕ) (w : Word) → length (turns_from o from w) ≡ length w
-turns_many o from [] = refl
-turns_many o from (n ∷ w) = ap suc (turns_many (after_move o n) (from + length n.signs) w)
+pub records_many : (o : Outline) (from : ℕ) (w : Word) → length (records_from o from w) ≡ length w
+records_many o from [] = refl
+records_many o from (n ∷ w) = ap suc (records_many (after_move o n) (from + length n.signs) w)
 
 -- a legal word has at most two signs a square
 pub signs_many : (o : Outline) (w : Word) → AreLegalFrom o w → length (signs_of w) ≤ 2 * order_of w

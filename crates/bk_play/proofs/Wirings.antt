@@ -9,11 +9,11 @@ use Rattle.bk_laws.proofs.Sums.{sum-take_suc}
 use Rattle.bk_play.proofs.EndNodes.{marked_node}
 use Rattle.bk_play.specs.Wiring.{AreWires, closed_of, hung_and_closed, move_wires_from}
 use Rattle.bk_word_net.specs.WordNet.{end_of}
-use Rattle.bk_play.specs.declared.turns.MoveRecord.{MoveRecord}
+use Rattle.bk_play.specs.declared.records.MoveRecord.{MoveRecord}
 
 -- the record that stands for none
-abbrev pub no_turn : MoveRecord
-no_turn = record { place = 0; first = 0; left = 0; closed = 0; right = 0; count = 0; parted = 0; from = 0; to = 0 }
+abbrev pub no_record : MoveRecord
+no_record = record { place = 0; first = 0; left = 0; closed = 0; right = 0; count = 0; parted = 0; from = 0; to = 0 }
 
 -- wires from one node lead to other nodes that are there
 pub wire_at : (nodes node : ℕ) (ends : List ℕ) (i : ℕ) → i < length ends → AreWires nodes (map (λ e. (node, e)) ends)
@@ -31,86 +31,88 @@ wires_back nodes [] back all = all
 wires_back nodes (w ∷ front) back all = wires_back nodes front back all.1
 
 -- the records from a place on: the one there, and those behind it
-pub drop_turn : (turns : List MoveRecord) (node : ℕ) (d : MoveRecord) → node < length turns → drop node turns ≡ get_or turns node d ∷ drop (suc node) turns
-drop_turn [] node d h = absurd (omega arith)
-drop_turn (t ∷ turns) zero d h = refl
-drop_turn (t ∷ turns) (suc node) d h = drop_turn turns node d (omega arith)
+pub drop_record : (records : List MoveRecord) (node : ℕ) (d : MoveRecord) → node < length records
+    → drop node records ≡ get_or records node d ∷ drop (suc node) records
+drop_record [] node d h = absurd (omega arith)
+drop_record (t ∷ records) zero d h = refl
+drop_record (t ∷ records) (suc node) d h = drop_record records node d (omega arith)
 
 -- the wires from one node, and those behind
-pub next_wires : (turns : List MoveRecord) (rest : List ℕ) (node : ℕ) (d : MoveRecord) → node < length turns
-    → move_wires_from node (hung_and_closed (drop node turns)) rest ≡ map (λ e. (node, e)) (take (get_or turns node d).count rest)
-    ++ move_wires_from (node + 1) (hung_and_closed (drop (node + 1) turns)) (drop (get_or turns node d).count rest)
-next_wires turns rest node d h = let more : suc node ≡ node + 1 = omega arith in
-    ap (λ (l : List MoveRecord). move_wires_from node (hung_and_closed l) rest) (drop_turn turns node d h)
-    ∙ (λ i. map (λ e. (node, e)) (take (get_or turns node d).count rest)
-    ++ move_wires_from (node + 1) (hung_and_closed (drop (more i) turns)) (drop (get_or turns node d).count rest))
+pub next_wires : (records : List MoveRecord) (rest : List ℕ) (node : ℕ) (d : MoveRecord) → node < length records
+    → move_wires_from node (hung_and_closed (drop node records)) rest ≡ map (λ e. (node, e)) (take (get_or records node d).count rest)
+    ++ move_wires_from (node + 1) (hung_and_closed (drop (node + 1) records)) (drop (get_or records node d).count rest)
+next_wires records rest node d h = let more : suc node ≡ node + 1 = omega arith in
+    ap (λ (l : List MoveRecord). move_wires_from node (hung_and_closed l) rest) (drop_record records node d h)
+    ∙ (λ i. map (λ e. (node, e)) (take (get_or records node d).count rest)
+    ++ move_wires_from (node + 1) (hung_and_closed (drop (more i) records)) (drop (get_or records node d).count rest))
 
 -- so many squares hang from a node, and the others from the nodes behind it
-pub next_count : (turns : List MoveRecord) (node : ℕ) (d : MoveRecord) → node < length turns
-    → sum (hung_and_closed (drop node turns)) ≡ (get_or turns node d).count + sum (hung_and_closed (drop (node + 1) turns))
-next_count turns node d h = let more : suc node ≡ node + 1 = omega arith in
-    ap (λ (l : List MoveRecord). sum (hung_and_closed l)) (drop_turn turns node d h)
-    ∙ sum_by-cons (λ (n : ℕ). n) (get_or turns node d).count (hung_and_closed (drop (suc node) turns))
-    ∙ ap (λ n. (get_or turns node d).count + sum (hung_and_closed (drop n turns))) more
+pub next_count : (records : List MoveRecord) (node : ℕ) (d : MoveRecord) → node < length records
+    → sum (hung_and_closed (drop node records)) ≡ (get_or records node d).count + sum (hung_and_closed (drop (node + 1) records))
+next_count records node d h = let more : suc node ≡ node + 1 = omega arith in
+    ap (λ (l : List MoveRecord). sum (hung_and_closed l)) (drop_record records node d h)
+    ∙ sum_by-cons (λ (n : ℕ). n) (get_or records node d).count (hung_and_closed (drop (suc node) records))
+    ∙ ap (λ n. (get_or records node d).count + sum (hung_and_closed (drop n records))) more
 
 -- what the wires from one node are known to be
-pub wires_here : (nodes most : ℕ) (all had : List (ℕ × ℕ)) (turns : List MoveRecord) (rest own : List ℕ) (node count : ℕ) (d : MoveRecord)
-    → node < length turns → AreWires most all → nodes ≡ most
-    → all ≡ had ++ move_wires_from node (hung_and_closed (drop node turns)) rest → count ≡ (get_or turns node d).count → own ≡ take count rest
+pub wires_here : (nodes most : ℕ) (all had : List (ℕ × ℕ)) (records : List MoveRecord) (rest own : List ℕ) (node count : ℕ) (d : MoveRecord)
+    → node < length records → AreWires most all → nodes ≡ most
+    → all ≡ had ++ move_wires_from node (hung_and_closed (drop node records)) rest → count ≡ (get_or records node d).count → own ≡ take count rest
     → AreWires nodes (map (λ e. (node, e)) own)
-wires_here nodes most all had turns rest own node count d h good same whole e f =
+wires_here nodes most all had records rest own node count d h good same whole e f =
     subst (λ (n : ℕ). AreWires n (map (λ e. (node, e)) own)) (sym same)
     (subst (λ (l : List ℕ). AreWires most (map (λ e. (node, e)) l)) (sym (f ∙ ap (λ n. take n rest) e))
-    (wires_front most (map (λ e. (node, e)) (take (get_or turns node d).count rest))
-    (move_wires_from (node + 1) (hung_and_closed (drop (node + 1) turns)) (drop (get_or turns node d).count rest))
-    (subst (AreWires most) (next_wires turns rest node d h)
-    (wires_back most had (move_wires_from node (hung_and_closed (drop node turns)) rest) (subst (AreWires most) whole good)))))
+    (wires_front most (map (λ e. (node, e)) (take (get_or records node d).count rest))
+    (move_wires_from (node + 1) (hung_and_closed (drop (node + 1) records)) (drop (get_or records node d).count rest))
+    (subst (AreWires most) (next_wires records rest node d h)
+    (wires_back most had (move_wires_from node (hung_and_closed (drop node records)) rest) (subst (AreWires most) whole good)))))
 
 -- the wires so far with those from one node, and the wires from the nodes behind it, are all
-pub wires_more : (all had new : List (ℕ × ℕ)) (turns : List MoveRecord) (rest own behind : List ℕ) (node count : ℕ) (d : MoveRecord) → node < length turns
-    → all ≡ had ++ move_wires_from node (hung_and_closed (drop node turns)) rest → count ≡ (get_or turns node d).count → own ≡ take count rest
+pub wires_more : (all had new : List (ℕ × ℕ)) (records : List MoveRecord) (rest own behind : List ℕ) (node count : ℕ) (d : MoveRecord) → node < length records
+    → all ≡ had ++ move_wires_from node (hung_and_closed (drop node records)) rest → count ≡ (get_or records node d).count → own ≡ take count rest
     → behind ≡ drop count rest → new ≡ had ++ map (λ e. (node, e)) own
-    → all ≡ new ++ move_wires_from (node + 1) (hung_and_closed (drop (node + 1) turns)) behind
-wires_more all had new turns rest own behind node count d h whole e f g put =
-    whole ∙ ap (λ (l : List (ℕ × ℕ)). had ++ l) (next_wires turns rest node d h)
-    ∙ sym (append_assoc had (map (λ e. (node, e)) (take (get_or turns node d).count rest))
-    (move_wires_from (node + 1) (hung_and_closed (drop (node + 1) turns)) (drop (get_or turns node d).count rest)))
-    ∙ (λ i. (had ++ map (λ e. (node, e)) (owns i)) ++ move_wires_from (node + 1) (hung_and_closed (drop (node + 1) turns)) (behinds i))
-    ∙ ap (λ (l : List (ℕ × ℕ)). l ++ move_wires_from (node + 1) (hung_and_closed (drop (node + 1) turns)) behind) (sym put)
+    → all ≡ new ++ move_wires_from (node + 1) (hung_and_closed (drop (node + 1) records)) behind
+wires_more all had new records rest own behind node count d h whole e f g put =
+    whole ∙ ap (λ (l : List (ℕ × ℕ)). had ++ l) (next_wires records rest node d h)
+    ∙ sym (append_assoc had (map (λ e. (node, e)) (take (get_or records node d).count rest))
+    (move_wires_from (node + 1) (hung_and_closed (drop (node + 1) records)) (drop (get_or records node d).count rest)))
+    ∙ (λ i. (had ++ map (λ e. (node, e)) (owns i)) ++ move_wires_from (node + 1) (hung_and_closed (drop (node + 1) records)) (behinds i))
+    ∙ ap (λ (l : List (ℕ × ℕ)). l ++ move_wires_from (node + 1) (hung_and_closed (drop (node + 1) records)) behind) (sym put)
   where
-    owns : take (get_or turns node d).count rest ≡ own
+    owns : take (get_or records node d).count rest ≡ own
     owns = sym (f ∙ ap (λ n. take n rest) e)
 
-    behinds : drop (get_or turns node d).count rest ≡ behind
+    behinds : drop (get_or records node d).count rest ≡ behind
     behinds = sym (g ∙ ap (λ n. drop n rest) e)
 
 -- the number that a record has at its place
-pub closed_at : (turns : List MoveRecord) (node : ℕ) (d : MoveRecord) → node < length turns → slice_index (closed_of turns) node ≡ (get_or turns node d).closed
+pub closed_at : (records : List MoveRecord) (node : ℕ) (d : MoveRecord) → node < length records
+    → slice_index (closed_of records) node ≡ (get_or records node d).closed
 closed_at [] node d h = absurd (omega arith)
-closed_at (t ∷ turns) zero d h = refl
-closed_at (t ∷ turns) (suc node) d h = closed_at turns node d (omega arith)
+closed_at (t ∷ records) zero d h = refl
+closed_at (t ∷ records) (suc node) d h = closed_at records node d (omega arith)
 
 -- the nodes at which squares end, where none is closed yet
-pub none_marked : (turns : List MoveRecord) (lists : List (List ℕ)) (ended : List ℕ) (k : ℕ) → ended ≡ replicate 200 (length turns)
-    → closed_of turns ≡ map length lists → k < 200
-    → slice_index ended k ≡ length turns + end_of (drop (length turns) lists) (k + 1)
-none_marked turns lists ended k e long h = ap (λ (l : List ℕ). slice_index l k) e ∙ slice_index_or-replicate 200 (length turns) k 0 h
+pub none_marked : (records : List MoveRecord) (lists : List (List ℕ)) (ended : List ℕ) (k : ℕ) → ended ≡ replicate 200 (length records)
+    → closed_of records ≡ map length lists → k < 200
+    → slice_index ended k ≡ length records + end_of (drop (length records) lists) (k + 1)
+none_marked records lists ended k e long h = ap (λ (l : List ℕ). slice_index l k) e ∙ slice_index_or-replicate 200 (length records) k 0 h
     ∙ omega (arith, ap (λ (l : List (List ℕ)). end_of l (k + 1)) none)
   where
-    none : drop (length turns) lists ≡ []
-    none = drop_all (length turns) lists (omega (arith, ap length long, length-map turns (λ (t : MoveRecord). t.closed), length-map lists (length {A = ℕ})))
+    none : drop (length records) lists ≡ []
+    none = drop_all (length records) lists (omega (arith, ap length long, length-map records (λ (t : MoveRecord). t.closed), length-map lists (length {A = ℕ})))
 
 -- the squares that one node closes
-pub closed_next : (turns : List MoveRecord) (node count end : ℕ) (d : MoveRecord) → 0 < node → node ≤ length turns
-    → count ≡ (get_or turns (node - 1) d).closed → end ≡ sum (take node (closed_of turns)) → end ≡ sum (take (node - 1) (closed_of turns)) + count
-closed_next turns zero count end d some within e at = absurd (omega arith)
-closed_next turns (suc node) count end d some within e at =
+pub closed_next : (records : List MoveRecord) (node count end : ℕ) (d : MoveRecord) → 0 < node → node ≤ length records
+    → count ≡ (get_or records (node - 1) d).closed → end ≡ sum (take node (closed_of records)) → end ≡ sum (take (node - 1) (closed_of records)) + count
+closed_next records zero count end d some within e at = absurd (omega arith)
+closed_next records (suc node) count end d some within e at =
     omega (
       arith,
       at,
       e,
-      sum-take_suc (closed_of turns) node (omega (arith, length-map turns (λ (t : MoveRecord). t.closed))),
-      closed_at turns node d (omega arith),
+      sum-take_suc (closed_of records) node (omega (arith, length-map records (λ (t : MoveRecord). t.closed))),
+      closed_at records node d (omega arith),
       same,
       gets,
     )
@@ -118,24 +120,24 @@ closed_next turns (suc node) count end d some within e at =
     back : suc node - 1 ≡ node
     back = omega arith
 
-    same : sum (take (suc node - 1) (closed_of turns)) ≡ sum (take node (closed_of turns))
-    same = ap (λ n. sum (take n (closed_of turns))) back
+    same : sum (take (suc node - 1) (closed_of records)) ≡ sum (take node (closed_of records))
+    same = ap (λ n. sum (take n (closed_of records))) back
 
-    gets : (get_or turns (suc node - 1) d).closed ≡ (get_or turns node d).closed
-    gets = ap (λ n. (get_or turns n d).closed) back
+    gets : (get_or records (suc node - 1) d).closed ≡ (get_or records node d).closed
+    gets = ap (λ n. (get_or records n d).closed) back
 
 -- with the squares that one more node closes marked, each square up to there has the node where it ends
-pub mark_next : (turns : List MoveRecord) (lists : List (List ℕ)) (closed ended new : List ℕ) (node count end k : ℕ) (d : MoveRecord) → 0 < node
-    → node ≤ length turns → count ≡ (get_or turns (node - 1) d).closed → end ≡ sum (take node (closed_of turns))
-    → closed ≡ concat lists → closed_of turns ≡ map length lists
+pub mark_next : (records : List MoveRecord) (lists : List (List ℕ)) (closed ended new : List ℕ) (node count end k : ℕ) (d : MoveRecord) → 0 < node
+    → node ≤ length records → count ≡ (get_or records (node - 1) d).closed → end ≡ sum (take node (closed_of records))
+    → closed ≡ concat lists → closed_of records ≡ map length lists
     → slice_index new k ≡ cond (list_any (nat_eq (k + 1)) (take (end - (end - count)) (drop (end - count) closed))) (node - 1) (slice_index ended k)
     → slice_index ended k ≡ node + end_of (drop node lists) (k + 1) → slice_index new k ≡ node - 1 + end_of (drop (node - 1) lists) (k + 1)
-mark_next turns lists closed ended new zero count end k d some within e at flat long marked before = absurd (omega arith)
-mark_next turns lists closed ended new (suc node) count end k d some within e at flat long marked before =
+mark_next records lists closed ended new zero count end k d some within e at flat long marked before = absurd (omega arith)
+mark_next records lists closed ended new (suc node) count end k d some within e at flat long marked before =
     subst (λ (n : ℕ). slice_index new k ≡ n + end_of (drop n lists) (k + 1)) (sym back)
-    (marked_node lists closed (closed_of turns) node (end - count) end (k + 1) (slice_index ended k) (slice_index new k) flat long
-    (omega (arith, length-map turns (λ (t : MoveRecord). t.closed)))
-    (omega (arith, closed_next turns (suc node) count end d some within e at, ap (λ n. sum (take n (closed_of turns))) back)) at
+    (marked_node lists closed (closed_of records) node (end - count) end (k + 1) (slice_index ended k) (slice_index new k) flat long
+    (omega (arith, length-map records (λ (t : MoveRecord). t.closed)))
+    (omega (arith, closed_next records (suc node) count end d some within e at, ap (λ n. sum (take n (closed_of records))) back)) at
     (marked ∙ ap (λ n. cond (list_any (nat_eq (k + 1)) (take (end - (end - count)) (drop (end - count) closed))) n (slice_index ended k)) back) before)
   where
     back : suc node - 1 ≡ node

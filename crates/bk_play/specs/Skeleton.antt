@@ -10,13 +10,13 @@ use Rattle.bk_word.specs.Word.{Move, Word}
 use Rattle.bk_word.specs.declared.Sign.{Sign}
 use Rattle.bk_word.specs.declared.Sign.TheVariants.{Above, Under}
 use Rattle.bk_play.specs.Valley.{IsKeptSkeleton}
-use Rattle.bk_play.specs.declared.turns.MoveRecord.{MoveRecord}
+use Rattle.bk_play.specs.declared.records.MoveRecord.{MoveRecord}
 
 -- the record of a move, whose signs begin at this place of all moves' signs, by the sizes of the open segments and the
 -- signs between them: the valley's place, how many open squares stand at its left, how many squares the valley and the
 -- segments beside it have (none beside a wall), and how many signs of the move stay between segments
-abbrev pub turn_at : List ℕ → List Sign → Move → ℕ → MoveRecord
-turn_at sizes signs m from = record {
+abbrev pub record_of : List ℕ → List Sign → Move → ℕ → MoveRecord
+record_of sizes signs m from = record {
   place = valley_place signs;
   first = sum (take (valley_place signs) sizes);
   left = cond (nat_eq (valley_place signs) 0) 0 (slice_index sizes (valley_place signs - 1));
@@ -30,40 +30,61 @@ turn_at sizes signs m from = record {
 
 -- the record with so many signs that stay between segments
 abbrev pub with_parted : MoveRecord → ℕ → MoveRecord
-with_parted turn parted = record {
-  place = turn.place;
-  first = turn.first;
-  left = turn.left;
-  closed = turn.closed;
-  right = turn.right;
-  count = turn.count;
+with_parted noted parted = record {
+  place = noted.place;
+  first = noted.first;
+  left = noted.left;
+  closed = noted.closed;
+  right = noted.right;
+  count = noted.count;
   parted = parted;
-  from = turn.from;
-  to = turn.to;
+  from = noted.from;
+  to = noted.to;
 }
 
 -- the place of the first segment that a move touches: the one left of the valley, or the valley at the wall
 abbrev pub first_touched : MoveRecord → ℕ
-first_touched turn = turn.place - min turn.left 1
+first_touched noted = noted.place - min noted.left 1
 
 -- how many of the valley's sides are no walls
 abbrev pub open_sides_of_record : MoveRecord → ℕ
-open_sides_of_record turn = min turn.left 1 + min turn.right 1
+open_sides_of_record noted = min noted.left 1 + min noted.right 1
 
 -- the sizes of the segments that a move touched, as they were before it, and the signs between them
 abbrev pub sizes_before : MoveRecord → List ℕ
-sizes_before turn = slice_range (turn.left ∷ turn.closed ∷ turn.right ∷ []) (1 - min turn.left 1) (2 + min turn.right 1)
+sizes_before noted = slice_range (noted.left ∷ noted.closed ∷ noted.right ∷ [])
+    (1 - min noted.left 1) (2 + min noted.right 1)
 
 abbrev pub signs_before : MoveRecord → List Sign
-signs_before turn = slice_range (Under ∷ Above ∷ []) (1 - min turn.left 1) (1 + min turn.right 1)
+signs_before noted = slice_range (Under ∷ Above ∷ []) (1 - min noted.left 1) (1 + min noted.right 1)
 
--- from a segment on, one more than so many sizes, and the signs between them, give way to one more than so many others:
--- those are there, and these have room
-pub record GiveWay (most start old new : ℕ) (sizes : List ℕ) (signs : List Sign) : Type 0 where
-  pub sizes_within : start + (old + 1) ≤ length sizes
-  pub signs_within : start + old ≤ length signs
-  pub sizes_fit : length sizes - (old + 1) + (new + 1) ≤ most
-  pub signs_fit : length signs - old + new ≤ most
+-- what a move exchanges: from the segment at a place on, so many signs for so many new ones
+pub record Exchange : Type 0 where
+  pub start : ℕ
+  pub old : ℕ
+  pub new : ℕ
+
+-- what the move of a record exchanges, and what its taking back does
+abbrev pub exchange_of : MoveRecord → Exchange
+exchange_of noted = record {
+  start = first_touched noted;
+  old = open_sides_of_record noted;
+  new = noted.parted;
+}
+
+abbrev pub exchange_back_of : MoveRecord → Exchange
+exchange_back_of noted = record {
+  start = first_touched noted;
+  old = noted.parted;
+  new = open_sides_of_record noted;
+}
+
+-- these signs, and the sizes beside them, one more than they, give way to new ones: those are there, and these have room
+pub record GiveWay (most : ℕ) (x : Exchange) (sizes : List ℕ) (signs : List Sign) : Type 0 where
+  pub sizes_within : x.start + (x.old + 1) ≤ length sizes
+  pub signs_within : x.start + x.old ≤ length signs
+  pub sizes_fit : length sizes - (x.old + 1) + (x.new + 1) ≤ most
+  pub signs_fit : length signs - x.old + x.new ≤ most
 
 -- the size of the next segment while segments are joined: one new square, or the last segment
 abbrev pub next_size : ℕ → List Sign → ℕ
@@ -78,12 +99,12 @@ joined_sizes size last (g ∷ signs) = cond (parts g) (size ∷ joined_sizes (ne
 
 -- the sizes of the segments that stand in the place of those that a move touches
 abbrev pub sizes_after : MoveRecord → List Sign → List ℕ
-sizes_after turn signs = joined_sizes (max turn.left 1) (max turn.right 1) signs
+sizes_after noted signs = joined_sizes (max noted.left 1) (max noted.right 1) signs
 
 -- the records of moves that are played one after another
-abbrev pub turns_from : Outline → ℕ → Word → List MoveRecord
-turns_from o from [] = []
-turns_from o from (m ∷ moves) = turn_at (sizes_of o) o.signs m from ∷ turns_from (after_move o m)
+abbrev pub records_from : Outline → ℕ → Word → List MoveRecord
+records_from o from [] = []
+records_from o from (m ∷ moves) = record_of (sizes_of o) o.signs m from ∷ records_from (after_move o m)
     (from + length m.signs) moves
 
 -- the signs of all moves, one after another
@@ -92,11 +113,11 @@ signs_of moves = flat_map (λ m. m.signs) moves
 
 -- the move of a record, out of the signs of all moves
 abbrev pub move_of : List Sign → MoveRecord → Move
-move_of played turn = record { count = turn.count; signs = slice_range played turn.from turn.to }
+move_of played noted = record { count = noted.count; signs = slice_range played noted.from noted.to }
 
 -- the moves that are stored
 abbrev pub moves_stored : List MoveRecord → List Sign → Word
-moves_stored turns played = map (move_of played) turns
+moves_stored records played = map (move_of played) records
 
 -- the flat lists show an outline: the numbers of the open squares from left to right, how many each segment has, the
 -- signs between the segments, and the numbers of the closed squares, node by node
@@ -114,12 +135,12 @@ pub record SkeletonLists : Type 0 where
   pub sizes : List ℕ
   pub signs : List Sign
   pub closed : List ℕ
-  pub turns : List MoveRecord
+  pub records : List MoveRecord
   pub played : List Sign
 
 -- all that is stored of moves
 pub record IsStoredSkeleton (moves : Word) (lists : SkeletonLists) : Type 0 where
   pub kept : IsKeptSkeleton moves
   pub shows : Shows (outline_of moves) lists.ends lists.sizes lists.signs lists.closed
-  pub turns_are : lists.turns ≡ turns_from start 0 moves
+  pub records_are : lists.records ≡ records_from start 0 moves
   pub played_are : lists.played ≡ signs_of moves

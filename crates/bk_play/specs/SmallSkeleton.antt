@@ -12,6 +12,7 @@ use Rattle.bk_play.specs.Skeleton.{IsStoredSkeleton, SkeletonLists, signs_of}
 use Rattle.bk_play.specs.Valley.{IsKeptSkeleton}
 use Rattle.bk_play.specs.declared.small.SmallOutline.{SmallOutline}
 use Rattle.bk_play.specs.declared.small.ValleyPlace.{ValleyPlace}
+use Rattle.bk_word.specs.declared.TheConstants.{INLINE_ORDER}
 
 -- where the leftmost valley stands among open segments of these sizes, with these signs between them: how many segments
 -- stand at its left, and how many squares these have
@@ -28,7 +29,7 @@ pub record IsValleyPlace (w : Word) (v : ValleyPlace) : Type 0 where
 pub record IsStoredSmall (moves : Word) (lists : SkeletonLists) (place first : ℕ) : Type 0 where
   pub stored : IsStoredSkeleton moves lists
   pub valley : StandsAt lists.sizes lists.signs place first
-  pub few : order_of moves ≤ 16
+  pub few : order_of moves ≤ INLINE_ORDER
 
 -- what is kept of moves to take the next one back: their open segments, where the leftmost valley stands, and how many
 -- squares are closed, how many moves there are, and how many signs these have
@@ -39,5 +40,5 @@ pub record IsOutlineOf (moves : Word) (o : SmallOutline) : Type 0 where
   pub signs_are : o.open.signs.items ≡ (outline_of moves).signs
   pub valley : StandsAt o.open.sizes.items o.open.signs.items o.open.place o.open.first
   pub closed_is : o.closed ≡ length (concat (outline_of moves).closed)
-  pub turns_is : o.turns ≡ length moves
+  pub records_is : o.records ≡ length moves
   pub played_is : o.played ≡ length (signs_of moves)

@@ -11,7 +11,7 @@ lists_of s = record {
   sizes = s.sizes.items;
   signs = s.signs.items;
   closed = s.closed.items;
-  turns = s.turns.items;
+  records = s.records.items;
   played = s.played.items;
 }
 
@@ -22,10 +22,10 @@ small_lists_of s = record {
   sizes = s.open.sizes.items;
   signs = s.open.signs.items;
   closed = s.closed.items;
-  turns = s.turns.items;
+  records = s.records.items;
   played = s.played.items;
 }
 
 -- the moves that lists keep
 abbrev pub moves_in : SkeletonLists → Word
-moves_in lists = moves_stored lists.turns lists.played
+moves_in lists = moves_stored lists.records lists.played

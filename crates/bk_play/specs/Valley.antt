@@ -5,6 +5,7 @@ use Rattle.std.specs.Prelude.{Bool, List, ℕ, ◌≤◌}
 use Rattle.bk_word.specs.Outline.{Outline, has_left_wall, has_right_wall, valley_of, valley_place}
 use Rattle.bk_word.specs.Play.{IsLegal}
 use Rattle.bk_word.specs.Word.{Word, order_of}
+use Rattle.bk_word.specs.declared.TheConstants.{LARGEST_ORDER}
 
 -- how many open segments stand at a valley's left, whether it has a wall at its left and at its right, and the
 -- numbers of its squares from left to right
@@ -26,4 +27,4 @@ leftmost_valley o = record {
 -- what holds of the moves of each skeleton
 pub record IsKeptSkeleton (moves : Word) : Type 0 where
   pub legal : IsLegal moves
-  pub few : order_of moves ≤ 200
+  pub few : order_of moves ≤ LARGEST_ORDER

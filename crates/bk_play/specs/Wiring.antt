@@ -1,7 +1,7 @@
 -- The wires of a word's net, from how many squares each node hangs and where each square ends.
 use Rattle.std.specs.List.{AllByRecursion}
 use Rattle.std.specs.Prelude.{List, [], drop, length, map, slice_index, take, ℕ, ◌+◌, ◌++◌, ◌<◌, ◌∷◌, ◌≡◌, ◌≤◌}
-use Rattle.bk_play.specs.declared.turns.MoveRecord.{MoveRecord}
+use Rattle.bk_play.specs.declared.records.MoveRecord.{MoveRecord}
 
 -- the wires of squares that hang from the nodes in order, from this node on, so many from each; they end at these nodes
 abbrev pub move_wires_from : ℕ → List ℕ → List ℕ → List (ℕ × ℕ)
@@ -11,10 +11,10 @@ move_wires_from node (count ∷ counts) ends = map (λ e. (node, e)) (take count
 
 -- how many squares each move hangs, and how many it closes
 abbrev pub hung_and_closed : List MoveRecord → List ℕ
-hung_and_closed turns = map (λ t. t.count) turns
+hung_and_closed records = map (λ t. t.count) records
 
 abbrev pub closed_of : List MoveRecord → List ℕ
-closed_of turns = map (λ t. t.closed) turns
+closed_of records = map (λ t. t.closed) records
 
 -- each number is that of one of so many squares
 pub record AreNumbers (most : ℕ) (numbers : List ℕ) : Type 0 where

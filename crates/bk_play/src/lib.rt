@@ -4,13 +4,13 @@
 mod counting;
 mod netting;
 mod parting;
+mod records;
 mod skeleton;
 mod small;
 mod splicing;
-mod turns;
 
 pub use counting::Steps;
+pub use records::MoveRecord;
 pub use skeleton::{Skel, Valley, open_side};
 pub use small::{SmallMove, SmallOutline, SmallSkel, ValleyPlace, small_net};
 pub use splicing::splice_numbers;
-pub use turns::MoveRecord;

@@ -4,11 +4,12 @@
 ghost use Rattle.std.specs.List.{splice};
 ghost use Rattle.std.specs.Prelude.{cond, count_by, filter, length, ◌+◌, ◌-◌, ◌<◌, ◌≡◌, ◌≤◌};
 ghost use Rattle.bk_word.specs.Play.{parts};
-ghost use Rattle.bk_play.specs.Skeleton.{GiveWay, first_touched, joined_sizes, open_sides_of_record, signs_before};
+ghost use Rattle.bk_play.specs.Skeleton.{GiveWay, exchange_back_of, exchange_of, first_touched, joined_sizes, open_sides_of_record, signs_before};
 ghost use Rattle.bk_play.specs.Skeleton.{sizes_after, sizes_before};
+ghost use Rattle.bk_word.specs.declared.TheConstants.{LARGEST_ORDER};
 
+use crate::records::MoveRecord;
 use crate::splicing::{make_room, splice};
-use crate::turns::MoveRecord;
 use arrayvec::ArrayVec;
 use bk_word::{LARGEST_ORDER, Sign};
 
@@ -16,27 +17,26 @@ use bk_word::{LARGEST_ORDER, Sign};
 pub(crate) fn apply_signs(
     sizes: &mut ArrayVec<u8, LARGEST_ORDER>,
     signs: &mut ArrayVec<Sign, LARGEST_ORDER>,
-    turn: &MoveRecord,
+    noted: &MoveRecord,
     moved: &[Sign],
 )
-    requires parted { turn.now.parted ≡ count_by parts moved.now }
-    requires room { GiveWay 200 (first_touched turn.now) (open_sides_of_record turn.now) turn.now.parted
-        sizes.old.items signs.old.items }
-    requires small { turn.now.left + length moved.now + turn.now.right ≤ 253 }
-    ensures sizes { sizes.new.items ≡ splice sizes.old.items (first_touched turn.now)
-        (first_touched turn.now + (open_sides_of_record turn.now + 1)) (sizes_after turn.now moved.now) }
-    ensures signs { signs.new.items ≡ splice signs.old.items (first_touched turn.now)
-        (first_touched turn.now + open_sides_of_record turn.now) (filter parts moved.now) }
+    requires parted { noted.now.parted ≡ count_by parts moved.now }
+    requires room { GiveWay LARGEST_ORDER (exchange_of noted.now) sizes.old.items signs.old.items }
+    requires small { noted.now.left + length moved.now + noted.now.right ≤ 253 }
+    ensures sizes { sizes.new.items ≡ splice sizes.old.items (first_touched noted.now)
+        (first_touched noted.now + (open_sides_of_record noted.now + 1)) (sizes_after noted.now moved.now) }
+    ensures signs { signs.new.items ≡ splice signs.old.items (first_touched noted.now)
+        (first_touched noted.now + open_sides_of_record noted.now) (filter parts moved.now) }
 {
-    let start = turn.first_touched();
-    let open = turn.open_sides();
-    let parted = usize::from(turn.parted);
+    let start = noted.first_touched();
+    let open = noted.open_sides();
+    let parted = usize::from(noted.parted);
     make_room(sizes, start, start + open + 1, parted + 1);
     put_sizes(
         &mut sizes[start..start + parted + 1],
         moved,
-        turn.left.max(1),
-        turn.right.max(1),
+        noted.left.max(1),
+        noted.right.max(1),
     );
     make_room(signs, start, start + open, parted);
     put_signs(&mut signs[start..start + parted], moved);
@@ -46,20 +46,19 @@ pub(crate) fn apply_signs(
 pub(crate) fn undo_signs(
     sizes: &mut ArrayVec<u8, LARGEST_ORDER>,
     signs: &mut ArrayVec<Sign, LARGEST_ORDER>,
-    turn: &MoveRecord,
+    noted: &MoveRecord,
 )
-    requires { GiveWay 200 (first_touched turn.now) turn.now.parted (open_sides_of_record turn.now)
-        sizes.old.items signs.old.items }
-    ensures sizes { sizes.new.items ≡ splice sizes.old.items (first_touched turn.now)
-        (first_touched turn.now + (turn.now.parted + 1)) (sizes_before turn.now) }
-    ensures signs { signs.new.items ≡ splice signs.old.items (first_touched turn.now)
-        (first_touched turn.now + turn.now.parted) (signs_before turn.now) }
+    requires { GiveWay LARGEST_ORDER (exchange_back_of noted.now) sizes.old.items signs.old.items }
+    ensures sizes { sizes.new.items ≡ splice sizes.old.items (first_touched noted.now)
+        (first_touched noted.now + (noted.now.parted + 1)) (sizes_before noted.now) }
+    ensures signs { signs.new.items ≡ splice signs.old.items (first_touched noted.now)
+        (first_touched noted.now + noted.now.parted) (signs_before noted.now) }
 {
-    let start = turn.first_touched();
-    let parted = usize::from(turn.parted);
-    let left = usize::from(turn.left.min(1));
-    let right = usize::from(turn.right.min(1));
-    let sizes_before = [turn.left, turn.closed, turn.right];
+    let start = noted.first_touched();
+    let parted = usize::from(noted.parted);
+    let left = usize::from(noted.left.min(1));
+    let right = usize::from(noted.right.min(1));
+    let sizes_before = [noted.left, noted.closed, noted.right];
     splice(
         sizes,
         start,

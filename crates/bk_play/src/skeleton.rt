@@ -14,14 +14,15 @@ ghost use Rattle.bk_word.specs.Play.{IsComplete, numbers_from, outline_of};
 ghost use Rattle.bk_word.specs.Word.{Move as SeenMove, order_of};
 ghost use Rattle.bk_play.specs.Valley.{IsKeptSkeleton, leftmost_valley};
 ghost use Rattle.bk_play.specs.Skeleton.{signs_of};
-ghost use Rattle.bk_play.specs.TurnRecord.{SaysWhere};
+ghost use Rattle.bk_play.specs.MoveRecords.{SaysWhere};
 ghost use Rattle.bk_word_net.specs.WordNet.{net_of_word};
+ghost use Rattle.bk_word.specs.declared.TheConstants.{LARGEST_ORDER};
 
 use crate::counting::Steps;
 use crate::netting::{end_nodes, wired};
 use crate::parting::{apply_signs, undo_signs};
+use crate::records::{MoveRecord, leftmost, record_for};
 use crate::splicing::{append, splice, splice_numbers};
-use crate::turns::{MoveRecord, leftmost, turn_for};
 use arrayvec::ArrayVec;
 use bk_net::Net;
 use bk_word::{LARGEST_ORDER, Move, Sign};
@@ -29,7 +30,7 @@ use std::marker::Model;
 use std::sync::ledger::Ledger;
 
 // The moves of a skeleton have at most so many signs: each at most one more than squares.
-pub(crate) const MOST_PLAYED_SIGNS: usize = 400;
+pub(crate) const MOST_PLAYED_SIGNS: usize = 2 * LARGEST_ORDER;
 
 /// The leftmost valley of a skeleton: how many open segments stand at its left, whether it has a wall at its left and
 /// at its right, and the numbers of its squares from left to right, in the order of hanging from 1.
@@ -62,7 +63,7 @@ pub struct Skel {
     sizes: ArrayVec<u8, LARGEST_ORDER>,
     signs: ArrayVec<Sign, LARGEST_ORDER>,
     closed: ArrayVec<u8, LARGEST_ORDER>,
-    turns: ArrayVec<MoveRecord, LARGEST_ORDER>,
+    records: ArrayVec<MoveRecord, LARGEST_ORDER>,
     played: ArrayVec<Sign, MOST_PLAYED_SIGNS>,
 }
 
@@ -90,7 +91,7 @@ impl Skel {
             sizes,
             signs: ArrayVec::new(),
             closed: ArrayVec::new(),
-            turns: ArrayVec::new(),
+            records: ArrayVec::new(),
             played: ArrayVec::new(),
         }
     }
@@ -115,7 +116,7 @@ impl Skel {
     /// Plays a move, which must be legal, with at most 200 squares then. It is one step.
     pub fn push<L: Ledger>(&mut self, m: &Move, steps: &mut Steps<L>)
         requires legal { IsLegalMove (outline_of self.old) m.now }
-        requires few { order_of self.old + m.now.count ≤ 200 }
+        requires few { order_of self.old + m.now.count ≤ LARGEST_ORDER }
         ensures moves { self.new ≡ self.old ++ m.now ∷ [] }
         ensures step { steps.new ≡ steps.old + 1 }
     {
@@ -127,20 +128,20 @@ impl Skel {
     /// nothing of moves that are played so.
     pub fn play(&mut self, m: &Move)
         requires legal { IsLegalMove (outline_of self.old) m.now }
-        requires few { order_of self.old + m.now.count ≤ 200 }
+        requires few { order_of self.old + m.now.count ≤ LARGEST_ORDER }
         ensures { self.new ≡ self.old ++ m.now ∷ [] }
     {
-        let turn = turn_for(
+        let noted = record_for(
             &self.sizes,
             &self.signs,
             m.count,
             &m.signs,
             self.played.len(),
         );
-        close_and_hang(&mut self.ends, &mut self.closed, &turn);
-        apply_signs(&mut self.sizes, &mut self.signs, &turn, &m.signs);
+        close_and_hang(&mut self.ends, &mut self.closed, &noted);
+        apply_signs(&mut self.sizes, &mut self.signs, &noted, &m.signs);
         append(&mut self.played, &m.signs);
-        self.turns.push(turn);
+        self.records.push(noted);
     }
 
     /// Takes the last move back. There must be one.
@@ -148,18 +149,18 @@ impl Skel {
         requires { 0 < length self.old }
         ensures { self.new ≡ take (length self.old - 1) self.old }
     {
-        let turn = take_last(&mut self.turns);
-        let first = usize::from(turn.first);
-        let kept = self.closed.len() - usize::from(turn.closed);
-        undo_signs(&mut self.sizes, &mut self.signs, &turn);
+        let noted = take_last(&mut self.records);
+        let first = usize::from(noted.first);
+        let kept = self.closed.len() - usize::from(noted.closed);
+        undo_signs(&mut self.sizes, &mut self.signs, &noted);
         splice(
             &mut self.ends,
             first,
-            first + usize::from(turn.count),
+            first + usize::from(noted.count),
             &self.closed[kept..],
         );
         self.closed.truncate(kept);
-        self.played.truncate(usize::from(turn.from));
+        self.played.truncate(usize::from(noted.from));
     }
 
     /// The leftmost valley: the first open segment with a wall or the sign under at its left, and a wall or the sign
@@ -190,7 +191,7 @@ impl Skel {
     fn valley_at(&self) -> (usize, &[u8])
         ensures place { result.0 ≡ valley_place (outline_of self.now).signs }
         ensures squares { result.1.now ≡ valley_of (outline_of self.now) }
-        ensures few { length result.1.now ≤ 200 }
+        ensures few { length result.1.now ≤ LARGEST_ORDER }
     {
         let (place, first) = leftmost(&self.sizes, &self.signs);
         (
@@ -249,7 +250,7 @@ impl Skel {
         ensures value { result ≡ length self.now }
         ensures kept { IsKeptSkeleton self.now }
     {
-        self.turns.len()
+        self.records.len()
     }
 
     /// The move at place i, from 0.
@@ -267,7 +268,7 @@ impl Skel {
         requires { i < length self.now }
         ensures { slice_get self.now i ≡ Some m.new }
     {
-        m.count = self.turn(i).count;
+        m.count = self.record_at(i).count;
         m.signs.clear();
         append(&mut m.signs, self.signs_at(i));
     }
@@ -277,7 +278,7 @@ impl Skel {
         requires { i < length self.now }
         ensures { (m : SeenMove) → slice_get self.now i ≡ Some m → result ≡ m.count }
     {
-        self.turn(i).count
+        self.record_at(i).count
     }
 
     /// The signs of the move at place i, from 0.
@@ -285,14 +286,14 @@ impl Skel {
         requires { i < length self.now }
         ensures { (m : SeenMove) → slice_get self.now i ≡ Some m → result.now ≡ m.signs }
     {
-        let turn = self.turn(i);
-        &self.played[usize::from(turn.from)..usize::from(turn.to)]
+        let noted = self.record_at(i);
+        &self.played[usize::from(noted.from)..usize::from(noted.to)]
     }
 
     /// How many squares the moves hang.
     pub fn order(&self) -> usize
         ensures value { result ≡ order_of self.now }
-        ensures few { result ≤ 200 }
+        ensures few { result ≤ LARGEST_ORDER }
     {
         self.ends.len() + self.closed.len()
     }
@@ -301,7 +302,7 @@ impl Skel {
     pub fn is_closed(&self) -> bool
         ensures { IsTrue result ↔ IsComplete self.now }
     {
-        self.turns.len() > 0 && self.sizes.len() == 1
+        self.records.len() > 0 && self.sizes.len() == 1
     }
 
     /// The net of the word, which must be complete: a node for each move, and the last segment as the last node; a wire
@@ -310,9 +311,9 @@ impl Skel {
         requires { IsComplete self.now }
         ensures { result ≡ net_of_word self.now }
     {
-        let ended = end_nodes(&self.turns, &self.closed);
+        let ended = end_nodes(&self.records, &self.closed);
         let order = self.ends.len() + self.closed.len();
-        wired(&self.turns, &ended[..order])
+        wired(&self.records, &ended[..order])
     }
 }
 
@@ -328,39 +329,39 @@ pub fn open_side(wall: bool) -> usize
 fn close_and_hang(
     ends: &mut ArrayVec<u8, LARGEST_ORDER>,
     closed: &mut ArrayVec<u8, LARGEST_ORDER>,
-    turn: &MoveRecord,
+    noted: &MoveRecord,
 )
-    requires within { turn.now.first + turn.now.closed ≤ length ends.old.items }
-    requires few { length ends.old.items + length closed.old.items + turn.now.count ≤ 200 }
-    ensures ends { ends.new.items ≡ splice ends.old.items turn.now.first (turn.now.first + turn.now.closed)
-        (numbers_from (length ends.old.items + length closed.old.items + 1) turn.now.count) }
+    requires within { noted.now.first + noted.now.closed ≤ length ends.old.items }
+    requires few { length ends.old.items + length closed.old.items + noted.now.count ≤ LARGEST_ORDER }
+    ensures ends { ends.new.items ≡ splice ends.old.items noted.now.first (noted.now.first + noted.now.closed)
+        (numbers_from (length ends.old.items + length closed.old.items + 1) noted.now.count) }
     ensures closed { closed.new.items
-        ≡ closed.old.items ++ slice_range ends.old.items turn.now.first (turn.now.first + turn.now.closed) }
+        ≡ closed.old.items ++ slice_range ends.old.items noted.now.first (noted.now.first + noted.now.closed) }
 {
     let number = (ends.len() + closed.len() + 1) as u8;
-    let first = usize::from(turn.first);
-    let end = first + usize::from(turn.closed);
+    let first = usize::from(noted.first);
+    let end = first + usize::from(noted.closed);
     append(closed, &ends[first..end]);
-    splice_numbers(ends, first, end, number, turn.count);
+    splice_numbers(ends, first, end, number, noted.count);
 }
 
 // Takes the last record off.
-fn take_last(turns: &mut ArrayVec<MoveRecord, LARGEST_ORDER>) -> MoveRecord
-    requires { 0 < length turns.old.items }
-    ensures { turns.old.items ≡ turns.new.items ++ result ∷ [] }
+fn take_last(records: &mut ArrayVec<MoveRecord, LARGEST_ORDER>) -> MoveRecord
+    requires { 0 < length records.old.items }
+    ensures { records.old.items ≡ records.new.items ++ result ∷ [] }
 {
-    match turns.pop() {
-        Some(turn) => turn,
+    match records.pop() {
+        Some(noted) => noted,
         None => unreachable!(),
     }
 }
 
 impl Skel {
     /// The record of the move at place i, from 0: what is kept of it.
-    pub fn turn(&self, i: usize) -> MoveRecord
+    pub fn record_at(&self, i: usize) -> MoveRecord
         requires { i < length self.now }
         ensures { SaysWhere self.now i result }
     {
-        self.turns[i]
+        self.records[i]
     }
 }

@@ -11,26 +11,29 @@ ghost use Rattle.bk_word.specs.Play.{IsComplete, numbers_from, outline_of, parts
 ghost use Rattle.bk_word.specs.Word.{order_of};
 ghost use Rattle.bk_word_net.specs.WordNet.{net_of_word};
 ghost use Rattle.bk_play.specs.Skeleton.{GiveWay, first_touched, joined_sizes, open_sides_of_record, sizes_after};
-ghost use Rattle.bk_play.specs.Skeleton.{turn_at, with_parted};
+ghost use Rattle.bk_play.specs.Skeleton.{record_of, with_parted};
 ghost use Rattle.bk_play.specs.SmallSkeleton.{IsOutlineOf, IsValleyPlace, StandsAt};
 ghost use Rattle.bk_play.specs.Valley.{IsKeptSkeleton};
+ghost use Rattle.bk_word.specs.declared.TheConstants.{INLINE_ORDER, LARGEST_ORDER};
+ghost use Rattle.bk_play.specs.declared.skeleton.TheConstants.{MOST_PLAYED_SIGNS};
+ghost use Rattle.bk_play.specs.declared.small.TheConstants.{ROOM};
 
 use crate::netting::{end_nodes, wired};
 use crate::parting::size_of_next;
+use crate::records::{MoveRecord, leftmost, record_at_valley};
 use crate::skeleton::open_side;
 use crate::splicing::put_numbers;
-use crate::turns::{MoveRecord, leftmost, turn_at_valley};
 use bk_net::Net;
 use bk_short::Short;
 use bk_word::{INLINE_ORDER, Sign};
 use std::marker::Model;
 
 // Twice as many places as a list has items at most: as many lie behind each of its items as are copied at one stroke.
-const ROOM: usize = 32;
+const ROOM: usize = 2 * INLINE_ORDER;
 
 // The moves of a small skeleton have at most 32 signs, each at most one more than squares, and the signs of a move are
 // copied behind these.
-const SIGNS_ROOM: usize = 49;
+const SIGNS_ROOM: usize = 2 * INLINE_ORDER + MOST_MOVE_SIGNS;
 
 // A move of at most 16 squares has at most so many signs.
 const MOST_MOVE_SIGNS: usize = INLINE_ORDER + 1;
@@ -52,7 +55,7 @@ struct Open {
 pub struct SmallOutline {
     open: Open,
     closed: u8,
-    turns: u8,
+    records: u8,
     played: u8,
 }
 
@@ -86,7 +89,7 @@ impl Model for SmallMove {
 pub struct SmallSkel {
     open: Open,
     closed: Short<u8, ROOM>,
-    turns: Short<MoveRecord, INLINE_ORDER>,
+    records: Short<MoveRecord, INLINE_ORDER>,
     played: Short<Sign, SIGNS_ROOM>,
 }
 
@@ -118,7 +121,7 @@ impl SmallSkel {
                 first: 0,
             },
             closed: Short::new(),
-            turns: Short::new(),
+            records: Short::new(),
             played: Short::new(),
         }
     }
@@ -131,7 +134,7 @@ impl SmallSkel {
         SmallOutline {
             open: self.open,
             closed: self.closed.len() as u8,
-            turns: self.turns.len() as u8,
+            records: self.records.len() as u8,
             played: self.played.len() as u8,
         }
     }
@@ -145,7 +148,7 @@ impl SmallSkel {
     {
         self.open = before.open;
         self.closed.truncate(usize::from(before.closed));
-        self.turns.truncate(usize::from(before.turns));
+        self.records.truncate(usize::from(before.records));
         self.played.truncate(usize::from(before.played));
     }
 
@@ -162,19 +165,19 @@ impl SmallSkel {
     /// Plays a move, which must be legal, with at most 16 squares then.
     pub fn play(&mut self, m: &SmallMove)
         requires legal { IsLegalMove (outline_of self.old) m.now }
-        requires few { order_of self.old + m.now.count ≤ 16 }
+        requires few { order_of self.old + m.now.count ≤ INLINE_ORDER }
         ensures { self.new ≡ self.old ++ m.now ∷ [] }
     {
-        let mut turn = turn_in(&self.open, m, self.played.len());
-        close_and_hang(&mut self.open.ends, &mut self.closed, &turn);
-        turn.parted = part_and_join(
+        let mut noted = record_in(&self.open, m, self.played.len());
+        close_and_hang(&mut self.open.ends, &mut self.closed, &noted);
+        noted.parted = part_and_join(
             &mut self.open.sizes,
             &mut self.open.signs,
-            &turn,
+            &noted,
             m.signs.as_slice(),
         );
         self.played.append(&m.signs);
-        self.turns.push(turn);
+        self.records.push(noted);
         let (place, first) = find_valley(&self.open);
         self.open.place = place;
         self.open.first = first;
@@ -246,13 +249,13 @@ impl SmallSkel {
         ensures value { result ≡ length self.now }
         ensures kept { IsKeptSkeleton self.now }
     {
-        self.turns.len()
+        self.records.len()
     }
 
     /// How many squares the moves hang.
     pub fn order(&self) -> usize
         ensures value { result ≡ order_of self.now }
-        ensures few { result ≤ 16 }
+        ensures few { result ≤ INLINE_ORDER }
     {
         self.open.ends.len() + self.closed.len()
     }
@@ -261,7 +264,7 @@ impl SmallSkel {
     pub fn is_closed(&self) -> bool
         ensures { IsTrue result ↔ IsComplete self.now }
     {
-        self.turns.len() > 0 && self.open.sizes.len() == 1
+        self.records.len() > 0 && self.open.sizes.len() == 1
     }
 }
 
@@ -272,55 +275,54 @@ pub fn small_net(skel: &SmallSkel) -> Net
     requires { IsComplete skel.now }
     ensures { result ≡ net_of_word skel.now }
 {
-    let ended = end_nodes(skel.turns.as_slice(), skel.closed.as_slice());
+    let ended = end_nodes(skel.records.as_slice(), skel.closed.as_slice());
     let order = skel.open.ends.len() + skel.closed.len();
-    wired(skel.turns.as_slice(), &ended[..order])
+    wired(skel.records.as_slice(), &ended[..order])
 }
 
 // The record of a move where these segments are open, but for how many of the move's signs stay between two segments.
 // So many signs of earlier moves are kept.
 #[inline(always)]
-fn turn_in(open: &Open, m: &SmallMove, from: usize) -> MoveRecord
+fn record_in(open: &Open, m: &SmallMove, from: usize) -> MoveRecord
     requires many { length open.now.sizes.items ≡ length open.now.signs.items + 1 }
     requires stands { StandsAt open.now.sizes.items open.now.signs.items open.now.place open.now.first }
-    requires first { open.now.first ≤ 200 }
-    requires from { from ≤ 400 }
+    requires first { open.now.first ≤ LARGEST_ORDER }
+    requires from { from ≤ MOST_PLAYED_SIGNS }
     ensures { with_parted result (count_by parts m.now.signs)
-        ≡ turn_at open.now.sizes.items open.now.signs.items m.now from }
+        ≡ record_of open.now.sizes.items open.now.signs.items m.now from }
 {
-    turn_at_valley(
+    record_at_valley(
         open.sizes.as_slice(),
         open.signs.as_slice(),
         (usize::from(open.place), usize::from(open.first)),
         m.count,
-        m.signs.len(),
-        from,
+        (from, m.signs.len()),
     )
 }
 
 // Closes the valley's squares, and hangs those of the move in their place.
 #[inline(always)]
-fn close_and_hang(ends: &mut Short<u8, ROOM>, closed: &mut Short<u8, ROOM>, turn: &MoveRecord)
-    requires within { turn.now.first + turn.now.closed ≤ length ends.old.items }
-    requires few { length ends.old.items + length closed.old.items + turn.now.count ≤ 16 }
-    ensures ends { ends.new.items ≡ splice ends.old.items turn.now.first (turn.now.first + turn.now.closed)
-        (numbers_from (length ends.old.items + length closed.old.items + 1) turn.now.count) }
+fn close_and_hang(ends: &mut Short<u8, ROOM>, closed: &mut Short<u8, ROOM>, noted: &MoveRecord)
+    requires within { noted.now.first + noted.now.closed ≤ length ends.old.items }
+    requires few { length ends.old.items + length closed.old.items + noted.now.count ≤ INLINE_ORDER }
+    ensures ends { ends.new.items ≡ splice ends.old.items noted.now.first (noted.now.first + noted.now.closed)
+        (numbers_from (length ends.old.items + length closed.old.items + 1) noted.now.count) }
     ensures closed { closed.new.items
-        ≡ closed.old.items ++ slice_range ends.old.items turn.now.first (turn.now.first + turn.now.closed) }
+        ≡ closed.old.items ++ slice_range ends.old.items noted.now.first (noted.now.first + noted.now.closed) }
 {
     let number = (ends.len() + closed.len() + 1) as u8;
-    let first = usize::from(turn.first);
-    let end = first + usize::from(turn.closed);
+    let first = usize::from(noted.first);
+    let end = first + usize::from(noted.closed);
     let valley: Short<u8, INLINE_ORDER> = ends.part(first, end);
     closed.append(&valley);
-    hang(ends, first, end, number, turn.count);
+    hang(ends, first, end, number, noted.count);
 }
 
 // Where the leftmost of the valleys stands: how many segments stand at its left, and how many squares these have.
 #[inline(always)]
 fn find_valley(open: &Open) -> (u8, u8)
     requires many { length open.now.sizes.items ≡ length open.now.signs.items + 1 }
-    requires small { sum open.now.sizes.items ≤ 200 }
+    requires small { sum open.now.sizes.items ≤ LARGEST_ORDER }
     ensures { StandsAt open.now.sizes.items open.now.signs.items result.0 result.1 }
 {
     let (place, first) = leftmost(open.sizes.as_slice(), open.signs.as_slice());
@@ -332,9 +334,9 @@ fn find_valley(open: &Open) -> (u8, u8)
 fn hang(ends: &mut Short<u8, ROOM>, start: usize, end: usize, first: u8, count: u8)
     requires order { start ≤ end }
     requires within { end ≤ length ends.old.items }
-    requires few { length ends.old.items ≤ 16 }
-    requires fits { length ends.old.items - (end - start) + count ≤ 16 }
-    requires small { first ≤ 239 }
+    requires few { length ends.old.items ≤ INLINE_ORDER }
+    requires fits { length ends.old.items - (end - start) + count ≤ INLINE_ORDER }
+    requires small { first + INLINE_ORDER ≤ 255 }
     ensures { ends.new.items ≡ splice ends.old.items start end (numbers_from first count) }
 {
     let behind: Short<u8, INLINE_ORDER> = ends.part(end, ends.len());
@@ -346,8 +348,8 @@ fn hang(ends: &mut Short<u8, ROOM>, start: usize, end: usize, first: u8, count: 
 // So many numbers from a first one on.
 #[inline]
 fn numbers(first: u8, count: u8) -> Short<u8, INLINE_ORDER>
-    requires few { count ≤ 16 }
-    requires small { first ≤ 239 }
+    requires few { count ≤ INLINE_ORDER }
+    requires small { first + INLINE_ORDER ≤ 255 }
     ensures { result.items ≡ numbers_from first count }
 {
     let mut room = [0; INLINE_ORDER];
@@ -361,27 +363,30 @@ fn numbers(first: u8, count: u8) -> Short<u8, INLINE_ORDER>
 fn part_and_join(
     sizes: &mut Short<u8, ROOM>,
     signs: &mut Short<Sign, ROOM>,
-    turn: &MoveRecord,
+    noted: &MoveRecord,
     moved: &[Sign],
 ) -> u8
-    requires room { GiveWay 16 (first_touched turn.now) (open_sides_of_record turn.now) (count_by parts moved.now)
-        sizes.old.items signs.old.items }
-    requires sizes_few { length sizes.old.items ≤ 16 }
-    requires signs_few { length signs.old.items ≤ 16 }
-    requires small { turn.now.left + length moved.now + turn.now.right ≤ 253 }
-    ensures sizes { sizes.new.items ≡ splice sizes.old.items (first_touched turn.now)
-        (first_touched turn.now + (open_sides_of_record turn.now + 1)) (sizes_after turn.now moved.now) }
-    ensures signs { signs.new.items ≡ splice signs.old.items (first_touched turn.now)
-        (first_touched turn.now + open_sides_of_record turn.now) (filter parts moved.now) }
+    requires room { GiveWay INLINE_ORDER (record {
+      start = first_touched noted.now;
+      old = open_sides_of_record noted.now;
+      new = count_by parts moved.now;
+    }) sizes.old.items signs.old.items }
+    requires sizes_few { length sizes.old.items ≤ INLINE_ORDER }
+    requires signs_few { length signs.old.items ≤ INLINE_ORDER }
+    requires small { noted.now.left + length moved.now + noted.now.right ≤ 253 }
+    ensures sizes { sizes.new.items ≡ splice sizes.old.items (first_touched noted.now)
+        (first_touched noted.now + (open_sides_of_record noted.now + 1)) (sizes_after noted.now moved.now) }
+    ensures signs { signs.new.items ≡ splice signs.old.items (first_touched noted.now)
+        (first_touched noted.now + open_sides_of_record noted.now) (filter parts moved.now) }
     ensures parted { result ≡ count_by parts moved.now }
 {
-    let start = turn.first_touched();
-    let end = start + turn.open_sides();
+    let start = noted.first_touched();
+    let end = start + noted.open_sides();
     let sizes_behind: Short<u8, INLINE_ORDER> = sizes.part(end + 1, sizes.len());
     let signs_behind: Short<Sign, INLINE_ORDER> = signs.part(end, signs.len());
     sizes.truncate(start);
     signs.truncate(start);
-    push_parted(sizes, signs, moved, turn.left.max(1), turn.right.max(1));
+    push_parted(sizes, signs, moved, noted.left.max(1), noted.right.max(1));
     let parted = (signs.len() - start) as u8;
     sizes.append(&sizes_behind);
     signs.append(&signs_behind);
@@ -397,8 +402,8 @@ fn push_parted(
     first: u8,
     last: u8,
 )
-    requires sizes_fit { length sizes.old.items + count_by parts moved.now < 32 }
-    requires signs_fit { length signs.old.items + count_by parts moved.now ≤ 32 }
+    requires sizes_fit { length sizes.old.items + count_by parts moved.now < ROOM }
+    requires signs_fit { length signs.old.items + count_by parts moved.now ≤ ROOM }
     requires small { first + length moved.now + last < 256 }
     ensures sizes { sizes.new.items ≡ sizes.old.items ++ joined_sizes first last moved.now }
     ensures signs { signs.new.items ≡ signs.old.items ++ filter parts moved.now }

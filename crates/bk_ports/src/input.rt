@@ -100,11 +100,11 @@ fn read_block<S: Source>(
     ensures cause { HasCause (S.faults source.old) (S.faults source.new) result }
 {
     let most = (MOST_BYTES - taken).clamp(1, BLOCK);
-    ask(source, &mut block[..most], taken)
+    read_once(source, &mut block[..most], taken)
 }
 
 // Reads once, and asks for as many bytes as it should where so many were taken. Each read of an input is this one.
-fn ask<S: Source>(source: &mut S, buf: &mut [u8], taken: usize) -> Result<usize, Failed>
+fn read_once<S: Source>(source: &mut S, buf: &mut [u8], taken: usize) -> Result<usize, Failed>
     requires asked { length buf.old ≡ asked_count taken }
     ensures count { IfOk result (λ n. n ≤ length buf.new) }
     ensures bytes { ReadConsumes (S.left source.old) (S.left source.new) result buf.new }

@@ -4,10 +4,11 @@
 #![tactic(auto)]
 
 ghost use Rattle.std.specs.Prelude.{◌<◌, ◌≡◌, ◌≤◌};
+ghost use Rattle.bk_word.specs.declared.TheConstants.{LARGEST_LISTED_ORDER};
 
 use bk_play::Steps;
 use bk_walk::{MOST_MEMBERS, TabledWalk};
-use bk_word::{Class, INLINE_ORDER};
+use bk_word::{Class, LARGEST_LISTED_ORDER};
 use std::alloc::Global;
 use std::marker::Brand;
 use std::sync::ledger::{Blank, Ledger};
@@ -16,7 +17,7 @@ use std::{env, io};
 fn main(rt: HostRuntime) -> io::Result<()> {
     for word in env::args(&rt)?.skip(1) {
         match word.as_str().parse::<u8>() {
-            Ok(order) if order >= 2 && usize::from(order) <= INLINE_ORDER => {
+            Ok(order) if order >= 2 && usize::from(order) <= LARGEST_LISTED_ORDER => {
                 let (members, pushes) = counted(rt.alloc(), order);
                 println!(rt; "{order} {members} {pushes}")?;
             }
@@ -29,7 +30,7 @@ fn main(rt: HostRuntime) -> io::Result<()> {
 // How many members the catalogue of an order has, and how many moves are pushed to find them all.
 fn counted(alloc: Global, order: u8) -> (u64, u64)
     requires least { 2 ≤ order }
-    requires most { order ≤ 16 }
+    requires most { order ≤ LARGEST_LISTED_ORDER }
 {
     walked::<Brand>(alloc, order, Blank::new(1))
 }
@@ -37,7 +38,7 @@ fn counted(alloc: Global, order: u8) -> (u64, u64)
 // How many members a walk of the order gives, and how many moves it pushes.
 fn walked<L: Ledger>(alloc: Global, order: u8, blank: Blank) -> (u64, u64)
     requires least { 2 ≤ order }
-    requires most { order ≤ 16 }
+    requires most { order ≤ LARGEST_LISTED_ORDER }
     requires name { blank.name ≡ L.name }
     requires parts { blank.parts ≡ L.parts }
     requires some { 0 < L.parts }

@@ -7,7 +7,7 @@ use Rattle.bk_tiling.specs.Tiling.{Tiling, order}
 use Rattle.bk_code.specs.Code.{code_of}
 use Rattle.bk_text.specs.CodeLine.{Item, Line}
 use Rattle.bk_word.specs.declared.Class.{Class}
-use Rattle.bk_word.specs.declared.TheConstants.{INLINE_ORDER}
+use Rattle.bk_word.specs.declared.TheConstants.{LARGEST_LISTED_ORDER}
 use Rattle.bk_catalogue.specs.Catalogue.{Entry, IsEntry}
 use Rattle.bk_report.specs.Answers.{IsCheckLine}
 use Rattle.bk_report.specs.Listings.{entry_text}
@@ -32,7 +32,7 @@ pub record IsReadAs (bytes : List ℕ) (t : Tiling) : Type 0 where
 
 -- the line of each entry, without its line feed, is read as the member that was listed
 abbrev pub AListedEntryIsRead : Type 0
-AListedEntryIsRead = (n : ℕ) (class : Class) (e : Entry) → n ≤ INLINE_ORDER → IsEntry n class e
+AListedEntryIsRead = (n : ℕ) (class : Class) (e : Entry) → n ≤ LARGEST_LISTED_ORDER → IsEntry n class e
     → IsReadAs (entry_text e.tiling e.word) e.tiling
 
 -- the replies of `check` to the lines of a list: none is refused, and what is written is the line of each entry's
@@ -46,6 +46,6 @@ pub record AcceptsAll (entries : List Entry) (replies : List Reply) : Type 0 whe
 
 -- where each line of a list has a reply of `check`, all are accepted
 abbrev pub AListIsAccepted : Type 0
-AListIsAccepted = (asked : Listing) (last : Last) (bytes : List ℕ) → asked.catalogue.order ≤ INLINE_ORDER
+AListIsAccepted = (asked : Listing) (last : Last) (bytes : List ℕ) → asked.catalogue.order ≤ LARGEST_LISTED_ORDER
     → (list : IsListing asked last bytes) (replies : List Reply)
     → AreReplies (AnswersLine (Plain Check)) (lines_of bytes) replies → AcceptsAll list.entries replies

@@ -5,7 +5,7 @@ use Rattle.std.specs.Prelude.{ℕ, ◌^◌, ◌≤◌}
 use Rattle.bk_tiling.specs.KeptTiling.{IsKept}
 use Rattle.bk_tiling.specs.Tiling.{Tiling}
 use Rattle.bk_word.specs.declared.Class.{Class}
-use Rattle.bk_word.specs.declared.TheConstants.{INLINE_ORDER}
+use Rattle.bk_word.specs.declared.TheConstants.{LARGEST_LISTED_ORDER}
 use Rattle.bk_catalogue.specs.Catalogue.{IsMember}
 
 -- the size and the sides are at most 2^34, and so the tiling is one that a `Tiling` of the code can be
@@ -18,4 +18,4 @@ pub record IsSmallTiling (t : Tiling) : Type 0 where
 -- a member of at most 16 squares is such a tiling. Of order 2 and the class imperfect it is the row of two squares of
 -- side 1
 abbrev pub MembersAreSmall : Type 0
-MembersAreSmall = (n : ℕ) (class : Class) (t : Tiling) → n ≤ INLINE_ORDER → IsMember n class t → IsSmallTiling t
+MembersAreSmall = (n : ℕ) (class : Class) (t : Tiling) → n ≤ LARGEST_LISTED_ORDER → IsMember n class t → IsSmallTiling t

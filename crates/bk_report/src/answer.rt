@@ -3,16 +3,32 @@
 ghost use Rattle.std.specs.Prelude.{◌≡◌, ◌≤◌, ◌++◌, ◌+◌, ◌∷◌, [], option_map, length};
 ghost use Rattle.arrayvec.specs.ArrayVec.{array_vec_len};
 ghost use Rattle.bk_code.specs.Code.{code_of};
+ghost use Rattle.bk_grammar.specs.declared.TheConstants.{ANSWER_ROOM};
 ghost use Rattle.bk_simple.specs.Border.{rectangle_of};
 ghost use Rattle.bk_text.specs.CodeText.{code_text, size_text};
+ghost use Rattle.bk_text.specs.declared.writer.TheConstants.{LONGEST_CODE_TEXT};
 ghost use Rattle.bk_report.specs.Answers.{IsCheckLine, perfect_text, simple_text, spaced, tiling_line, verdict_line};
+ghost use Rattle.bk_report.specs.declared.answer.TheConstants.{LONGEST_CHECK_LINE, LONGEST_PERFECT_TEXT};
+ghost use Rattle.bk_report.specs.declared.answer.TheConstants.{LONGEST_SIMPLE_TEXT, LONGEST_TILING_TEXT};
 
 use crate::template::push_filled;
 use bk_code::{Code, code_of};
 use bk_grammar::{AnswerBuffer, push_bytes};
 use bk_simple::{SubRect, part, repeated};
-use bk_text::{write_code, write_size};
+use bk_text::{LONGEST_CODE_TEXT, LONGEST_SIZE_TEXT, write_code, write_size};
 use bk_tiling::Tiling;
+
+/// The size and the code of a tiling are written in no more bytes.
+pub(crate) const LONGEST_TILING_TEXT: usize = LONGEST_SIZE_TEXT + 1 + LONGEST_CODE_TEXT;
+
+/// No answer of `check` to an accepted item has more bytes.
+const LONGEST_CHECK_LINE: usize = 300;
+
+/// Whether a tiling is perfect is written in no more bytes.
+const LONGEST_PERFECT_TEXT: usize = 40;
+
+/// Whether a tiling is simple is written in no more bytes.
+const LONGEST_SIMPLE_TEXT: usize = 130;
 
 /// Writes the answer of `check` to an item that has this tiling: `ok`, the order, the size, and whether it is perfect
 /// and simple (Brooks, Smith, Stone and Tutte 1940).
@@ -35,10 +51,10 @@ pub fn write_tiling(tiling: &Tiling, out: &mut AnswerBuffer)
 // Appends the size of a tiling, and its code.
 pub(crate) fn push_tiling(tiling: &Tiling, code: &Code, out: &mut AnswerBuffer)
     requires code { code.now ≡ code_of tiling.now }
-    requires room { array_vec_len out.old ≤ 5000 }
+    requires room { array_vec_len out.old + LONGEST_TILING_TEXT ≤ ANSWER_ROOM }
     ensures text { out.new.items
         ≡ out.old.items ++ spaced (size_text tiling.now.width tiling.now.height ∷ code_text (code_of tiling.now) ∷ []) }
-    ensures short { array_vec_len out.new ≤ array_vec_len out.old + 3442 }
+    ensures short { array_vec_len out.new ≤ array_vec_len out.old + LONGEST_TILING_TEXT }
 {
     write_size(tiling.width(), tiling.height(), out);
     out.push(b' ');
@@ -47,9 +63,9 @@ pub(crate) fn push_tiling(tiling: &Tiling, code: &Code, out: &mut AnswerBuffer)
 
 // Appends the code of a tiling. It has a square, so its code has a group.
 pub(crate) fn push_code(tiling: &Tiling, out: &mut AnswerBuffer)
-    requires { array_vec_len out.old ≤ 5600 }
+    requires { array_vec_len out.old + LONGEST_CODE_TEXT ≤ ANSWER_ROOM }
     ensures text { out.new.items ≡ out.old.items ++ code_text (code_of tiling.now) }
-    ensures short { length (code_text (code_of tiling.now)) ≤ 3400 }
+    ensures short { length (code_text (code_of tiling.now)) ≤ LONGEST_CODE_TEXT }
 {
     let order = tiling.order();
     prove!(0 < order);
@@ -63,7 +79,7 @@ fn push_verdicts(
     part: Option<SubRect>,
     out: &mut AnswerBuffer,
 )
-    requires { array_vec_len out.old ≤ 7000 }
+    requires { array_vec_len out.old + LONGEST_CHECK_LINE ≤ ANSWER_ROOM }
     ensures { out.new.items ≡ out.old.items ++ verdict_line tiling.now repeated (option_map rectangle_of part) }
 {
     push_filled(b"ok # ", &[tiling.order() as u64], out);
@@ -77,9 +93,9 @@ fn push_verdicts(
 
 // Appends 'perfect', or 'imperfect' and the side.
 fn push_perfect(repeated: Option<u64>, out: &mut AnswerBuffer)
-    requires { array_vec_len out.old ≤ 8000 }
+    requires { array_vec_len out.old + LONGEST_PERFECT_TEXT ≤ ANSWER_ROOM }
     ensures text { out.new.items ≡ out.old.items ++ perfect_text repeated }
-    ensures short { array_vec_len out.new ≤ array_vec_len out.old + 40 }
+    ensures short { array_vec_len out.new ≤ array_vec_len out.old + LONGEST_PERFECT_TEXT }
 {
     match repeated {
         None => push_bytes(b"perfect", out),
@@ -89,9 +105,9 @@ fn push_perfect(repeated: Option<u64>, out: &mut AnswerBuffer)
 
 // Appends 'simple', or 'compound' and the rectangle.
 fn push_simple(part: Option<SubRect>, out: &mut AnswerBuffer)
-    requires { array_vec_len out.old ≤ 7900 }
+    requires { array_vec_len out.old + LONGEST_SIMPLE_TEXT ≤ ANSWER_ROOM }
     ensures text { out.new.items ≡ out.old.items ++ simple_text (option_map rectangle_of part) }
-    ensures short { array_vec_len out.new ≤ array_vec_len out.old + 130 }
+    ensures short { array_vec_len out.new ≤ array_vec_len out.old + LONGEST_SIMPLE_TEXT }
 {
     match part {
         None => push_bytes(b"simple", out),

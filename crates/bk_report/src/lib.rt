@@ -15,14 +15,14 @@ mod trial;
 mod word;
 
 pub use answer::{write_check, write_tiling};
-pub use dual::write_dual;
+pub use dual::{LONGEST_DUAL_LINE, write_dual};
 pub use flow::write_flow;
 pub use laws::{a_tiling_has_one_check_line, a_written_entry_is_read};
 pub use list_reports::{
     ReportCounts, write_alike, write_foreign, write_group, write_line_refused, write_member,
     write_missing, write_pair, write_pairs, write_repeats, write_verified,
 };
-pub use listing_lines::{Last, write_entry, write_last};
+pub use listing_lines::{Last, ListedEntries, write_entry, write_last};
 pub use net::write_net;
 pub use refusal::{Refused, write_refused};
 pub use trial::{TrialCounts, write_trial};

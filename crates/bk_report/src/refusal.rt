@@ -2,11 +2,19 @@
 
 ghost use Rattle.std.specs.Prelude.{length, ◌≡◌, ◌≤◌, ◌++◌, ◌+◌};
 ghost use Rattle.arrayvec.specs.ArrayVec.{array_vec_len};
+ghost use Rattle.bk_grammar.specs.declared.TheConstants.{ANSWER_ROOM};
 ghost use Rattle.bk_report.specs.Refusals.{refusal_line, refusal_text};
 ghost use Rattle.bk_report.specs.Templates.{filled};
+ghost use Rattle.bk_report.specs.declared.refusal.TheConstants.{LONGEST_REFUSAL_TEXT, LONGEST_TEMPLATE};
 
 use crate::template::push_filled;
-use bk_grammar::AnswerBuffer;
+use bk_grammar::{AnswerBuffer, LONGEST_NUMBER_TEXT};
+
+/// No text of a refusal has more bytes, with a mark for each number.
+const LONGEST_TEMPLATE: usize = 20;
+
+/// No refusal is written in more bytes.
+const LONGEST_REFUSAL_TEXT: usize = LONGEST_TEMPLATE + 3 * LONGEST_NUMBER_TEXT;
 
 /// Why an item is refused. The names and their order are this project's own.
 #[derive(Clone, Copy)]
@@ -56,9 +64,9 @@ pub fn write_refused(refused: &Refused, out: &mut AnswerBuffer)
 
 // Appends the text of a refusal.
 pub(crate) fn push_refusal(refused: &Refused, out: &mut AnswerBuffer)
-    requires { array_vec_len out.old ≤ 7000 }
+    requires { array_vec_len out.old + LONGEST_REFUSAL_TEXT ≤ ANSWER_ROOM }
     ensures text { out.new.items ≡ out.old.items ++ refusal_text refused.now }
-    ensures short { array_vec_len out.new ≤ array_vec_len out.old + 120 }
+    ensures short { array_vec_len out.new ≤ array_vec_len out.old + LONGEST_REFUSAL_TEXT }
 {
     let (text, numbers) = template_of(refused);
     push_filled(text, &numbers, out);
@@ -67,7 +75,7 @@ pub(crate) fn push_refusal(refused: &Refused, out: &mut AnswerBuffer)
 // The text of a refusal with a mark for each number, and the numbers.
 fn template_of(refused: &Refused) -> (&'static [u8], [u64; 3])
     ensures text { filled result.0.now result.1 ≡ refusal_text refused.now }
-    ensures short { length result.0.now ≤ 20 }
+    ensures short { length result.0.now ≤ LONGEST_TEMPLATE }
 {
     match *refused {
         Refused::Long => (b"no long", [0, 0, 0]),

@@ -15,7 +15,7 @@ use Rattle.bk_word.specs.Play.{IsComplete, IsLegal, after_moves, outline_of}
 use Rattle.bk_word.specs.Word.{Word, order_of}
 use Rattle.bk_lay.specs.TilingWord.{MovesFollow}
 use Rattle.bk_word_net.specs.WordFlow.{LaidAlong, laid_so_far}
-use Rattle.bk_word_net.proofs.TilingWords.TilingOfTurns.{Turns, all_deep, built, follow_turns, is_tiling}
+use Rattle.bk_word_net.proofs.TilingWords.TilingOfMoves.{LaidMoves, all_deep, built, follow_moves, is_tiling}
 use Rattle.bk_word_net.specs.LaidTiling.{IsLaidWith}
 use Rattle.bk_skel.specs.PartlyLaid.{IsPartlyLaid, IsClosed}
 use Rattle.bk_skel.proofs.PlacingLoop.{first_width, IsPlacedTo}
@@ -73,8 +73,8 @@ module _ (given : List ℕ) (all_sides : AllByRecursion IsSide given) (few : len
   tiling : IsTiling the_tiling
   tiling = is_tiling (first_width w given) partly.some laid (outline_of w) partly.shows complete.one some
 
-  turns : Turns (first_width w given) [] w laid
-  turns = s.turns laid (subst (λ (v : Word). Turns (first_width w given) laid v laid) (sym (drop_all i w done)) refl)
+  laid_moves : LaidMoves (first_width w given) [] w laid
+  laid_moves = s.laid_moves laid (subst (λ (v : Word). LaidMoves (first_width w given) laid v laid) (sym (drop_all i w done)) refl)
 
   -- past the last move the squares are a tiling that has the word with these sides
   pub placed_end : IsLaidWith w given (record { width = first_width w given; height = depth laid 0; squares = in_code_order laid })
@@ -88,5 +88,5 @@ module _ (given : List ℕ) (all_sides : AllByRecursion IsSide given) (few : len
   }
     where
       followed : MovesFollow the_tiling [] w × ((all_levels : List ℕ) × LaidAlong the_tiling (laid_so_far [] []) w (laid_so_far laid all_levels))
-      followed = follow_turns the_tiling tiling laid (λ q h. in_order laid q h)
-          (all_deep (first_width w given) partly.some laid (outline_of w) partly.shows complete.one some) w [] [] turns
+      followed = follow_moves the_tiling tiling laid (λ q h. in_order laid q h)
+          (all_deep (first_width w given) partly.some laid (outline_of w) partly.shows complete.one some) w [] [] laid_moves

@@ -14,7 +14,7 @@ use Rattle.bk_tiling.specs.declared.Segment.{Segment}
 use Rattle.bk_tiling.specs.declared.Square.{Square}
 use Rattle.bk_word.specs.Outline.{Outline, start}
 use Rattle.bk_lay.specs.Depiction.{IsSegment, Span}
-use Rattle.bk_word_net.proofs.TilingWords.TilingOfTurns.{is_tiling, tiles}
+use Rattle.bk_word_net.proofs.TilingWords.TilingOfMoves.{is_tiling, tiles}
 use Rattle.bk_word_net.proofs.Outlines.NumberedSquares.{numbered_bottom, segment_span}
 use Rattle.bk_skel.specs.PartlyLaid.{IsClosed}
 use Rattle.bk_word_net.specs.LaidOutline.{IsNumber, bottom_at}

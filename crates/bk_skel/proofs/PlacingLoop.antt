@@ -13,9 +13,9 @@ use Rattle.bk_word.proofs.StoredBytes.{order_more}
 use Rattle.bk_word.specs.Outline.{start}
 use Rattle.bk_word.specs.Play.{IsComplete, after_moves}
 use Rattle.bk_word.specs.Word.{Move, Word, order_of}
-use Rattle.bk_word_net.proofs.Outlines.RunsAfterTurn.{shows_start}
-use Rattle.bk_word_net.proofs.TilingWords.TurnsOfTiling.{AgreesAt, agrees_start}
-use Rattle.bk_word_net.proofs.TilingWords.TilingOfTurns.{Turns}
+use Rattle.bk_word_net.proofs.Outlines.RunsAfterMove.{shows_start}
+use Rattle.bk_word_net.proofs.TilingWords.MovesOfTiling.{AgreesAt, agrees_start}
+use Rattle.bk_word_net.proofs.TilingWords.TilingOfMoves.{LaidMoves}
 use Rattle.bk_word_net.specs.LaidTiling.{IsLaidWith}
 use Rattle.bk_skel.specs.PartlyLaid.{IsPartlyLaid}
 use Rattle.bk_skel.proofs.SideCuts.{sum_bounds}
@@ -30,7 +30,7 @@ pub record IsPlacedTo (w : Word) (given : List ℕ) (i : ℕ) (laid : List Squar
   pub partly : IsPartlyLaid (first_width w given) laid numbers (after_moves start (take i w))
   pub many : length laid + order_of (drop i w) ≡ length given
   pub sides : given ≡ laid_sides laid ++ drop (length laid) given
-  pub turns : (all : List Square) → Turns (first_width w given) laid (drop i w) all → Turns (first_width w given) [] w all
+  pub laid_moves : (all : List Square) → LaidMoves (first_width w given) laid (drop i w) all → LaidMoves (first_width w given) [] w all
   pub agrees : (t : Tiling) → IsLaidWith w given t → AgreesAt (first_width w given) t laid (after_moves start (take i w)) (drop i w) (drop (length laid) given)
 
 module _ (given : List ℕ) (all_sides : AllByRecursion IsSide given) (few : length given ≤ 200) where
@@ -47,7 +47,7 @@ module _ (given : List ℕ) (all_sides : AllByRecursion IsSide given) (few : len
     };
     many = omega (arith, count);
     sides = refl;
-    turns = λ all p. p;
+    laid_moves = λ all p. p;
     agrees = λ t l. subst (λ (n : ℕ). AgreesAt n t [] start (m ∷ v) given) (sym (sum_is_total (take m.count given)))
         (subst (λ (rest : List ℕ). AgreesAt (total (take m.count given)) t [] start (m ∷ v) rest) (take-append-drop m.count given)
         (agrees_start t m v (take m.count given) (drop m.count given) some long

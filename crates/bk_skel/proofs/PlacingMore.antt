@@ -15,9 +15,9 @@ use Rattle.bk_word.specs.Play.{IsLegal, after_move, after_moves, numbers_from}
 use Rattle.bk_word.specs.Word.{Move, Word, order_of}
 use Rattle.bk_word.proofs.WordCuts.{legal_at, outline_more, split_at}
 use Rattle.bk_lay.proofs.Valleys.{one_leftmost_valley}
-use Rattle.bk_word_net.proofs.TilingWords.TurnsOfTiling.{AgreesAt, AgreesOn, agrees_on}
-use Rattle.bk_word_net.proofs.TilingWords.TilingOfTurns.{Turns}
-use Rattle.bk_word_net.proofs.Outlines.NumberedValley.{shows_turn}
+use Rattle.bk_word_net.proofs.TilingWords.MovesOfTiling.{AgreesAt, AgreesOn, agrees_on}
+use Rattle.bk_word_net.proofs.TilingWords.TilingOfMoves.{LaidMoves}
+use Rattle.bk_word_net.proofs.Outlines.NumberedValley.{shows_filled}
 use Rattle.bk_skel.proofs.NumbersAfter.{few_after, known_after, low_after, numbers_after}
 use Rattle.bk_skel.proofs.PlacingTurn.{valley_gap, only}
 use Rattle.bk_word_net.specs.LaidTiling.{IsLaidWith}
@@ -85,7 +85,7 @@ module _ (given : List ℕ) (all_sides : AllByRecursion IsSide given) (few : len
         (record { count = length (take m.count (drop (length laid) given)); signs = m.signs }) (take m.count (drop (length laid) given)) v → ⊥)
         → (t : Tiling) → IsLaidWith w given t → ⊥
     placed_none never t l = let a = agree t l in
-        never a.valley (subst (λ (n : Move). FillsValley (first_width w given) laid n (take m.count (drop (length laid) given)) a.valley) same_move a.turn)
+        never a.valley (subst (λ (n : Move). FillsValley (first_width w given) laid n (take m.count (drop (length laid) given)) a.valley) same_move a.filled)
 
     module _ (v : Segment) (turn : FillsValley (first_width w given) laid
         (record { count = length (take m.count (drop (length laid) given)); signs = m.signs }) (take m.count (drop (length laid) given)) v) where
@@ -96,7 +96,7 @@ module _ (given : List ℕ) (all_sides : AllByRecursion IsSide given) (few : len
           ((take first numbers ++ numbers_from (length laid + 1) (length (take m.count (drop (length laid) given)))) ++ drop end numbers)
           (after_move (after_moves start (take i w)) m)
       partly_next = record {
-        shows = shows_turn (first_width w given) laid (after_moves start (take i w)) (s.partly).shows (s.partly).some m
+        shows = shows_filled (first_width w given) laid (after_moves start (take i w)) (s.partly).shows (s.partly).some m
             (take m.count (drop (length laid) given)) v own_turn;
         some = (s.partly).some;
         narrow = (s.partly).narrow;
@@ -134,7 +134,7 @@ module _ (given : List ℕ) (all_sides : AllByRecursion IsSide given) (few : len
           (subst (λ (u : Segment). AgreesAt (first_width w given) t
           (laid ++ laid_group u.x u.level (take m.count (drop (length laid) given))) (after_move (after_moves start (take i w)) m)
           (drop (i + 1) w) (drop m.count (drop (length laid) given)))
-          (one_leftmost_valley (first_width w given) laid (agree t l).valley v ((agree t l).turn).found turn.found) (agree t l).next)
+          (one_leftmost_valley (first_width w given) laid (agree t l).valley v ((agree t l).filled).found turn.found) (agree t l).next)
 
       -- with the move laid, the placing has come one move further
       pub placed_more : IsPlacedTo w given (i + 1) (laid ++ laid_group v.x v.level (take m.count (drop (length laid) given)))
@@ -145,7 +145,7 @@ module _ (given : List ℕ) (all_sides : AllByRecursion IsSide given) (few : len
             ++ drop end numbers)) (sym (outline_more start w i m at)) partly_next;
         many = omega (arith, laid_long given laid m.count fits v, s.many, order_is);
         sides = sides_next given laid m.count fits v s.sides;
-        turns = λ all p. s.turns all (subst (λ (x : Word). Turns (first_width w given) laid x all) (sym rest_is)
+        laid_moves = λ all p. s.laid_moves all (subst (λ (x : Word). LaidMoves (first_width w given) laid x all) (sym rest_is)
             (v, (take m.count (drop (length laid) given), (own_turn, p))));
         agrees = λ t l. subst (λ (p : Outline). AgreesAt (first_width w given) t
             (laid ++ laid_group v.x v.level (take m.count (drop (length laid) given))) p (drop (i + 1) w)

@@ -20,12 +20,12 @@ use Rattle.bk_skel.proofs.PlacedWhole.{placed_closed, placed_end}
 use Rattle.bk_word_net.specs.LaidTiling.{IsLaidWith}
 use Rattle.bk_skel.specs.PartlyLaid.{CanLay, IsClosed}
 use Rattle.bk_word_net.specs.LaidOutline.{FillsValley, front_of}
-use Rattle.bk_play.specs.TurnRecord.{SaysWhere}
-use Rattle.bk_play.specs.declared.turns.MoveRecord.{MoveRecord}
+use Rattle.bk_play.specs.MoveRecords.{SaysWhere}
+use Rattle.bk_play.specs.declared.records.MoveRecord.{MoveRecord}
 
 module _ (w : Word) (legal : IsLegal w) (given : List ℕ) (all_sides : AllByRecursion IsSide given) (few : length given ≤ 200)
     (i : ℕ) (below : i < length w)
-    (laid : List Square) (numbers : List ℕ) (s : IsPlacedTo w given i laid numbers) (turn : MoveRecord) (says : SaysWhere w i turn) where
+    (laid : List Square) (numbers : List ℕ) (s : IsPlacedTo w given i laid numbers) (noted : MoveRecord) (says : SaysWhere w i noted) where
   abbrev m : Move
   m = (get_some w i below).0
 
@@ -33,12 +33,12 @@ module _ (w : Word) (legal : IsLegal w) (given : List ℕ) (all_sides : AllByRec
   at = (get_some w i below).1
 
   -- the sides of the move are there
-  pub sides_there : length laid + turn.count ≤ length given
+  pub sides_there : length laid + noted.count ≤ length given
   sides_there = omega (arith, new_fits given all_sides few w legal i laid numbers s (get_some w i below).0 at, says.count (get_some w i below).0 at)
 
   module _ (width from many first closed : ℕ) (signs : List Sign) (new : List ℕ) (width_is : width ≡ first_width w given)
-      (from_is : from ≡ length laid) (many_is : many ≡ turn.count) (first_is : first ≡ turn.first)
-      (closed_is : closed ≡ turn.closed) (signs_are : (n : Move) → slice_get w i ≡ Some n → signs ≡ n.signs)
+      (from_is : from ≡ length laid) (many_is : many ≡ noted.count) (first_is : first ≡ noted.first)
+      (closed_is : closed ≡ noted.closed) (signs_are : (n : Move) → slice_get w i ≡ Some n → signs ≡ n.signs)
       (new_is : new ≡ take (from + many - from) (drop from given)) where
     taken : new ≡ take (get_some w i below).0.count (drop (length laid) given)
     taken = new_is ∙ (λ j. take (count j) (drop (from_is j) given))
@@ -112,19 +112,19 @@ module _ (w : Word) (legal : IsLegal w) (given : List ℕ) (all_sides : AllByRec
 
 -- a complete word has a first move, and there are as many sides as it hangs
 pub first_is_there : (w : Word) (complete : IsComplete w) (given : List ℕ) → AllByRecursion IsSide given → length given ≤ 200
-    → length given ≡ order_of w → (turn : MoveRecord) → SaysWhere w 0 turn → (from : ℕ) → from ≡ turn.count → from ≡ length (take from given)
-first_is_there w complete given all_sides few count turn says from e =
+    → length given ≡ order_of w → (noted : MoveRecord) → SaysWhere w 0 noted → (from : ℕ) → from ≡ noted.count → from ≡ length (take from given)
+first_is_there w complete given all_sides few count noted says from e =
     sym (length-take-le from given (omega (
       arith,
       e,
-      sides_there w complete.legal given all_sides few 0 complete.some [] [] (placed_start given all_sides few w complete count) turn says,
+      sides_there w complete.legal given all_sides few 0 complete.some [] [] (placed_start given all_sides few w complete count) noted says,
     )))
 
 -- the sum of the first move's sides is the width
-pub width_as : (w : Word) (given : List ℕ) (turn : MoveRecord) (from sum_is : ℕ) → 0 < length w → SaysWhere w 0 turn → from ≡ turn.count
+pub width_as : (w : Word) (given : List ℕ) (noted : MoveRecord) (from sum_is : ℕ) → 0 < length w → SaysWhere w 0 noted → from ≡ noted.count
     → sum_is ≡ sum (take from given) → sum_is ≡ first_width w given
-width_as [] given turn from sum_is h says e f = absurd (omega arith)
-width_as (m ∷ w) given turn from sum_is h says e f = f ∙ ap (λ (k : ℕ). sum (take k given)) (e ∙ says.count m refl)
+width_as [] given noted from sum_is h says e f = absurd (omega arith)
+width_as (m ∷ w) given noted from sum_is h says e f = f ∙ ap (λ (k : ℕ). sum (take k given)) (e ∙ says.count m refl)
 
 -- before the first move nothing is laid
 pub start_as : (w : Word) (given : List ℕ) (laid : List Square) (numbers : List ℕ) → laid ≡ [] → numbers ≡ [] → IsPlacedTo w given 0 [] []

@@ -1,7 +1,7 @@
 -- Squares placed move by move, from sides in the order of laying: the squares laid so far, and the numbers of those
 -- that are open, from left to right. Squares are numbered from 1 in the order of laying.
--- Example (PartlyLaidExamples): 2u.2eu lays the sides 5, 3, 2, 1 in the width 8; square 3 has its bottom at 5, and square 4
--- stands alone over the leftmost valley, of width 1, which a square of the side 1 fills.
+-- Example (PartlyLaidExamples): 2u.2eu lays the sides 5, 3, 2, 1 in the width 8; square 3 has its bottom at 5, and
+-- square 4 stands alone over the leftmost valley, of width 1, which a square of the side 1 fills.
 use Rattle.std.specs.List.{AllByRecursion, concat}
 use Rattle.std.specs.Prelude.{List, length, sum_by, ℕ, ◌*◌, ◌+◌, ◌<◌, ◌^◌, ◌≡◌, ◌≤◌}
 use Rattle.bk_tiling.specs.KeptTiling.{IsSide}
@@ -11,6 +11,7 @@ use Rattle.bk_tiling.specs.declared.Square.{Square}
 use Rattle.bk_word.specs.Outline.{IsLegalMove, Outline, valley_of}
 use Rattle.bk_word.specs.declared.Sign.{Sign}
 use Rattle.bk_word_net.specs.LaidOutline.{IsNumber, ShowsLaid, StandsOver, front_of, square_at}
+use Rattle.bk_tiling.specs.declared.TheConstants.{LONGEST_SIDE, MOST_SQUARES}
 
 -- where all fits the types of the code
 pub record IsFittingGap (width : ℕ) (laid : List Square) (numbers : List ℕ) (v : Segment) : Type 0 where
@@ -28,11 +29,11 @@ columns_of laid numbers = sum_by (λ n. (square_at laid n).s) numbers
 pub record IsPartlyLaid (width : ℕ) (laid : List Square) (numbers : List ℕ) (o : Outline) : Type 0 where
   pub shows : ShowsLaid width laid o
   pub some : 0 < width
-  pub narrow : width ≤ 999_999_999_999_999 * 200
+  pub narrow : width ≤ LONGEST_SIDE * MOST_SQUARES
   pub numbers_are : numbers ≡ concat o.segments
   pub known : AllByRecursion (IsNumber laid) numbers
   pub few : length numbers ≤ length laid
-  pub low : (q : Square) → IsOneOf q laid → q.y + q.s ≤ 999_999_999_999_999 * length laid
+  pub low : (q : Square) → IsOneOf q laid → q.y + q.s ≤ LONGEST_SIDE * length laid
 
 -- what is laid so far in a width, and the numbers of those squares that are open
 pub record PartlyLaid : Type 0 where
@@ -55,12 +56,12 @@ pub record CanLay (b : PartlyLaid) (m : Laying) (o : Outline) : Type 0 where
   pub first_is : m.first ≡ length (front_of o)
   pub end_is : m.end ≡ length (front_of o) + length (valley_of o)
   pub sides : AllByRecursion IsSide m.sides
-  pub room : length b.laid + length m.sides ≤ 200
+  pub room : length b.laid + length m.sides ≤ MOST_SQUARES
 
 -- all squares are laid, and one segment is left
 pub record IsClosed (width : ℕ) (laid : List Square) (numbers : List ℕ) (o : Outline) : Type 0 where
   pub partly : IsPartlyLaid width laid numbers o
   pub one : length o.segments ≡ 1
   pub some : 0 < length laid
-  pub few : length laid ≤ 200
+  pub few : length laid ≤ MOST_SQUARES
   pub sides : AllByRecursion (λ q. IsSide q.s) laid

@@ -7,6 +7,7 @@ use Rattle.bk_word.specs.Word.{Word, order_of}
 use Rattle.bk_skel.specs.WideWord.{IsWideWord}
 use Rattle.bk_skel.specs.declared.realising.SolveFault.TheVariants.{Illegal, NoMemory, OpenEnd, Wide}
 use Rattle.bk_skel.specs.declared.realising.SolveFault.{SolveFault}
+use Rattle.bk_word.specs.declared.TheConstants.{INLINE_ORDER}
 
 -- the move at this place, from 1, is the first that isn't legal after those before it
 pub record IsFirstIllegal (w : Word) (place : ℕ) : Type 0 where
@@ -21,4 +22,4 @@ abbrev pub IsSolveFault : Word → SolveFault → Type 0
 IsSolveFault w (Illegal place) = IsFirstIllegal w place
 IsSolveFault w OpenEnd = IsLegal w × (1 < length (outline_of w).segments)
 IsSolveFault w Wide = IsComplete w × IsWideWord w
-IsSolveFault w NoMemory = IsComplete w × (16 < order_of w)
+IsSolveFault w NoMemory = IsComplete w × (INLINE_ORDER < order_of w)

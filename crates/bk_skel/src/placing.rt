@@ -86,16 +86,16 @@ pub(crate) fn place(
         → IsSomeAnd (tiling_found result tiling.new) (λ t. t ≡ u) }
 {
     let moves = skel.moves();
-    let width = sum_of(&sides[..usize::from(skel.turn(0).count)]);
+    let width = sum_of(&sides[..usize::from(skel.record_at(0).count)]);
     laying.width = width;
     laying.laid.clear();
     laying.numbers.clear();
     for i in 0..moves {
-        let turn = skel.turn(i);
+        let noted = skel.record_at(i);
         let from = laying.laid.len();
-        let new = &sides[from..from + usize::from(turn.count)];
-        let first = usize::from(turn.first);
-        let end = first + usize::from(turn.closed);
+        let new = &sides[from..from + usize::from(noted.count)];
+        let first = usize::from(noted.first);
+        let end = first + usize::from(noted.closed);
         let signs = skel.signs_at(i);
         if !lay_move(laying, first, end, signs, new) {
             return Realised::Nothing;

@@ -13,10 +13,12 @@ ghost use Rattle.bk_skel.specs.SolveRefusal.{IsFirstIllegal, IsSolveFault};
 ghost use Rattle.bk_word_net.specs.Realised.{IsRealised};
 ghost use Rattle.bk_skel.specs.WideWord.{HasLargeCurrent, IsWideWord};
 ghost use Rattle.bk_word_net.specs.WordNet.{net_of_word};
+ghost use Rattle.bk_word.specs.declared.TheConstants.{INLINE_ORDER};
+ghost use Rattle.bk_tiling.specs.declared.TheConstants.{MOST_SQUARES};
 
 use crate::placing::{LayingRoom, Realised, place};
 use arrayvec::ArrayVec;
-use bk_flow::{Flow, FlowFault, NarrowFlow, SMALL, narrow_flow, solve};
+use bk_flow::{Flow, FlowFault, MOST_SMALL_WIRES, NarrowFlow, narrow_flow, solve};
 use bk_frac::Wide;
 use bk_play::Skel;
 use bk_tiling::{LONGEST_SIDE, MOST_SQUARES, Tiling};
@@ -43,7 +45,7 @@ pub enum SolveFault {
 /// memory.
 pub fn realise_small(skel: &Skel) -> Result<Option<Tiling>, Wide>
     requires closed { IsComplete skel.now }
-    requires few { order_of skel.now ≤ 16 }
+    requires few { order_of skel.now ≤ INLINE_ORDER }
     ensures realised { IfOk result (IsRealised skel.now) }
     ensures wide { IsErr result ↔ IsWideWord skel.now }
     ensures narrow { IsOk result }
@@ -55,7 +57,7 @@ pub fn realise_small(skel: &Skel) -> Result<Option<Tiling>, Wide>
 /// a tiling.
 pub fn flow_of(skel: &Skel) -> NarrowFlow
     requires closed { IsComplete skel.now }
-    requires few { order_of skel.now ≤ 16 }
+    requires few { order_of skel.now ≤ INLINE_ORDER }
     ensures { IsPrimitiveFlow (net_of_word skel.now) result.total result.currents }
 {
     narrow_flow(&skel.net())
@@ -152,7 +154,7 @@ pub fn realise_in(
     if !room.skel.is_closed() {
         return Err(SolveFault::OpenEnd);
     }
-    if room.skel.order() > SMALL {
+    if room.skel.order() > MOST_SMALL_WIRES {
         return realise_in_memory(alloc, &room.skel, &mut room.laying, tiling);
     }
     Ok(realise_few(&room.skel, &mut room.laying, tiling))
@@ -192,7 +194,7 @@ fn play_word(skel: &mut Skel, word: &Word) -> Result<(), usize>
 // What the flow of a word's net makes of a closed skeleton of at most 16 squares.
 fn realise_few(skel: &Skel, laying: &mut LayingRoom, tiling: &mut Tiling) -> Realised
     requires closed { IsComplete skel.now }
-    requires few { order_of skel.now ≤ 16 }
+    requires few { order_of skel.now ≤ INLINE_ORDER }
     ensures { IsRealised skel.now (tiling_found result tiling.new) }
 {
     realise_by_in(skel, &flow_of(skel), laying, tiling)
@@ -253,7 +255,7 @@ fn has_large(currents: &[i128]) -> bool
 
 // The currents as sides, where each is at least 1.
 fn sides_of(currents: &[i128]) -> Option<ArrayVec<u64, MOST_SQUARES>>
-    requires few { length currents.now ≤ 200 }
+    requires few { length currents.now ≤ MOST_SQUARES }
     requires small { All (λ c. nat_abs c < 10 ^ 15) currents.now }
     ensures sides { IfSome result (λ s. AllByRecursion IsSide s.items) }
     ensures currents { IfSome result (λ s. currents.now ≡ map pos s.items) }
@@ -270,8 +272,8 @@ fn sides_of(currents: &[i128]) -> Option<ArrayVec<u64, MOST_SQUARES>>
 }
 
 // The currents of few squares as sides, where each is at least 1.
-fn sides_of_few(currents: &[i64]) -> Option<ArrayVec<u64, SMALL>>
-    requires few { length currents.now ≤ 16 }
+fn sides_of_few(currents: &[i64]) -> Option<ArrayVec<u64, MOST_SMALL_WIRES>>
+    requires few { length currents.now ≤ INLINE_ORDER }
     requires small { All (λ c. nat_abs c < 10 ^ 15) currents.now }
     ensures sides { IfSome result (λ s. AllByRecursion IsSide s.items) }
     ensures currents { IfSome result (λ s. currents.now ≡ map pos s.items) }

@@ -23,7 +23,7 @@ pub use laws::{
 pub use reader::{Ending, Header, Table};
 use reader::{Place, kind_of};
 use thiserror::Error;
-pub use writer::{LONGEST_CODE_TEXT, LONGEST_SIZE_TEXT, write_code, write_size};
+pub use writer::{LONGEST_CODE_TEXT, LONGEST_SIDE_TEXT, LONGEST_SIZE_TEXT, write_code, write_size};
 
 /// What a line of codes stands for: nothing; a code, with the order and the size that are stated; or a table row, which
 /// states an order and a size and gives the sides without groups.

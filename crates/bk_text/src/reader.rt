@@ -4,7 +4,7 @@ ghost use Rattle.std.specs.Prelude.{◌≡◌, ◌<◌, ◌≤◌};
 ghost use Rattle.bk_text.specs.LineReading.{closes_group as closes, ended_side as ended_before, line_ending_at};
 ghost use Rattle.bk_text.specs.LineReading.{last_side as last, line_kind_of as kind_of_byte};
 ghost use Rattle.bk_text.specs.LineReading.{behind_number, close_group as closed_group};
-ghost use Rattle.bk_text.specs.LineReading.{field_with_digit as longer_number, next_line_place};
+ghost use Rattle.bk_text.specs.LineReading.{field_with_digit, next_line_place};
 ghost use Rattle.bk_text.specs.LineReading.{order_alone as only_order};
 ghost use Rattle.bk_text.specs.LineReading.{most as most_of};
 
@@ -156,15 +156,15 @@ impl Field {
         ensures { result ≡ next_line_place (Place.Number self value) kind }
     {
         match kind {
-            Kind::Zero => self.longer(value, 0),
-            Kind::Digit(digit) => self.longer(value, digit),
+            Kind::Zero => self.with_digit(value, 0),
+            Kind::Digit(digit) => self.with_digit(value, digit),
             _ => self.behind(value, kind),
         }
     }
 
     // The place behind a further digit of a number.
-    fn longer(self, value: u64, digit: u8) -> Option<Place>
-        ensures { result ≡ longer_number self value digit }
+    fn with_digit(self, value: u64, digit: u8) -> Option<Place>
+        ensures { result ≡ field_with_digit self value digit }
     {
         if value > self.most() / 10 {
             return None;

@@ -51,8 +51,8 @@ pub(crate) fn number_in_front(greatest: u64, bytes: &[u8]) -> (u64, usize)
 {
     let mut number = 0;
     for (i, byte) in bytes.iter().enumerate() {
-        match longer(greatest, number, *byte) {
-            Some(longer) => number = longer,
+        match with_digit(greatest, number, *byte) {
+            Some(next) => number = next,
             None => return (number, i),
         }
     }
@@ -61,7 +61,7 @@ pub(crate) fn number_in_front(greatest: u64, bytes: &[u8]) -> (u64, usize)
 
 // The number behind a further digit, or `None` where the byte is no digit or no number goes on so. Before the first
 // digit it is 0.
-fn longer(greatest: u64, number: u64, byte: u8) -> Option<u64>
+fn with_digit(greatest: u64, number: u64, byte: u8) -> Option<u64>
     requires large { greatest ≤ LARGEST_HEADER_NUMBER }
     requires number { number ≤ greatest }
     ensures { IfSome result (SpellOn greatest (byte ∷ []) number) }
@@ -69,9 +69,9 @@ fn longer(greatest: u64, number: u64, byte: u8) -> Option<u64>
     if byte < b'0' || byte > b'9' {
         return None;
     }
-    let longer = number * 10 + u64::from(byte - b'0');
-    if longer == 0 || longer > greatest {
+    let next = number * 10 + u64::from(byte - b'0');
+    if next == 0 || next > greatest {
         return None;
     }
-    Some(longer)
+    Some(next)
 }

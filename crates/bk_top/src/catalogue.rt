@@ -3,6 +3,7 @@
 ghost use Rattle.std.specs.Prelude.{IfOk, OnErr, ◌<◌, ◌≡◌, ◌≤◌};
 ghost use Rattle.bk_ports.specs.Causes.{HasCause};
 ghost use Rattle.bk_word.specs.Word.{order_of};
+ghost use Rattle.bk_word.specs.declared.TheConstants.{LARGEST_LISTED_ORDER};
 ghost use Rattle.bk_catalogue.specs.Following.{start_cursor};
 ghost use Rattle.bk_list.specs.Walked.{listing_of};
 ghost use Rattle.bk_list.specs.Writing.{BeginsListing, StandsBehind, WritesListing};
@@ -18,25 +19,37 @@ use std::alloc::Global;
 use std::marker::Brand;
 use std::sync::ledger::{Blank, Ledger};
 
-// Writes the listing of an order and a class after a word, up to a limit, by members of this kind.
+// What is asked of a catalogue: its order and its class, the word after which a listing begins, and a limit of it.
+#[derive(Drop)]
+pub(crate) struct AskedListing {
+    pub order: u8,
+    pub class: Class,
+    pub from: Option<Word>,
+    pub limit: Option<u64>,
+}
+
+// Writes the listing that is asked by members of this kind.
 #[inline(never)]
 pub(crate) fn list_catalogue<M: Members, O: Sink>(
     alloc: Global,
-    order: u8,
-    class: Class,
-    from: Option<Word>,
-    limit: Option<u64>,
+    asked: AskedListing,
     out: &mut O,
 ) -> Result<Last, Failed>
-    requires least { 2 ≤ order }
-    requires most { order ≤ 16 }
-    requires few { order_of (start_cursor from) ≤ 16 }
-    ensures listed { let l = listing_asked order class from limit in
+    requires least { 2 ≤ asked.order }
+    requires most { asked.order ≤ LARGEST_LISTED_ORDER }
+    requires few { order_of (start_cursor asked.from) ≤ LARGEST_LISTED_ORDER }
+    ensures listed { let l = listing_asked asked.order asked.class asked.from asked.limit in
         IfOk result (λ last. WritesListing l last (O.written out.old) (O.written out.new)) }
-    ensures begun { let l = listing_asked order class from limit in OnErr result
+    ensures begun { let l = listing_asked asked.order asked.class asked.from asked.limit in OnErr result
         (BeginsListing l (O.written out.old) (O.written out.new)) }
     ensures cause { HasCause (O.faults out.old) (O.faults out.new) result }
 {
+    let AskedListing {
+        order,
+        class,
+        from,
+        limit,
+    } = asked;
     let mut members = M::after(alloc, order, class, from);
     list_members::<M, Brand, O>(Blank::new(1), &mut members, limit, out)
 }
@@ -51,7 +64,7 @@ fn list_members<M: Members, L: Ledger, O: Sink>(
     requires name { blank.name ≡ L.name }
     requires parts { blank.parts ≡ L.parts }
     requires some { 0 < L.parts }
-    requires most { (M.at members.old).order ≤ 16 }
+    requires most { (M.at members.old).order ≤ LARGEST_LISTED_ORDER }
     ensures listed { let l = listing_of (M.at members.old) limit in
         IfOk result (λ last. WritesListing l last (O.written out.old) (O.written out.new)) }
     ensures begun { let l = listing_of (M.at members.old) limit in OnErr result

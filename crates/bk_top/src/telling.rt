@@ -14,7 +14,7 @@ pub(crate) fn tell_usage<E: Sink>(err: &mut E)
 {
     let mut text = AnswerBuffer::new();
     write_usage(&mut text);
-    tell(text.as_slice(), err);
+    try_to_write(text.as_slice(), err);
 }
 
 // Writes the text of `help`.
@@ -23,11 +23,11 @@ pub(crate) fn tell_help<E: Sink>(err: &mut E)
 {
     let mut text = AnswerBuffer::new();
     write_help(&mut text);
-    tell(text.as_slice(), err);
+    try_to_write(text.as_slice(), err);
 }
 
 // Writes a text by one call. Where that fails, nothing more is done.
-fn tell<E: Sink>(text: &[u8], err: &mut E)
+fn try_to_write<E: Sink>(text: &[u8], err: &mut E)
     ensures { IsToldText text.now (port E.written E.faults err.old) (port E.written E.faults err.new) }
 {
     let _ = err.write_all(text);

@@ -8,7 +8,7 @@ pub mod Standing
 pub mod PlaceLaws
 pub mod SearchLoop
 pub mod StateLaws
-pub mod SearchTurns
+pub mod LoopSteps
 -- What a complete word tells, and what a walk takes up.
 pub mod MemberEntries
 pub mod UnfitFlows

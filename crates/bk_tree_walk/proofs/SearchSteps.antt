@@ -146,8 +146,8 @@ module _ (n : ℕ) (class : Class) (front : Word) (x m : Move) (met : ℕ) (lega
   up_next = up_by_move front x (move_after m) [] [] (from_less x m (move_after m) least.from (after_itself m))
 
   -- where no member's word begins with it, the search goes on after the move
-  pub turns_back : IsBarren n class (front ++ m ∷ []) → Advances n class (front ++ x ∷ []) (front ++ move_after m ∷ []) met
-  turns_back barren = record {
+  pub goes_past_barren : IsBarren n class (front ++ m ∷ []) → Advances n class (front ++ x ∷ []) (front ++ move_after m ∷ []) met
+  goes_past_barren barren = record {
     up = up_next;
     on = λ cursor before p. fewer_met n class cursor (front ++ move_after m ∷ []) (before + 1) (before + met) (omega arith)
         (met_on n class (front ++ x ∷ []) (front ++ move_after m ∷ []) up_next none cursor before p (front ++ m ∷ []) pushed_tree

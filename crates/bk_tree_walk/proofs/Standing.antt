@@ -15,7 +15,7 @@ use Rattle.bk_walk_cuts.proofs.CutLaws.{after_near, whole_front}
 use Rattle.bk_catalogue.proofs.TreeOfWords.Fitting.{HasShape, IsFit, fit}
 use Rattle.bk_catalogue.proofs.TreeOfWords.MoveOrder.{less_from}
 use Rattle.bk_catalogue.proofs.TreeOfWords.Places.{IsLast}
-use Rattle.bk_tree_walk.proofs.SearchSteps.{climbs, cuts, ends, goes_down, meets_pushed, pushed_tree, turns_back}
+use Rattle.bk_tree_walk.proofs.SearchSteps.{climbs, cuts, ends, goes_down, meets_pushed, pushed_tree, goes_past_barren}
 use Rattle.bk_catalogue.specs.Catalogue.{Entry, IsEntry}
 use Rattle.bk_catalogue.proofs.Members.OneEntry.{entry_complete}
 use Rattle.bk_catalogue.specs.Cuts.{IsBarren}
@@ -173,12 +173,12 @@ module _ (n : ℕ) (class : Class) (front : Word) (m : Move) (few : n ≤ 16) (s
     tree = subst (IsTreeWord n) (sym push) (pushed_tree n class front m m met s.legal least small one)
 
     -- a search goes back from moves where no member's word begins so
-    pub step_turns_back : (popped : Word) (next : Move) → popped ≡ take (length pushed - 1) pushed → next ≡ move_after m → IsBarren n class pushed
+    pub step_past_barren : (popped : Word) (next : Move) → popped ≡ take (length pushed - 1) pushed → next ≡ move_after m → IsBarren n class pushed
         → Advances n class (front ++ m ∷ []) (popped ++ next ∷ []) met × IsSearchState n popped next
-    step_turns_back popped next pop after barren = (
+    step_past_barren popped next pop after barren = (
       subst (λ (b : Word). Advances n class (front ++ m ∷ []) (b ++ next ∷ []) met) (sym same)
           (subst (λ (k : Move). Advances n class (front ++ m ∷ []) (front ++ k ∷ []) met) (sym after)
-          (turns_back n class front m m met s.legal least small one (subst (IsBarren n class) push barren))),
+          (goes_past_barren n class front m m met s.legal least small one (subst (IsBarren n class) push barren))),
       subst (λ (b : Word). IsSearchState n b next) (sym same) (record {
         legal = s.legal;
         small = s.small;

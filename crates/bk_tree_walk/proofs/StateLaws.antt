@@ -15,7 +15,7 @@ use Rattle.bk_walk_cuts.specs.MoveCuts.{GrowsByAtMostOne, IsCut}
 use Rattle.bk_catalogue.specs.Repeated.{HasNoMember}
 use Rattle.bk_tree_walk.specs.Search.{IsKeptSearch, IsReady, IsSearchState, SearchState, StaysOf, StepLeadsTo}
 use Rattle.bk_tree_walk.specs.declared.Went.TheVariants.{Met, On}
-use Rattle.bk_tree_walk.proofs.Standing.{step_cuts, step_goes_down, step_meets, step_turns_back}
+use Rattle.bk_tree_walk.proofs.Standing.{step_cuts, step_goes_down, step_meets, step_past_barren}
 
 -- nothing is pushed
 pub stays_none : (s then : SearchState) (steps : ℕ) → IsKeptSearch s → then.order ≡ s.order → then.class ≡ s.class → then.pushes ≡ s.pushes
@@ -55,7 +55,7 @@ played_stand n front x m stand legal few = record {
 
 module _ (s : SearchState) (kept : IsKeptSearch s) (ready : IsReady s) where
   -- the next move has few squares and signs
-  pub count_few : s.next.count < 17
+  pub count_few : s.next.count ≤ 16
   count_few = omega (arith, ready.few, kept.most)
 
   -- the next move of a ready search has at most 18 signs
@@ -76,8 +76,8 @@ module _ (s : SearchState) (kept : IsKeptSearch s) (ready : IsReady s) where
     -- down and back, where no member's word begins so
     pub leads_back : (popped : Word) (next : Move) → popped ≡ take (length pushed - 1) pushed → next ≡ move_after s.next → IsBarren s.order s.class pushed
         → StepLeadsTo s (record s { front = popped; next = next }) (then - steps) On
-    leads_back popped next pop after barren = step_turns_back s.order s.class s.front s.next kept.most kept.stand ready.legal ready.few pushed is (then - steps)
-        (omega (arith, one)) popped next pop after barren
+    leads_back popped next pop after barren = step_past_barren s.order s.class s.front s.next kept.most kept.stand ready.legal ready.few pushed is
+        (then - steps) (omega (arith, one)) popped next pop after barren
 
     -- down, where the moves are no complete word of the order that a member has
     pub leads_down : (next : Move) → next ≡ first_move → (IsComplete pushed → order_of pushed ≡ s.order → HasNoMember s.class pushed)

@@ -7,6 +7,7 @@ use Rattle.bk_word.specs.Outline.{IsLegalMove}
 use Rattle.bk_word.specs.Play.{IsLegal, outline_of}
 use Rattle.bk_word.specs.Word.{Follows, Move, Word, order_of}
 use Rattle.bk_word.specs.declared.Class.{Class}
+use Rattle.bk_word.specs.declared.TheConstants.{LARGEST_LISTED_ORDER}
 use Rattle.bk_catalogue.specs.NextMove.{move_after}
 use Rattle.bk_tree_walk.specs.declared.Went.{Went}
 use Rattle.bk_tree_walk.specs.declared.Went.TheVariants.{End, Met, On}
@@ -57,8 +58,8 @@ pub record IsSearchState (n : ℕ) (front : Word) (x : Move) : Type 0 where
   pub legal : IsLegal front
   pub small : order_of front ≤ n
   pub some : 0 < x.count
-  pub count : x.count ≤ 17
-  pub signs : length x.signs ≤ 18
+  pub count : x.count ≤ LARGEST_LISTED_ORDER + 1
+  pub signs : length x.signs ≤ LARGEST_LISTED_ORDER + 2
 
 -- from a place the search meets the word, and so many words up to it, itself the last
 abbrev pub Meets : ℕ → Class → Word → Word → ℕ → Type 0
@@ -99,7 +100,7 @@ pub record IsClimbed (before front : Word) (x : Move) : Type 0 where
 -- what holds of each search
 pub record IsKeptSearch (s : SearchState) : Type 0 where
   pub least : 2 ≤ s.order
-  pub most : s.order ≤ 16
+  pub most : s.order ≤ LARGEST_LISTED_ORDER
   pub stand : IsSearchState s.order s.front s.next
   pub known : s.pushes < 2 ^ 64
 

@@ -5,6 +5,7 @@ ghost use Rattle.std.specs.Prelude.{Any, IfNone, IfSome, IsTrue, false, pos, ◌
 ghost use Rattle.bk_net.specs.Flow.{IsPrimitiveFlow};
 ghost use Rattle.bk_word.specs.Play.{IsComplete};
 ghost use Rattle.bk_word.specs.Word.{order_of};
+ghost use Rattle.bk_word.specs.declared.TheConstants.{LARGEST_LISTED_ORDER};
 ghost use Rattle.bk_word_net.specs.WordNet.{net_of_word};
 ghost use Rattle.bk_catalogue.specs.Catalogue.{IsEntry};
 ghost use Rattle.bk_catalogue.specs.Repeated.{HasNoMember, HasTwoAlike};
@@ -26,7 +27,7 @@ pub(crate) fn find_member(
     tiling: &mut Tiling,
 ) -> bool
     requires whole { IsComplete skel.now }
-    requires few { order_of skel.now ≤ 16 }
+    requires few { order_of skel.now ≤ LARGEST_LISTED_ORDER }
     ensures yes { IsTrue result → IsEntry (order_of skel.now) class (record { tiling = tiling.new; word = skel.now }) }
     ensures no { result ≡ false → HasNoMember class skel.now }
 {
@@ -40,7 +41,7 @@ pub(crate) fn find_member(
 // class perfect no two are the same. Of a word without such a flow no member of the class has it.
 fn fit_flow(skel: &Skel, class: Class) -> Option<NarrowFlow>
     requires whole { IsComplete skel.now }
-    requires few { order_of skel.now ≤ 16 }
+    requires few { order_of skel.now ≤ LARGEST_LISTED_ORDER }
     ensures flow { IfSome result (λ f. IsPrimitiveFlow (net_of_word skel.now) f.total f.currents) }
     ensures fit { IfSome result (λ f. ¬ (IsUnfit class f.currents)) }
     ensures none { IfNone result (HasNoMember class skel.now) }

@@ -5,6 +5,7 @@ ghost use Rattle.std.specs.Prelude.{IsTrue, false, length, take, ◌+◌, ◌≡
 ghost use Rattle.bk_word.specs.Outline.{IsLegalMove};
 ghost use Rattle.bk_word.specs.Play.{outline_of};
 ghost use Rattle.bk_word.specs.Word.{order_of};
+ghost use Rattle.bk_word.specs.declared.TheConstants.{INLINE_ORDER, LARGEST_LISTED_ORDER, LARGEST_ORDER};
 ghost use Rattle.bk_tree_walk.specs.Search.{HasPassed, StaysOf, place_of};
 
 use crate::tree_walk::TreeWalk;
@@ -20,9 +21,9 @@ impl TreeWalk {
     #[inline(never)]
     pub fn resume<L: Ledger>(&mut self, cursor: &Word, steps: &mut Steps<L>)
         requires begun { take (length self.old.front) cursor.now ≡ self.old.front }
-        requires few { order_of cursor.now ≤ 16 }
+        requires few { order_of cursor.now ≤ LARGEST_LISTED_ORDER }
         ensures place { HasPassed self.old.order self.old.class cursor.now (place_of self.new) 0 }
-        ensures few { steps.new ≤ steps.old + 16 }
+        ensures few { steps.new ≤ steps.old + LARGEST_LISTED_ORDER }
         ensures stays { StaysOf self.old self.new steps.old steps.new }
     {
         'moves: for i in self.lined.skel().moves()..cursor.moves() {
@@ -38,7 +39,7 @@ impl TreeWalk {
 
 // Whether a move is legal, and hangs no more squares than the order leaves.
 fn can_play(lined: &LinedSkel, m: &Move, order: u8) -> bool
-    requires { m.now.count ≤ 200 }
+    requires { m.now.count ≤ LARGEST_ORDER }
     ensures legal { IsTrue result → IsLegalMove (outline_of lined.now) m.now }
     ensures few { IsTrue result → order_of lined.now + m.now.count ≤ order }
     ensures no { result ≡ false → IsLegalMove (outline_of lined.now) m.now → order_of lined.now + m.now.count ≤ order
@@ -50,7 +51,7 @@ fn can_play(lined: &LinedSkel, m: &Move, order: u8) -> bool
 
 /// The word of the moves that are played, at most 16 squares. It takes no memory.
 pub fn word_played(alloc: Global, skel: &Skel) -> Word
-    requires { order_of skel.now ≤ 16 }
+    requires { order_of skel.now ≤ INLINE_ORDER }
     ensures { result ≡ skel.now }
 {
     let mut word = Word::new(alloc);
@@ -67,7 +68,7 @@ pub fn word_played(alloc: Global, skel: &Skel) -> Word
 
 /// A copy of a word of at most 16 squares. It takes no memory.
 pub fn copy_of(alloc: Global, word: &Word) -> Word
-    requires { order_of word.now ≤ 16 }
+    requires { order_of word.now ≤ INLINE_ORDER }
     ensures { result ≡ word.now }
 {
     match word.copy(alloc) {

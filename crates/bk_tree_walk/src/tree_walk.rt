@@ -6,6 +6,7 @@ ghost use Rattle.std.specs.Prelude.{◌∷◌, ◌≡◌, ◌≤◌};
 ghost use Rattle.bk_word.specs.Outline.{IsLegalMove};
 ghost use Rattle.bk_word.specs.Play.{IsComplete, outline_of};
 ghost use Rattle.bk_word.specs.Word.{order_of};
+ghost use Rattle.bk_word.specs.declared.TheConstants.{LARGEST_LISTED_ORDER};
 ghost use Rattle.bk_catalogue.specs.NextMove.{first_move as first_of_all, open_sides as sides_open};
 ghost use Rattle.bk_catalogue.specs.Catalogue.{IsEntry};
 ghost use Rattle.bk_catalogue.specs.Repeated.{HasNoMember};
@@ -59,7 +60,7 @@ impl TreeWalk {
     /// A search that has played no move.
     pub fn new(order: u8, class: Class) -> TreeWalk
         requires least { 2 ≤ order }
-        requires most { order ≤ 16 }
+        requires most { order ≤ LARGEST_LISTED_ORDER }
         ensures { result ≡ record { order = order; class = class; front = []; next = first_of_all; pushes = 0 } }
     {
         TreeWalk {
@@ -109,9 +110,9 @@ impl TreeWalk {
         self.pushes
     }
 
-    /// Makes the next move legal, so that the search can go on by it: nothing lies between. Where each legal one that
-    /// is left hangs more squares than the order, it takes the last move back, or is at the end, and says where that
-    /// leads.
+    /// Makes the next move the least legal one that isn't before it, so that the search can go on by it. Where that one
+    /// hangs more squares than the order leaves, as each after it does too, it takes the last move back, or is at the
+    /// end where none is played, and says where that leads.
     pub fn settle(&mut self) -> Option<Went>
         ensures settles { SettlesTo self.old self.new result }
         ensures stays { (steps : ℕ) → StaysOf self.old self.new steps steps }
@@ -198,7 +199,7 @@ impl TreeWalk {
     }
 }
 
-// Whether the moves and one more hang more squares than the order.
+// Whether the moves that are played and this one hang more squares than the order.
 fn hangs_over(lined: &LinedSkel, m: &Move, order: u8) -> bool
     ensures over { IsTrue result → order < order_of lined.now + m.now.count }
     ensures few { result ≡ false → order_of lined.now + m.now.count ≤ order }
@@ -215,9 +216,9 @@ fn open_sides(lined: &LinedSkel) -> usize
     open_side(left) + open_side(right)
 }
 
-// Takes the last move back, and makes of the other the next after it. False where there is no move.
+// Takes the last move back, and makes `next` the move after it. False where no move is played.
 fn climb(lined: &mut LinedSkel, next: &mut Move) -> bool
-    requires small { order_of lined.old ≤ 16 }
+    requires small { order_of lined.old ≤ LARGEST_LISTED_ORDER }
     ensures on { IsTrue result → IsClimbed lined.old lined.new next.new }
     ensures end { result ≡ false → lined.old ≡ [] }
     ensures kept { result ≡ false → lined.new ≡ [] }
@@ -241,7 +242,7 @@ fn is_members(
     laying: &mut LayingRoom,
     tiling: &mut Tiling,
 ) -> bool
-    requires order { order ≤ 16 }
+    requires order { order ≤ LARGEST_LISTED_ORDER }
     ensures yes { IsTrue result → IsEntry order class (record { tiling = tiling.new; word = lined.now }) }
     ensures none { result ≡ false → IsComplete lined.now → order_of lined.now ≡ order → HasNoMember class lined.now }
 {

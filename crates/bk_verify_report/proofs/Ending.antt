@@ -106,21 +106,22 @@ module _ (n : ℕ) (last : Verifying) (left left_after a b : Option (List ℕ))
   last_order = ((lines_done n last _ a b r.refused (r.whole).written).followed).order
 
   -- its report was written
-  pub ends_whole : (c : Option (List ℕ)) (differs told : Bool) → told ≡ differs → ClosesReport n last told b c
+  pub ends_whole : (c : Option (List ℕ)) (differs told : Bool) → told ≡ differs → ClosesReport (last.entries).order last told b c
       → IsReadWhole (λ lines. (report_of n).whole lines differs) (record { left = left; left_after = left_after; written = a; written_after = c })
   ends_whole c differs told e k =
       whole_behind (λ lines. AreAllEntered (entering_from rules (none_entered n) 1) last lines r.refused) (λ lines. (report_of n).whole lines differs)
       left left_after a b c r.whole
       (λ lines entered. told_report n last lines a b c (lines_done n last lines a b r.refused entered) differs
-      (subst (λ (d : Bool). ClosesReport n last d b c) e k))
+      (subst (λ (m : ℕ). ClosesReport m last differs b c) last_order (subst (λ (d : Bool). ClosesReport (last.entries).order last d b c) e k)))
 
   -- a write behind the lines of a list that was read to its end failed
-  pub ends_broken : (c : Option (List ℕ)) → IsClosingBegun n last b c
+  pub ends_broken : (c : Option (List ℕ)) → IsClosingBegun (last.entries).order last b c
       → IsReadWhole (report_of n).begun_behind (record { left = left; left_after = left_after; written = a; written_after = c })
   ends_broken c k =
       whole_behind (λ lines. AreAllEntered (entering_from rules (none_entered n) 1) last lines r.refused) (report_of n).begun_behind
       left left_after a b c r.whole
-      (λ lines entered. told_front n last lines a b c (lines_done n last lines a b r.refused entered) k)
+      (λ lines entered. told_front n last lines a b c (lines_done n last lines a b r.refused entered)
+      (subst (λ (m : ℕ). IsClosingBegun m last b c) last_order k))
 
 -- all was read where the lines end so
 pub whole_at : (output : Output) (streams : Streams) (ended : Ended) → (ended ≡ NoneRefused) ⊎ (ended ≡ SomeRefused) → EndsWith output streams ended

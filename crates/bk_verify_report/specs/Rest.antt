@@ -3,6 +3,7 @@
 -- the word of no moves.
 use Rattle.std.specs.Prelude.{List, [], false, ℕ, ◌≡◌, ◌≤◌}
 use Rattle.bk_word.specs.declared.Class.TheVariants.{Perfect}
+use Rattle.bk_word.specs.declared.TheConstants.{LARGEST_LISTED_ORDER}
 use Rattle.bk_verify_report.specs.KeptEntries.{CountsMembers, IsUpTo, Kept, EntriesState}
 use Rattle.bk_members.specs.Walking.{WalkState}
 
@@ -20,6 +21,6 @@ rest_of s = record {
 
 -- what holds of what a verifier leaves
 pub record IsKeptRest (walk : WalkState) (members : ℕ) : Type 0 where
-  pub most : walk.order ≤ 16
+  pub most : walk.order ≤ LARGEST_LISTED_ORDER
   pub class : walk.class ≡ Perfect
   pub reached : CountsMembers walk.order (IsUpTo walk.cursor) members

@@ -3,6 +3,7 @@
 ghost use Rattle.std.specs.Prelude.{IfOk, OnErr, OnOk, [], ◌<◌, ◌≡◌, ◌≤◌};
 ghost use Rattle.bk_ports.specs.Causes.{HasCause};
 ghost use Rattle.bk_word.specs.declared.Class.TheVariants.{Perfect};
+ghost use Rattle.bk_word.specs.declared.TheConstants.{LARGEST_LISTED_ORDER};
 ghost use Rattle.bk_catalogue.specs.Following.{HasNoneAfter};
 ghost use Rattle.bk_verify_report.specs.ReportEnd.{kept_of_rest};
 ghost use Rattle.bk_verify_report.specs.KeptEntries.{AreKeptAfter};
@@ -30,7 +31,6 @@ struct LineCounts {
 // Writes the missing members and the last line, and tells whether the list and the catalogue differ.
 pub(crate) fn close_report<M: Members, L: Ledger, O: Sink>(
     alloc: Global,
-    order: u8,
     state: Verifying,
     blank: Blank,
     buffer: &mut AnswerBuffer,
@@ -39,10 +39,10 @@ pub(crate) fn close_report<M: Members, L: Ledger, O: Sink>(
     requires name { blank.name ≡ L.name }
     requires parts { blank.parts ≡ L.parts }
     requires some { 0 < L.parts }
-    requires most { order ≤ 16 }
-    requires order { state.entries.order ≡ order }
-    ensures closed { IfOk result (λ differs. ClosesReport order state differs (O.written out.old) (O.written out.new)) }
-    ensures begun { OnErr result (IsClosingBegun order state (O.written out.old) (O.written out.new)) }
+    requires most { state.entries.order ≤ LARGEST_LISTED_ORDER }
+    ensures closed { IfOk result
+        (λ differs. ClosesReport state.entries.order state differs (O.written out.old) (O.written out.new)) }
+    ensures begun { OnErr result (IsClosingBegun state.entries.order state (O.written out.old) (O.written out.new)) }
     ensures cause { HasCause (O.faults out.old) (O.faults out.new) result }
 {
     let Verifying {
@@ -58,26 +58,25 @@ pub(crate) fn close_report<M: Members, L: Ledger, O: Sink>(
     };
     let mut rest = Rest::<M>::of(alloc, entries);
     let mut steps = Steps::<L>::new(blank);
-    close_rest(order, &mut rest, lines, &mut steps, buffer, out)
+    close_rest(&mut rest, lines, &mut steps, buffer, out)
 }
 
 // Writes the missing members and the last line by what is left of the members, which no line was written of yet, and by
 // the counts of the lines.
 fn close_rest<M: Members, L: Ledger, O: Sink>(
-    order: u8,
     rest: &mut Rest<M>,
     lines: LineCounts,
     steps: &mut Steps<L>,
     buffer: &mut AnswerBuffer,
     out: &mut O,
 ) -> Result<bool, Failed>
-    requires most { order ≤ 16 }
-    requires order { rest.old.walk.order ≡ order }
+    requires most { rest.old.walk.order ≤ LARGEST_LISTED_ORDER }
     requires start { rest.old.walk.cursor ≡ [] }
     ensures closed { IfOk result (λ differs.
-        ClosesReport order (kept_of_rest rest.old lines) differs (O.written out.old) (O.written out.new)) }
+        ClosesReport rest.old.walk.order (kept_of_rest rest.old lines) differs (O.written out.old) (O.written out.new)) }
     ensures begun { OnErr result
-        (IsClosingBegun order (kept_of_rest rest.old lines) (O.written out.old) (O.written out.new)) }
+        (IsClosingBegun rest.old.walk.order (kept_of_rest rest.old lines) (O.written out.old)
+        (O.written out.new)) }
     ensures cause { HasCause (O.faults out.old) (O.faults out.new) result }
 {
     let missing = write_missing_members(rest, steps, buffer, out)?;
@@ -88,7 +87,13 @@ fn close_rest<M: Members, L: Ledger, O: Sink>(
         repeated: lines.repeated,
         refused: lines.refused,
     };
-    write_verified(Last::End, order, counts.in_order(), rest.cursor(), buffer);
+    write_verified(
+        Last::End,
+        rest.order(),
+        counts.in_order(),
+        rest.cursor(),
+        buffer,
+    );
     out.write_all(buffer.as_slice())?;
     Ok(counts.has_fault())
 }
@@ -100,7 +105,7 @@ fn write_missing_members<M: Members, L: Ledger, O: Sink>(
     buffer: &mut AnswerBuffer,
     out: &mut O,
 ) -> Result<u64, Failed>
-    requires most { rest.old.walk.order ≤ 16 }
+    requires most { rest.old.walk.order ≤ LARGEST_LISTED_ORDER }
     requires start { rest.old.walk.cursor ≡ [] }
     ensures listed { IfOk result
         (λ missing. AreMissingListed (record { order = rest.old.walk.order; pairs = rest.old.pairs })

@@ -1,8 +1,9 @@
 //! The lines of a list, entered one after another.
 
-ghost use Rattle.std.specs.Prelude.{IfOk, List, OnErr, OnOk, ◌+◌, ◌^◌, ◌≡◌, ◌≤◌};
+ghost use Rattle.std.specs.Prelude.{IfOk, List, OnErr, OnOk, ℕ, ◌+◌, ◌^◌, ◌≡◌, ◌≤◌};
 ghost use Rattle.bk_ports.specs.WrittenAnswer.{HasOutcome, IsAnswerBegun};
 ghost use Rattle.bk_ports.specs.Causes.{HasCause};
+ghost use Rattle.bk_word.specs.declared.TheConstants.{LARGEST_LISTED_ORDER};
 ghost use Rattle.bk_answer.specs.Item.{HasTiling};
 
 use crate::{Entries, Fed, NoMemory};
@@ -43,7 +44,7 @@ impl VerifyRegister {
     // A register for the catalogue of an order. No line is entered.
     pub(crate) fn new(alloc: Global, order: u8) -> VerifyRegister
         requires least { 2 ≤ order }
-        requires most { order ≤ 16 }
+        requires most { order ≤ LARGEST_LISTED_ORDER }
         ensures { result ≡ none_entered order }
     {
         VerifyRegister {
@@ -84,7 +85,7 @@ impl Register for VerifyRegister {
     ) -> Result<Outcome, Failed> {
         match lay_line(line, &mut self.desk) {
             Ok(None) => Ok(Outcome::Accepted),
-            Ok(Some(tiling)) => feed(&mut self.kept, number, line, tiling, buffer, out),
+            Ok(Some(tiling)) => feed(&mut self.kept, number, tiling, buffer, out),
             Err(refused) => {
                 self.kept.refused += 1;
                 write_line_refused(number, &refused, buffer);
@@ -99,24 +100,23 @@ impl Register for VerifyRegister {
     ghost still_ready = { still_ready };
 }
 
-// Feeds the tiling of a line, and writes what is told of it.
+// Feeds the tiling of a line of this number, whichever line states it, and writes what is told of it.
 fn feed<O: Sink>(
     state: &mut Verifying,
     number: u64,
-    line: &[u8],
     tiling: &Tiling,
     buffer: &mut AnswerBuffer,
     out: &mut O,
 ) -> Result<Outcome, Failed>
     requires early { number ≤ 2 ^ 31 }
     requires ready { CountsAreBelow state.old number }
-    requires has { HasTiling line.now tiling.now }
-    ensures outcome { IfOk result
-        (λ o. HasOutcome (λ pieces refused. EntersLine state.old number line.now
+    ensures outcome { (line : List ℕ) → HasTiling line tiling.now → IfOk result
+        (λ o. HasOutcome (λ pieces refused. EntersLine state.old number line
         (record { pieces = pieces; refused = refused }) state.new)
-        (MayWantAt state.old number line.now) (O.written out.old) (O.written out.new) o) }
-    ensures failed { OnErr result (IsAnswerBegun (λ pieces refused. (last : Verifying)
-        × EntersLine state.old number line.now (record { pieces = pieces; refused = refused }) last)
+        (MayWantAt state.old number line) (O.written out.old) (O.written out.new) o) }
+    ensures failed { (line : List ℕ) → HasTiling line tiling.now → OnErr result
+        (IsAnswerBegun (λ pieces refused. (last : Verifying)
+        × EntersLine state.old number line (record { pieces = pieces; refused = refused }) last)
         (O.written out.old) (O.written out.new)) }
     ensures cause { HasCause (O.faults out.old) (O.faults out.new) result }
     ensures ready { OnOk result (CountsAreBelow state.new (number + 1)) }

@@ -1,6 +1,7 @@
 //! The entries of a list, held against a catalogue: what each of them is, and what is kept of them.
 
 ghost use Rattle.std.specs.Prelude.{IfOk, MatchOption, OnErr, [], length, ◌≡◌, ◌≤◌};
+ghost use Rattle.bk_word.specs.declared.TheConstants.{INLINE_ORDER, LARGEST_LISTED_ORDER};
 ghost use Rattle.bk_verify_report.specs.KeptEntries.{IsFed, IsFirstSight, IsKeptFrom, AreKeptEntries, IsNotKept};
 
 use crate::kept::KeptMembers;
@@ -47,7 +48,7 @@ impl Entries {
     /// No entries yet, against the catalogue of an order, which is 2 to 16. It takes no memory.
     pub fn new(alloc: Global, order: u8) -> Entries
         requires least { 2 ≤ order }
-        requires most { order ≤ 16 }
+        requires most { order ≤ LARGEST_LISTED_ORDER }
         ensures { result ≡ record { order = order; pairs = [] } }
     {
         Entries {
@@ -83,14 +84,14 @@ impl Entries {
     pub fn order(&self) -> u8
         ensures order { result ≡ self.now.order }
         ensures least { 2 ≤ result }
-        ensures most { result ≤ 16 }
+        ensures most { result ≤ LARGEST_LISTED_ORDER }
     {
         self.order
     }
 
     /// The line from which a tiling of at most 16 squares is kept.
     pub fn line_of(&self, tiling: &Tiling) -> Option<u64>
-        requires { length tiling.now.squares ≤ 16 }
+        requires { length tiling.now.squares ≤ INLINE_ORDER }
         ensures { MatchOption result (IsNotKept self.now.pairs tiling.now) (IsKeptFrom self.now.pairs tiling.now) }
     {
         self.kept.line_of(tiling)

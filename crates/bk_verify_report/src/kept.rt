@@ -1,6 +1,7 @@
 //! The members that were seen, each with the line on which it was first.
 
 ghost use Rattle.std.specs.Prelude.{List, MatchOption, MatchResult, OnErr, OnOk, [], length, ◌++◌, ◌∷◌, ◌≡◌, ◌≤◌};
+ghost use Rattle.bk_word.specs.declared.TheConstants.{INLINE_ORDER};
 ghost use Rattle.bk_verify_report.specs.KeptEntries.{IsKeptFrom, IsNotKept};
 ghost use Rattle.bk_verify_report.specs.StoredMember.{IsKeyOf, IsSeenOf};
 
@@ -59,7 +60,7 @@ impl KeptMembers {
 
     // The line from which a tiling is kept.
     pub(crate) fn line_of(&self, tiling: &Tiling) -> Option<u64>
-        requires { length tiling.now.squares ≤ 16 }
+        requires { length tiling.now.squares ≤ INLINE_ORDER }
         ensures { MatchOption result (IsNotKept self.now tiling.now) (IsKeptFrom self.now tiling.now) }
     {
         let key = flat_of(tiling);
@@ -71,7 +72,7 @@ impl KeptMembers {
 
     // Keeps a tiling that isn't kept, from a line.
     pub(crate) fn keep(&mut self, line: u64, tiling: &Tiling) -> Result<(), NoMemory>
-        requires few { length tiling.now.squares ≤ 16 }
+        requires few { length tiling.now.squares ≤ INLINE_ORDER }
         requires new { IsNotKept self.old tiling.now }
         ensures kept { OnOk result (self.new ≡ self.old ++ record { line = line; tiling = tiling.now } ∷ []) }
         ensures unchanged { OnErr result (self.new ≡ self.old) }
@@ -85,7 +86,7 @@ impl KeptMembers {
 
 // The width and the flat list of a tiling.
 fn flat_of(tiling: &Tiling) -> Flat
-    requires { length tiling.now.squares ≤ 16 }
+    requires { length tiling.now.squares ≤ INLINE_ORDER }
     ensures { IsKeyOf result tiling.now }
 {
     let mut sides = ArrayVec::new();
@@ -100,7 +101,7 @@ fn flat_of(tiling: &Tiling) -> Flat
 
 // The line, and what there is of a tiling besides its width and flat list.
 fn seen_on(line: u64, tiling: &Tiling) -> Seen
-    requires { length tiling.now.squares ≤ 16 }
+    requires { length tiling.now.squares ≤ INLINE_ORDER }
     ensures { IsSeenOf line result tiling.now }
 {
     let mut squares = ArrayVec::new();

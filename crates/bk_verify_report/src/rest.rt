@@ -103,6 +103,13 @@ impl<M: Members> Rest<M> {
         self.walk.entry_room()
     }
 
+    // The order of the catalogue.
+    pub(crate) fn order(&self) -> u8
+        ensures { result ≡ self.now.walk.order }
+    {
+        self.walk.order()
+    }
+
     // The cursor: the word of the member that was given last, or the word of no moves.
     pub(crate) fn cursor(&self) -> &Word {
         self.walk.cursor()

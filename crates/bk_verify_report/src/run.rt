@@ -3,6 +3,7 @@
 ghost use Rattle.std.specs.Prelude.{◌≤◌};
 ghost use Rattle.bk_ports.specs.Ending.{EndsWith, streams_between};
 ghost use Rattle.bk_ports.specs.Faults.{CountsTell, IsCalm, IsDoneOrWanting, faults_between};
+ghost use Rattle.bk_word.specs.declared.TheConstants.{LARGEST_LISTED_ORDER};
 ghost use Rattle.bk_verify_report.specs.VerifyRun.{report_of};
 
 use crate::closing::close_report;
@@ -28,7 +29,7 @@ pub fn verify<M: Members, S: Source, O: Sink>(
     out: &mut O,
 ) -> Ended
     requires least { 2 ≤ order }
-    requires most { order ≤ 16 }
+    requires most { order ≤ LARGEST_LISTED_ORDER }
 
     // What each ending says of the bytes.
     ensures verified { EndsWith (report_of order)
@@ -48,7 +49,7 @@ pub fn verify<M: Members, S: Source, O: Sink>(
         Err(ended) => ended,
         Ok(list) => {
             let mut buffer = AnswerBuffer::new();
-            match close_report::<M, Brand, O>(alloc, order, list, Blank::new(1), &mut buffer, out) {
+            match close_report::<M, Brand, O>(alloc, list, Blank::new(1), &mut buffer, out) {
                 Ok(false) => Ended::NoneRefused,
                 Ok(true) => Ended::SomeRefused,
                 Err(Failed) => Ended::WriteFailed,

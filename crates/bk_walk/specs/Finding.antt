@@ -4,6 +4,7 @@ use Rattle.std.specs.Prelude.{Contains, IsSome, List, length, ℕ, ◌<◌, ◌�
 use Rattle.bk_tiling.specs.Tiling.{Tiling}
 use Rattle.bk_word.specs.Word.{Word}
 use Rattle.bk_word.specs.declared.Class.{Class}
+use Rattle.bk_word.specs.declared.TheConstants.{LARGEST_LISTED_ORDER}
 use Rattle.bk_catalogue.specs.Catalogue.{Entry, IsEntry}
 use Rattle.bk_lay.specs.TilingWord.{IsWordOf}
 use Rattle.bk_layout.specs.NormalImage.{IsMetByNormalWord}
@@ -40,7 +41,7 @@ pub record HasMoreMembers (room : ℕ) (s : Finding) : Type 0 where
 
 -- what holds of each search that has room for so many
 pub record IsFinder (room : ℕ) (s : Finding) : Type 0 where
-  pub few : s.order ≤ 16
+  pub few : s.order ≤ LARGEST_LISTED_ORDER
   pub only : HasOnlyMembers s
   pub cut : IsSome s.numbers.limit → HasMoreMembers room s
 

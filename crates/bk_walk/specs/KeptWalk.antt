@@ -1,6 +1,7 @@
 -- What holds of a walk between its calls.
 use Rattle.std.specs.Prelude.{length, take, true, ◌<◌, ◌^◌, ◌≡◌, ◌≤◌}
 use Rattle.bk_word.specs.Word.{Word, order_of}
+use Rattle.bk_word.specs.declared.TheConstants.{LARGEST_LISTED_ORDER}
 use Rattle.bk_catalogue.specs.Following.{HasNoneAfter}
 use Rattle.bk_members.specs.Walking.{WalkState}
 
@@ -8,8 +9,8 @@ use Rattle.bk_members.specs.Walking.{WalkState}
 -- cursor and hang at most as many squares as the order, and where it has ended no member is left
 pub record IsKeptWalk (w : WalkState) (played : Word) : Type 0 where
   pub least : 2 ≤ w.order
-  pub most : w.order ≤ 16
-  pub few : order_of w.cursor ≤ 16
+  pub most : w.order ≤ LARGEST_LISTED_ORDER
+  pub few : order_of w.cursor ≤ LARGEST_LISTED_ORDER
   pub begun : take (length played) w.cursor ≡ played
   pub small : order_of played ≤ w.order
   pub none : w.ended ≡ true → HasNoneAfter w.order w.class w.cursor

@@ -56,8 +56,14 @@ pub record IsAtNumber (n : ℕ) (front : Word) (number : ℕ) : Type 0 where
   pub order : order_of front ≡ n
   pub number_is : packed front ≡ number
 
+-- where a search stands after a step: the search, the steps counted so far, and the room for a tiling
+pub record Reached : Type 0 where
+  pub tree : SearchState
+  pub steps : ℕ
+  pub tiling : Tiling
+
 -- a step of a search: where it leads, that the tiling is then the member's if it met one, and what it leaves as it is
-pub record IsStep (tree after : SearchState) (before now : ℕ) (tiling : Tiling) (went : Went) : Type 0 where
-  pub leads : StepLeadsTo tree after (now - before) went
-  pub member : went ≡ Met → IsEntry tree.order tree.class (record { tiling = tiling; word = after.front })
-  pub stays : StaysOf tree after before now
+pub record IsStep (tree : SearchState) (steps : ℕ) (after : Reached) (went : Went) : Type 0 where
+  pub leads : StepLeadsTo tree after.tree (after.steps - steps) went
+  pub member : went ≡ Met → IsEntry tree.order tree.class (record { tiling = after.tiling; word = after.tree.front })
+  pub stays : StaysOf tree after.tree steps after.steps

@@ -4,6 +4,7 @@
 -- number 0 doesn't. The least number from 0 on is that of 2e, and behind it there is none.
 use Rattle.std.specs.List.{AllByRecursion}
 use Rattle.std.specs.Prelude.{None, ℕ, ◌<◌, ◌≡◌, ◌≤◌}
+use Rattle.bk_word.specs.declared.TheConstants.{LARGEST_LISTED_ORDER}
 use Rattle.bk_catalogue.specs.Catalogue.{Entry, IsEntry}
 use Rattle.bk_packed.specs.KeptNumbers.{AreAscendingNumbers, IsFirstFrom}
 use Rattle.bk_packed.specs.Packed.{packed}
@@ -17,7 +18,7 @@ IsWhole t = (e : Entry) → IsEntry t.order t.class e → HoldsEntry t e
 
 -- what holds of each table
 pub record IsMemberTable (t : Finding) : Type 0 where
-  pub few : t.order ≤ 16
+  pub few : t.order ≤ LARGEST_LISTED_ORDER
   pub whole : IsWhole t
   pub ascending : AreAscendingNumbers t.numbers.kept
 

@@ -11,6 +11,7 @@ ghost use Rattle.bk_layout.specs.NormalImage.{AreSettledCounts, IsMetByNormalWor
 ghost use Rattle.bk_catalogue.specs.Catalogue.{IsMember, IsOfClass};
 ghost use Rattle.bk_word.specs.Play.{IsComplete};
 ghost use Rattle.bk_word.specs.Word.{Word as Moves, order_of};
+ghost use Rattle.bk_word.specs.declared.TheConstants.{INLINE_ORDER, LARGEST_LISTED_ORDER};
 ghost use Rattle.bk_lay.specs.TilingWord.{IsWordOf};
 ghost use Rattle.bk_packed.specs.KeptNumbers.{AreAscendingNumbers, Holds};
 ghost use Rattle.bk_packed.specs.Packed.{packed};
@@ -22,7 +23,7 @@ ghost use Rattle.bk_walk.specs.Finding.{HasMoreMembers, HasOnlyMembers, IsHeld, 
 use bk_catalogue::is_simple_of;
 use bk_found::{Placed, Ties, best_turn, leaf, lying_size, turned_squares};
 use bk_free_search::{Board, Counts, Leaves};
-use bk_lay::Turns;
+use bk_lay::Laying;
 use bk_packed::{NumberTable, Packed};
 use bk_sym::{canonical, is_canonical};
 use bk_tiling::Tiling;
@@ -37,7 +38,7 @@ pub(crate) struct Finder<const N: usize> {
     class: Class,
     from: u128,
     table: NumberTable<N>,
-    turns: Turns,
+    laying: Laying,
 }
 
 impl<const N: usize> Model for Finder<N> {
@@ -54,7 +55,7 @@ impl<const N: usize> Model for Finder<N> {
 impl<const N: usize> Finder<N> {
     /// One that has met no word.
     pub fn new(order: u8, class: Class, from: u128) -> Finder<N>
-        requires { order ≤ 16 }
+        requires { order ≤ LARGEST_LISTED_ORDER }
         ensures { result ≡ record {
           order = order;
           class = class;
@@ -67,13 +68,13 @@ impl<const N: usize> Finder<N> {
             class,
             from,
             table: NumberTable::new(),
-            turns: Turns::new(),
+            laying: Laying::new(),
         }
     }
 
     /// Begins again as one that has met no word, in the room that it has.
     pub fn begin(&mut self, order: u8, class: Class, from: u128)
-        requires { order ≤ 16 }
+        requires { order ≤ LARGEST_LISTED_ORDER }
         ensures { self.new ≡ record {
           order = order;
           class = class;
@@ -119,12 +120,12 @@ impl<const N: usize> Finder<N> {
     }
 
     /// Brings the numbers into ascending order, each once.
-    pub fn settle(&mut self)
+    pub fn sort_numbers(&mut self)
         ensures fixed { wanted self.new ≡ wanted self.old }
         ensures ascending { AreAscendingNumbers self.new.numbers.kept }
         ensures kept { (x : ℕ) → Holds self.old.numbers x → Holds self.new.numbers x }
     {
-        self.table.settle();
+        self.table.sort_and_thin();
     }
 
     // Puts the word of the canonical tiling of the one that the squares are placed as into the table, where this is a
@@ -188,7 +189,7 @@ impl<const N: usize> Finder<N> {
         requires member { IsMember self.old.order self.old.class tiling.now }
         ensures { Puts self.old self.new (IsHeld self.old.from self.new.numbers tiling.now) }
     {
-        let number = Packed::of_tiling(&mut self.turns, tiling).number();
+        let number = Packed::of_tiling(&mut self.laying, tiling).number();
         if self.from <= number {
             self.table.put(number);
         }
@@ -205,7 +206,7 @@ pub(crate) struct Seeker<const N: usize> {
 impl<const N: usize> Seeker<N> {
     /// One whose finder has met no word.
     pub fn new(order: u8, class: Class, from: u128) -> Seeker<N>
-        requires { order ≤ 16 }
+        requires { order ≤ LARGEST_LISTED_ORDER }
         ensures { result.finder
             ≡ record { order = order; class = class; from = from; numbers = record { kept = []; limit = None } } }
     {
@@ -235,7 +236,7 @@ impl<const N: usize> Leaves for Seeker<N> {
 // The squares of the image that the board's complete word can meet, if they can be those of one of the class.
 fn placed_at(board: &Board, class: Class) -> Option<Placed>
     requires complete { IsComplete board.now }
-    requires few { order_of board.now ≤ 16 }
+    requires few { order_of board.now ≤ INLINE_ORDER }
     ensures { (u : Tiled) → IsMetByNormalWord u board.now → IsPrimitiveTiling u → IsOfClass class u → IsFound u result }
 {
     let counts = board.counts();

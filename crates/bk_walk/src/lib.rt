@@ -5,7 +5,7 @@
 mod finding;
 mod leaping;
 mod member_table;
-mod search;
+mod next_member;
 mod table_answer;
 mod walk;
 

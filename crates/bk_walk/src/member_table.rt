@@ -2,6 +2,7 @@
 
 ghost use Rattle.std.specs.Prelude.{IfNone, IfSome, IsTrue, None, [], is_some, ◌≡◌, ◌≤◌};
 ghost use Rattle.bk_word.specs.declared.Class.TheVariants.{Simple};
+ghost use Rattle.bk_word.specs.declared.TheConstants.{LARGEST_LISTED_ORDER};
 ghost use Rattle.bk_packed.specs.KeptNumbers.{AreAscendingNumbers};
 ghost use Rattle.bk_walk.specs.Finding.{HasMoreMembers, HasOnlyMembers};
 ghost use Rattle.bk_walk.specs.Members.{HasNoneFrom, IsNextNumber, IsWhole};
@@ -49,7 +50,7 @@ impl<const N: usize> MemberTable<N> {
     /// that is kept.
     pub fn of(order: u8, class: Class, from: u128) -> MemberTable<N>
         requires least { 3 ≤ order }
-        requires most { order ≤ 16 }
+        requires most { order ≤ LARGEST_LISTED_ORDER }
         ensures order { result.order ≡ order }
         ensures class { result.class ≡ class }
         ensures from { result.from ≡ from }
@@ -64,7 +65,7 @@ impl<const N: usize> MemberTable<N> {
     #[inline(never)]
     pub fn fill(&mut self, order: u8, class: Class, from: u128)
         requires least { 3 ≤ order }
-        requires most { order ≤ 16 }
+        requires most { order ≤ LARGEST_LISTED_ORDER }
         ensures order { self.new.order ≡ order }
         ensures class { self.new.class ≡ class }
         ensures from { self.new.from ≡ from }
@@ -72,7 +73,7 @@ impl<const N: usize> MemberTable<N> {
     {
         self.seeker.finder.begin(order, class, from);
         search(&mut self.seeker, order);
-        self.seeker.finder.settle();
+        self.seeker.finder.sort_numbers();
     }
 
     /// The order of the members.

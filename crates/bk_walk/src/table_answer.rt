@@ -7,7 +7,7 @@ ghost use Rattle.bk_walk.specs.Leaping.{Tells};
 use crate::MemberTable;
 use bk_word::Class;
 
-/// So many members make a table worth its room: all of order 16.
+/// The table of a walk has room for so many members: for all of an order up to 16.
 pub const MOST_MEMBERS: usize = 10_240;
 
 /// The least order of which a walk makes a table. Walks of lower orders push few moves, so a listing that is cut and
@@ -28,10 +28,10 @@ pub(crate) enum TableAnswer {
     Nothing,
 }
 
-// What the table tells of the members of this order and class whose numbers aren't below this one. One of another order
-// or class, or of members from a greater number on, tells nothing; nor does one that was cut, of those above its
+// What the table tells of the members of this order and class whose numbers aren't below this one. A table of another
+// order or class, or one that begins at a greater number, tells nothing; nor does one that was cut, of those above its
 // greatest.
-pub(crate) fn tell<const ROOM: usize>(
+pub(crate) fn answer_of_table<const ROOM: usize>(
     table: &MemberTable<ROOM>,
     order: u8,
     class: Class,

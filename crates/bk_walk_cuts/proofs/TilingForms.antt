@@ -21,7 +21,7 @@ use Rattle.bk_word.specs.Word.{Move, Word}
 use Rattle.bk_word.specs.declared.Sign.{Sign}
 use Rattle.bk_lay.proofs.Filling.{is_under}
 use Rattle.bk_lay.proofs.Joining.{length-signs, levels}
-use Rattle.bk_lay.proofs.Laying.{under_chain}
+use Rattle.bk_lay.proofs.ValleySquares.{under_chain}
 use Rattle.bk_lay.proofs.Places.{HasFirst, HasLast, Placed, placed}
 use Rattle.bk_lay.proofs.ValleySegment.{valley_segment}
 use Rattle.bk_lay.proofs.Valleys.{one_leftmost_valley}

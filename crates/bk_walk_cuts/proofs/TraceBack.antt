@@ -8,7 +8,6 @@ use Rattle.bk_forms.specs.Form.{Form}
 use Rattle.bk_walk_cuts.specs.SidesOfTilings.{AreSidesOf, HoldAfter, HoldFor, LaidBy}
 use Rattle.bk_walk_cuts.specs.Trace.{IsMarked, IsTraceOf}
 use Rattle.bk_walk_cuts.specs.declared.tracing.Mark.{Mark}
-use Rattle.bk_walk_cuts.proofs.TraceMore.{mark_before}
 
 -- ---- the last move taken back
 

@@ -4,11 +4,12 @@ use Rattle.bk_word.specs.declared.Sign.TheVariants.{Even}
 use Rattle.bk_forms.specs.Form.{Form, with_column}
 use Rattle.bk_forms.specs.FormLaws.{MeetsEquations}
 use Rattle.bk_forms.specs.Reduction.{comparison}
+use Rattle.bk_forms.specs.declared.form.TheConstants.{MOST_SIDES}
 use Rattle.bk_walk_cuts.specs.SideForms.{zero_form}
 
 -- the sides still meet all equations, and there is no contradiction
 pub record Answers (kept : List Form) (sides : List ℕ) (contradiction : Bool) : Type 0 where
-  pub meets : MeetsEquations 16 kept sides
+  pub meets : MeetsEquations MOST_SIDES kept sides
   pub none : contradiction ≡ false
 
 -- the equations before are the first ones still

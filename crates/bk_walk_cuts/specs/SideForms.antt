@@ -10,10 +10,11 @@ use Rattle.bk_word.specs.Play.{new_squares}
 use Rattle.bk_word.specs.Signs.{is_even}
 use Rattle.bk_word.specs.Word.{Move}
 use Rattle.bk_forms.specs.Form.{Form, with_column}
+use Rattle.bk_forms.specs.declared.form.TheConstants.{MOST_SIDES}
 
 -- the form of zeros
 abbrev pub zero_form : Form
-zero_form = replicate 16 (pos 0)
+zero_form = replicate MOST_SIDES (pos 0)
 
 -- the sum of the sides of the squares with these numbers
 abbrev pub sum_of_sides : List ℕ → Form

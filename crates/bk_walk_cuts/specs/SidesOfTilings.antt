@@ -14,6 +14,7 @@ use Rattle.bk_word.specs.declared.Sign.{Sign}
 use Rattle.bk_lay.specs.TilingWord.{IsLeftmostValley, move_under, squares_under}
 use Rattle.bk_forms.specs.Form.{Form, form_value}
 use Rattle.bk_forms.specs.FormLaws.{Compares, MeetsEquations}
+use Rattle.bk_forms.specs.declared.form.TheConstants.{MOST_SIDES}
 use Rattle.bk_walk_cuts.specs.SideForms.{levels_along, new_bottoms, sum_of_sides, zero_form}
 
 -- once some squares are laid, the moves lay more, each under the leftmost valley, and then these are laid
@@ -24,19 +25,19 @@ LaidBy t laid (m ∷ moves) laid_then = (v : Segment) × IsLeftmostValley t.widt
 
 -- sixteen positive numbers, the first of which are the sides of the laid squares in order
 pub record AreSidesOf (laid : List Square) (sides : List ℕ) : Type 0 where
-  pub few : length laid ≤ 16
-  pub long : length sides ≡ 16
+  pub few : length laid ≤ MOST_SIDES
+  pub long : length sides ≡ MOST_SIDES
   pub positive : AllByRecursion (λ s. 0 < s) sides
   pub each : (k : ℕ) (q : Square) → slice_get laid k ≡ Some q → slice_index_or sides k 0 ≡ q.s
 
 -- at these sides the form is the level of the square's bottom
 pub record IsBottomOf (sides : List ℕ) (form : Form) (q : Square) : Type 0 where
-  pub long : length form ≡ 16
+  pub long : length form ≡ MOST_SIDES
   pub level : form_value form sides ≡ pos (q.y + q.s)
 
 -- the sides meet the equations, and the forms are the levels of the bottoms of the laid squares
 pub record HoldFor (laid : List Square) (sides : List ℕ) (kept bottoms : List Form) : Type 0 where
-  pub equations : MeetsEquations 16 kept sides
+  pub equations : MeetsEquations MOST_SIDES kept sides
   pub levels : AllZip (IsBottomOf sides) bottoms laid
 
 -- equations and levels that hold for each tiling whose word begins with the moves
@@ -67,7 +68,7 @@ MovesHold = (front : Word) (m : Move) (bottoms : List Form) (t : Tiling) (laid l
 
 -- the sides meet what is kept, and what a move after a word asks, which compares these levels
 pub record MeetsMove (w : Word) (m : Move) (kept levels : List Form) (sides : List ℕ) : Type 0 where
-  pub meets : MeetsEquations 16 kept sides
+  pub meets : MeetsEquations MOST_SIDES kept sides
   pub widths : valley_of (outline_of w) ≢ [] → form_value (sum_of_sides (valley_of (outline_of w))) sides
       ≡ form_value (sum_of_sides (new_squares (outline_of w) m)) sides
   pub signs : AgreeWith m.signs levels sides

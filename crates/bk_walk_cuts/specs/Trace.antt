@@ -9,6 +9,7 @@ use Rattle.bk_word.specs.declared.Class.{Class}
 use Rattle.bk_word.specs.declared.Class.TheVariants.{Perfect}
 use Rattle.bk_forms.specs.Form.{Form}
 use Rattle.bk_walk_cuts.specs.SidesOfTilings.{HoldAfter, LaidBy}
+use Rattle.bk_walk_cuts.specs.declared.levels.TheConstants.{FOLLOWED}
 use Rattle.bk_walk_cuts.specs.declared.tracing.Mark.{Mark}
 
 -- each coefficient is at most so much in magnitude
@@ -21,7 +22,7 @@ AreSmall bottoms = (i : ℕ) (form : Form) → slice_get bottoms i ≡ Some form
 
 -- at most 5 bottoms with such levels, as many as squares of the first moves that are followed
 pub record AreFewSmall (bottoms : List Form) : Type 0 where
-  pub few : length bottoms ≤ 5
+  pub few : length bottoms ≤ FOLLOWED
   pub small : AreSmall bottoms
 
 -- the equations, the bottoms, and how many there were of both before each move that is followed
@@ -44,7 +45,7 @@ pub record IsMarked (w : Word) (trace : Trace) (j : ℕ) (mark : Mark) : Type 0 
 pub record IsTraceOf (w : Word) (trace : Trace) : Type 0 where
   pub followed : length trace.marks ≤ length w
   pub count : length trace.bottoms ≡ order_of (take (length trace.marks) w)
-  pub few : length trace.bottoms ≤ 5
+  pub few : length trace.bottoms ≤ FOLLOWED
   pub some : length trace.marks ≤ length trace.bottoms
   pub small : AreSmall trace.bottoms
   pub hold : HoldAfter (take (length trace.marks) w) trace.kept trace.bottoms

@@ -8,6 +8,7 @@ ghost use Rattle.bk_word.specs.declared.Sign.{Sign};
 ghost use Rattle.bk_forms.specs.Form.{form_value, with_column};
 ghost use Rattle.bk_forms.specs.FormLaws.{Compares, MeetsEquations};
 ghost use Rattle.bk_forms.specs.Reduction.{addition, comparison, contradiction, kept_after};
+ghost use Rattle.bk_forms.specs.declared.form.TheConstants.{MOST_SIDES};
 ghost use Rattle.bk_walk_cuts.specs.KnownSides.{Answers, AreKnownEqual, AreSidesApart, KeepsFirst};
 ghost use Rattle.bk_walk_cuts.specs.FormCuts.{LevelsContradict, SidesAreEqual, SignIsOther, WidthsContradict};
 ghost use Rattle.bk_walk_cuts.specs.FormCuts.{kept_by_sign, kept_by_signs, kept_by_widths};
@@ -27,7 +28,7 @@ pub(crate) fn contradicts(
     levels: &[Form],
     signs: &[Sign],
 ) -> bool
-    ensures meets { (sides : List ℕ) → MeetsEquations 16 ledger.old sides
+    ensures meets { (sides : List ℕ) → MeetsEquations MOST_SIDES ledger.old sides
         → (valley.now ≢ [] → form_value (sum_seen valley.now) sides ≡ form_value (sum_seen numbers.now) sides)
         → AgreeWith signs.now levels.now sides → Answers ledger.new sides result }
     ensures first { KeepsFirst ledger.old ledger.new }
@@ -47,7 +48,7 @@ pub(crate) fn contradicts(
 // Adds the equation of the squares that end on a valley and those that hang under it, where the valley has squares.
 // Whether it contradicts the equations before.
 fn contradicts_widths(ledger: &mut Ledger, valley: &[u8], numbers: &[u8]) -> bool
-    ensures meets { (sides : List ℕ) → MeetsEquations 16 ledger.old sides
+    ensures meets { (sides : List ℕ) → MeetsEquations MOST_SIDES ledger.old sides
         → (valley.now ≢ [] → form_value (sum_seen valley.now) sides ≡ form_value (sum_seen numbers.now) sides)
         → Answers ledger.new sides result }
     ensures first { KeepsFirst ledger.old ledger.new }
@@ -62,7 +63,7 @@ fn contradicts_widths(ledger: &mut Ledger, valley: &[u8], numbers: &[u8]) -> boo
 
 // Adds an equation. Whether it contradicts those before.
 fn is_contradiction(ledger: &mut Ledger, left: &Form, right: &Form) -> bool
-    ensures meets { (sides : List ℕ) → MeetsEquations 16 ledger.old sides
+    ensures meets { (sides : List ℕ) → MeetsEquations MOST_SIDES ledger.old sides
         → form_value left.now sides ≡ form_value right.now sides → Answers ledger.new sides result }
     ensures first { KeepsFirst ledger.old ledger.new }
     ensures kept { ledger.new ≡ kept_after ledger.old (addition ledger.old left.now right.now) }
@@ -76,7 +77,7 @@ fn is_contradiction(ledger: &mut Ledger, left: &Form, right: &Form) -> bool
 
 // Adds the equations of the levels beside each sign even. Whether one contradicts those before.
 fn contradicts_signs(ledger: &mut Ledger, levels: &[Form], signs: &[Sign]) -> bool
-    ensures meets { (sides : List ℕ) → MeetsEquations 16 ledger.old sides → AgreeWith signs.now levels.now sides
+    ensures meets { (sides : List ℕ) → MeetsEquations MOST_SIDES ledger.old sides → AgreeWith signs.now levels.now sides
         → Answers ledger.new sides result }
     ensures first { KeepsFirst ledger.old ledger.new }
     ensures kept { result ≡ false → ledger.new ≡ kept_by_signs ledger.old levels.now signs.now (length signs.now) }
@@ -97,7 +98,7 @@ fn contradicts_signs(ledger: &mut Ledger, levels: &[Form], signs: &[Sign]) -> bo
 
 // Adds the equation of the levels beside a sign even. Whether it contradicts those before.
 fn contradicts_sign(ledger: &mut Ledger, sign: Sign, left: &Form, right: &Form) -> bool
-    ensures meets { (sides : List ℕ) → MeetsEquations 16 ledger.old sides
+    ensures meets { (sides : List ℕ) → MeetsEquations MOST_SIDES ledger.old sides
         → Compares sign (form_value left.now sides) (form_value right.now sides) → Answers ledger.new sides result }
     ensures first { KeepsFirst ledger.old ledger.new }
     ensures kept { ledger.new ≡ kept_by_sign (Some sign) ledger.old left.now right.now }
@@ -111,7 +112,7 @@ fn contradicts_sign(ledger: &mut Ledger, sign: Sign, left: &Form, right: &Form) 
 
 // Whether the levels beside a sign are known to compare otherwise.
 pub(crate) fn compares_otherwise(ledger: &Ledger, levels: &[Form], signs: &[Sign]) -> bool
-    ensures sound { (sides : List ℕ) → MeetsEquations 16 ledger.now sides → AgreeWith signs.now levels.now sides
+    ensures sound { (sides : List ℕ) → MeetsEquations MOST_SIDES ledger.now sides → AgreeWith signs.now levels.now sides
         → result ≡ false }
     ensures all { SignIsOther ledger.now levels.now signs.now → IsTrue result }
 {
@@ -130,7 +131,7 @@ pub(crate) fn compares_otherwise(ledger: &Ledger, levels: &[Form], signs: &[Sign
 
 // Whether the levels beside a sign are known to compare otherwise. Beside a sign even their equation is kept already.
 fn is_known_otherwise(ledger: &Ledger, sign: Sign, left: &Form, right: &Form) -> bool
-    ensures sound { (sides : List ℕ) → MeetsEquations 16 ledger.now sides
+    ensures sound { (sides : List ℕ) → MeetsEquations MOST_SIDES ledger.now sides
         → Compares sign (form_value left.now sides) (form_value right.now sides) → result ≡ false }
     ensures all { (known : Sign) → sign ≢ Sign.Even → comparison ledger.now left.now right.now ≡ Some known
         → known ≢ sign → IsTrue result }
@@ -154,8 +155,9 @@ fn is_other(compared: Compared, sign: Sign) -> bool
 
 // Whether two of the first sides are known to be equal.
 pub(crate) fn has_equal_sides(ledger: &Ledger, count: usize) -> bool
-    requires { count ≤ 16 }
-    ensures sound { (sides : List ℕ) → MeetsEquations 16 ledger.now sides → AreSidesApart count sides → result ≡ false }
+    requires { count ≤ MOST_SIDES }
+    ensures sound { (sides : List ℕ) → MeetsEquations MOST_SIDES ledger.now sides → AreSidesApart count sides
+        → result ≡ false }
     ensures all { SidesAreEqual ledger.now count → IsTrue result }
 {
     for i in 0..count {
@@ -168,8 +170,8 @@ pub(crate) fn has_equal_sides(ledger: &Ledger, count: usize) -> bool
 
 // Whether a side is known to be equal to one before it.
 fn equals_one_before(ledger: &Ledger, i: usize) -> bool
-    requires { i < 16 }
-    ensures sound { (sides : List ℕ) → MeetsEquations 16 ledger.now sides → AreSidesApart (i + 1) sides
+    requires { i < MOST_SIDES }
+    ensures sound { (sides : List ℕ) → MeetsEquations MOST_SIDES ledger.now sides → AreSidesApart (i + 1) sides
         → result ≡ false }
     ensures all { (j : ℕ) → j < i → AreKnownEqual ledger.now i j → IsTrue result }
 {
@@ -183,9 +185,9 @@ fn equals_one_before(ledger: &Ledger, i: usize) -> bool
 
 // Whether two sides are known to be equal.
 fn are_equal(ledger: &Ledger, i: usize, j: usize) -> bool
-    requires first { i < 16 }
-    requires second { j < 16 }
-    ensures sound { IsTrue result → (sides : List ℕ) → MeetsEquations 16 ledger.now sides
+    requires first { i < MOST_SIDES }
+    requires second { j < MOST_SIDES }
+    ensures sound { IsTrue result → (sides : List ℕ) → MeetsEquations MOST_SIDES ledger.now sides
         → slice_index_or sides i 0 ≡ slice_index_or sides j 0 }
     ensures all { AreKnownEqual ledger.now i j → IsTrue result }
 {

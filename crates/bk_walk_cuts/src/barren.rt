@@ -7,6 +7,7 @@ ghost use Rattle.bk_word.specs.Play.{outline_of};
 ghost use Rattle.bk_word.specs.Word.{order_of};
 ghost use Rattle.bk_word.specs.declared.Class.{Class};
 ghost use Rattle.bk_word.specs.declared.Class.TheVariants.{Perfect};
+ghost use Rattle.bk_word.specs.declared.TheConstants.{LARGEST_LISTED_ORDER};
 ghost use Rattle.bk_catalogue.specs.Cuts.{IsBarren};
 ghost use Rattle.bk_walk_cuts.specs.MoveCuts.{GrowsByAtMostOne, IsCut, IsFrontEndingEven, passed};
 
@@ -21,8 +22,8 @@ use bk_word::{Class, Move, Sign};
 /// is as plain. False if it isn't plain; the move is then as it was.
 pub fn skip(lined: &LinedSkel, class: Class, order: u8, m: &mut Move) -> bool
     requires legal { IsLegalMove (outline_of lined.now) m.old }
-    requires count { m.old.count < 17 }
-    requires signs { length m.old.signs ≤ 18 }
+    requires count { m.old.count ≤ LARGEST_LISTED_ORDER }
+    requires signs { length m.old.signs ≤ LARGEST_LISTED_ORDER + 2 }
     requires small { order_of lined.now + m.old.count ≤ order }
     ensures cut { IsTrue result → IsCut order class lined.now m.old m.new }
     ensures near { GrowsByAtMostOne m.old m.new }

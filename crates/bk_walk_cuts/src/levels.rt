@@ -57,7 +57,7 @@ pub(crate) fn level_at(levels: &[Form], place: usize) -> Form
 
 // The numbers of so many squares that hang after the first ones.
 pub(crate) fn new_numbers(hung: usize, count: u8) -> ArrayVec<u8, FOLLOWED>
-    requires { hung + count ≤ 5 }
+    requires { hung + count ≤ FOLLOWED }
     ensures { result.items ≡ numbers_from (hung + 1) count }
 {
     let mut numbers = ArrayVec::new();
@@ -92,7 +92,7 @@ fn part(squares: &[u8], start: usize, size: u8) -> &[u8]
 
 // The levels that a move's signs compare, where at most 5 squares hang after it.
 pub(crate) fn levels_along(bottoms: &[Form], skel: &Skel, m: &Move) -> ArrayVec<Form, MOST_LEVELS>
-    requires few { order_of skel.now + m.now.count ≤ 5 }
+    requires few { order_of skel.now + m.now.count ≤ FOLLOWED }
     requires bottoms { AreFewSmall bottoms.now }
     ensures { result.items ≡ levels_seen (outline_of skel.now) m.now bottoms.now }
 {
@@ -125,7 +125,7 @@ fn push_beside(
     place: usize,
     wall: bool,
 )
-    requires { length levels.old.items < 7 }
+    requires { length levels.old.items < MOST_LEVELS }
     ensures { levels.new.items ≡ levels.old.items ++ cond wall []
         (level_seen bottoms.now (slice_index_or (outline_of skel.now).segments place []) ∷ []) }
 {
@@ -142,9 +142,9 @@ pub(crate) fn push_bottoms<const N: usize>(
     hung: usize,
     count: u8,
 )
-    requires few { hung + count ≤ 5 }
+    requires few { hung + count ≤ FOLLOWED }
     requires room { length levels.old.items + count ≤ N }
-    requires small { IsSmall 5 valley.now }
+    requires small { IsSmall FOLLOWED valley.now }
     ensures { levels.new.items
         ≡ levels.old.items ++ map (λ n. with_column valley.now (n - 1)) (numbers_from (hung + 1) count) }
 {

@@ -6,6 +6,7 @@ ghost use Rattle.std.specs.Prelude.{IsTrue, [], length, replicate, take, ℕ, �
 ghost use Rattle.bk_word.specs.Outline.{IsLegalMove};
 ghost use Rattle.bk_word.specs.Play.{IsLegal, outline_of};
 ghost use Rattle.bk_word.specs.Word.{order_of};
+ghost use Rattle.bk_word.specs.declared.TheConstants.{LARGEST_ORDER};
 ghost use Rattle.bk_catalogue.specs.Cuts.{IsBarren};
 ghost use Rattle.bk_catalogue.specs.VerticalCut.{line_bound_of};
 ghost use Rattle.bk_walk_cuts.specs.Trace.{IsTraceOf};
@@ -67,7 +68,7 @@ impl LinedSkel {
     /// Plays a move, which must be legal, with at most 200 squares then. It is one step.
     pub fn push<L: Ledger>(&mut self, m: &Move, steps: &mut Steps<L>)
         requires legal { IsLegalMove (outline_of self.old) m.now }
-        requires few { order_of self.old + m.now.count ≤ 200 }
+        requires few { order_of self.old + m.now.count ≤ LARGEST_ORDER }
         ensures moves { self.new ≡ self.old ++ m.now ∷ [] }
         ensures step { steps.new ≡ steps.old + 1 }
     {

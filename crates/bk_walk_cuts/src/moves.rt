@@ -4,6 +4,7 @@
 ghost use Rattle.std.specs.Prelude.{IsTrue, None, Some, [], false, length, ◌+◌, ◌<◌, ◌≡◌, ◌≤◌};
 ghost use Rattle.bk_catalogue.specs.NextMove.{fitted, first_move as first_of_all, move_after, padded, signs_after};
 ghost use Rattle.bk_walk_cuts.specs.MoveCuts.{passed};
+ghost use Rattle.bk_word.specs.declared.TheConstants.{LARGEST_LISTED_ORDER};
 
 use arrayvec::ArrayVec;
 use bk_word::{MOST_SIGNS, Move, Sign};
@@ -29,7 +30,7 @@ pub fn begin_anew(m: &mut Move)
 // Makes of the signs those that are next after all that begin with them: raises the last that isn't under, and drops
 // those behind it. Where all are under, it drops all and answers false.
 fn raise(signs: &mut ArrayVec<Sign, MOST_SIGNS>) -> bool
-    requires { length signs.old.items ≤ 18 }
+    requires { length signs.old.items ≤ LARGEST_LISTED_ORDER + 2 }
     ensures raised { IsTrue result → signs_after signs.old.items ≡ Some signs.new.items }
     ensures none { result ≡ false → signs_after signs.old.items ≡ None }
     ensures empty { result ≡ false → signs.new.items ≡ [] }
@@ -52,8 +53,8 @@ fn raise(signs: &mut ArrayVec<Sign, MOST_SIGNS>) -> bool
 
 /// Makes of the move the next after all of its count whose signs begin with its own.
 pub fn next_move(m: &mut Move)
-    requires count { m.old.count ≤ 17 }
-    requires signs { length m.old.signs ≤ 18 }
+    requires count { m.old.count ≤ LARGEST_LISTED_ORDER + 1 }
+    requires signs { length m.old.signs ≤ LARGEST_LISTED_ORDER + 2 }
     ensures { m.new ≡ move_after m.old }
 {
     if !raise(&mut m.signs) {
@@ -63,8 +64,8 @@ pub fn next_move(m: &mut Move)
 
 // Makes of the move the next after all of its count that begin with so many of its signs.
 pub(crate) fn pass(m: &mut Move, kept: usize)
-    requires count { m.old.count ≤ 17 }
-    requires signs { length m.old.signs ≤ 18 }
+    requires count { m.old.count ≤ LARGEST_LISTED_ORDER + 1 }
+    requires signs { length m.old.signs ≤ LARGEST_LISTED_ORDER + 2 }
     ensures { m.new ≡ passed kept m.old }
 {
     m.signs.truncate(kept);
@@ -74,7 +75,7 @@ pub(crate) fn pass(m: &mut Move, kept: usize)
 // Puts signs above behind those of the move, up to so many as a legal move wants at a valley with so many open sides.
 fn pad(m: &mut Move, sides: usize)
     requires some { 0 < m.old.count }
-    requires few { m.old.count ≤ 18 }
+    requires few { m.old.count ≤ LARGEST_LISTED_ORDER + 2 }
     requires sides { sides ≤ 2 }
     ensures { m.new ≡ padded sides m.old }
 {
@@ -87,8 +88,8 @@ fn pad(m: &mut Move, sides: usize)
 /// Makes of the move the least legal one that isn't before it, at a valley with so many open sides.
 pub fn least_legal_from(m: &mut Move, sides: usize)
     requires some { 0 < m.old.count }
-    requires count { m.old.count ≤ 17 }
-    requires signs { length m.old.signs ≤ 18 }
+    requires count { m.old.count ≤ LARGEST_LISTED_ORDER + 1 }
+    requires signs { length m.old.signs ≤ LARGEST_LISTED_ORDER + 2 }
     requires sides { sides ≤ 2 }
     ensures { m.new ≡ fitted sides m.old }
 {

@@ -65,9 +65,9 @@ impl Tracing {
         requires trace { IsTraceOf skel.now self.now }
         requires legal { IsLegalMove (outline_of skel.now) m.now }
         ensures sound { IsTrue result → IsRuledOut class (skel.now ++ m.now ∷ []) }
-        ensures few { IsTrue result → order_of skel.now + m.now.count ≤ 5 }
+        ensures few { IsTrue result → order_of skel.now + m.now.count ≤ FOLLOWED }
         ensures more { IsTrue result → IsTrue (brings_more m.now) }
-        ensures all { length self.now.marks ≡ length skel.now → order_of skel.now + m.now.count ≤ 5
+        ensures all { length self.now.marks ≡ length skel.now → order_of skel.now + m.now.count ≤ FOLLOWED
             → IsTrue (brings_more m.now)
             → IsCutByForms class skel.now m.now self.now.kept self.now.bottoms → IsTrue result }
     {
@@ -83,8 +83,8 @@ impl Tracing {
         requires trace { IsTraceOf skel.now self.now }
         requires legal { IsLegalMove (outline_of skel.now) m.now }
         ensures sound { IsTrue result → IsRuledOut class (skel.now ++ m.now ∷ []) }
-        ensures few { IsTrue result → order_of skel.now + m.now.count ≤ 5 }
-        ensures all { length self.now.marks ≡ length skel.now → order_of skel.now + m.now.count ≤ 5
+        ensures few { IsTrue result → order_of skel.now + m.now.count ≤ FOLLOWED }
+        ensures all { length self.now.marks ≡ length skel.now → order_of skel.now + m.now.count ≤ FOLLOWED
             → IsCutByForms class skel.now m.now self.now.kept self.now.bottoms → IsTrue result }
     {
         if !self.follows(skel, m) {
@@ -101,7 +101,7 @@ impl Tracing {
         requires trace { IsTraceOf skel.now self.old }
         requires legal { IsLegalMove (outline_of skel.now) m.now }
         ensures trace { IsTraceOf (skel.now ++ m.now ∷ []) self.new }
-        ensures followed { length self.old.marks ≡ length skel.now → order_of skel.now + m.now.count < 5
+        ensures followed { length self.old.marks ≡ length skel.now → order_of skel.now + m.now.count < FOLLOWED
             → length self.new.marks ≡ length skel.now + 1 }
     {
         if skel.order() + usize::from(m.count) >= FOLLOWED {
@@ -110,15 +110,15 @@ impl Tracing {
         if !self.follows(skel, m) {
             return;
         }
-        self.go_on(skel, m);
+        self.push_followed(skel, m);
     }
 
     // Goes on by a move that is followed.
-    fn go_on(&mut self, skel: &Skel, m: &Move)
+    fn push_followed(&mut self, skel: &Skel, m: &Move)
         requires trace { IsTraceOf skel.now self.old }
         requires legal { IsLegalMove (outline_of skel.now) m.now }
         requires all { length self.old.marks ≡ length skel.now }
-        requires few { order_of skel.now + m.now.count ≤ 5 }
+        requires few { order_of skel.now + m.now.count ≤ FOLLOWED }
         ensures trace { IsTraceOf (skel.now ++ m.now ∷ []) self.new }
         ensures followed { length self.new.marks ≡ length skel.now + 1 }
     {
@@ -151,9 +151,9 @@ impl Tracing {
     // Whether all moves so far are followed, and this one too.
     fn follows(&self, skel: &Skel, m: &Move) -> bool
         ensures all { IsTrue result → length self.now.marks ≡ length skel.now }
-        ensures few { IsTrue result → order_of skel.now + m.now.count ≤ 5 }
-        ensures no { result ≡ false → length self.now.marks ≡ length skel.now → order_of skel.now + m.now.count ≤ 5
-            → ⊥ }
+        ensures few { IsTrue result → order_of skel.now + m.now.count ≤ FOLLOWED }
+        ensures no { result ≡ false → length self.now.marks ≡ length skel.now
+            → order_of skel.now + m.now.count ≤ FOLLOWED → ⊥ }
     {
         self.marks.len() == skel.moves() && skel.order() + usize::from(m.count) <= FOLLOWED
     }
@@ -173,7 +173,7 @@ fn binds_earlier(m: &Move) -> bool
 
 // Whether a move is known to be ruled out, which compares these levels. The ledger then has the move's equations too.
 fn is_refused(ledger: &mut Ledger, levels: &[Form], skel: &Skel, m: &Move, class: Class) -> bool
-    requires few { order_of skel.now + m.now.count ≤ 5 }
+    requires few { order_of skel.now + m.now.count ≤ FOLLOWED }
     ensures sound { IsTrue result → (sides : List ℕ) → MeetsMove skel.now m.now ledger.old levels.now sides
         → (class ≡ Perfect → AreSidesApart (order_of skel.now + m.now.count) sides) → ⊥ }
     ensures all { IsCutByLevels class skel.now m.now ledger.old levels.now → IsTrue result }
@@ -189,7 +189,7 @@ fn is_refused(ledger: &mut Ledger, levels: &[Form], skel: &Skel, m: &Move, class
 
 // Adds the equations of a move, which compares these levels. Whether one contradicts those before.
 fn add_equations(ledger: &mut Ledger, levels: &[Form], skel: &Skel, m: &Move) -> bool
-    requires few { order_of skel.now + m.now.count ≤ 5 }
+    requires few { order_of skel.now + m.now.count ≤ FOLLOWED }
     ensures meets { (sides : List ℕ) → MeetsMove skel.now m.now ledger.old levels.now sides
         → Answers ledger.new sides result }
     ensures first { KeepsFirst ledger.old ledger.new }

@@ -1,11 +1,12 @@
 -- The text of a word.
 -- Example (WordExamples): the text of the word of [5,3][2,1][1] is 2u.2eu.1e, that of one square 1.
 use Rattle.std.specs.List.{AllByRecursion, join_with_byte}
-use Rattle.std.specs.Prelude.{List, decimal, length, map, min, ℕ, ◌++◌, ◌<◌, ◌≡◌, ◌≤◌}
+use Rattle.std.specs.Prelude.{List, decimal, length, map, min, ℕ, ◌++◌, ◌+◌, ◌<◌, ◌≡◌, ◌≤◌}
 use Rattle.bk_grammar.specs.Longest.{LeavesAt}
 use Rattle.bk_word.specs.KeptWord.{CanStand}
 use Rattle.bk_word.specs.Word.{Move, Word, order_of}
 use Rattle.bk_word.specs.declared.Sign.{Sign}
+use Rattle.bk_word.specs.declared.TheConstants.{LARGEST_ORDER}
 use Rattle.bk_word.specs.declared.Sign.TheVariants.{Above, Even, Under}
 
 -- the letter of a sign: a, e or u
@@ -41,6 +42,6 @@ IsWordText bytes = (w : Word) × IsTextOf bytes w
 abbrev pub IsNoWordText : List ℕ → ℕ → Type 0
 IsNoWordText bytes at = LeavesAt IsWordText bytes at
 
--- the order of a word as far as the limit: one more than 200 stands for all that is above
+-- the order of a word as far as the limit: one more than that stands for all that is above
 abbrev pub capped_order : Word → ℕ
-capped_order w = min (order_of w) 201
+capped_order w = min (order_of w) (LARGEST_ORDER + 1)

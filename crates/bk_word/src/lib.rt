@@ -25,7 +25,7 @@ use std::cmp::Ordering;
 use std::marker::Model;
 use storage::{append_move, count_place, counts, signs_at, sum_of_counts};
 use thiserror::Error;
-pub use writer::write_word;
+pub use writer::{LONGEST_WORD_TEXT, write_word};
 
 /// A word hangs at most so many squares.
 pub const LARGEST_ORDER: usize = 200;
@@ -33,8 +33,11 @@ pub const LARGEST_ORDER: usize = 200;
 /// A move has at most so many signs.
 pub const MOST_SIGNS: usize = LARGEST_ORDER + 1;
 
-/// A word of at most so many squares takes no memory.
-pub const INLINE_ORDER: usize = 16;
+/// The catalogues of the orders from 2 to this are listed.
+pub const LARGEST_LISTED_ORDER: usize = 16;
+
+/// A word of at most so many squares takes no memory: none of a catalogue that is listed does.
+pub const INLINE_ORDER: usize = LARGEST_LISTED_ORDER;
 
 // So many bytes of a word are kept without memory. A word of n squares has at most 3 n bytes.
 pub(crate) const INLINE_BYTES: usize = 64;

@@ -64,7 +64,7 @@ pub fn text_order(text: &[u8]) -> Option<u8>
 }
 
 // What stands for every order above 200.
-const TOO_MANY: u8 = 201;
+const TOO_MANY: u8 = LARGEST_ORDER as u8 + 1;
 
 // A word of 200 squares has at most 200 counts and 400 signs. There is room for two bytes more.
 const MOST_TAKEN: usize = 3 * LARGEST_ORDER + 2;

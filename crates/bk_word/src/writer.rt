@@ -3,20 +3,25 @@
 
 ghost use Rattle.std.specs.Prelude.{flat_map, length, ◌+◌, ◌++◌, ◌<◌, ◌≡◌, ◌≤◌};
 ghost use Rattle.arrayvec.specs.ArrayVec.{array_vec_len};
+ghost use Rattle.bk_grammar.specs.declared.TheConstants.{ANSWER_ROOM, LONGEST_NUMBER_TEXT};
 ghost use Rattle.bk_word.specs.StoredWord.{piece};
 ghost use Rattle.bk_word.specs.WordText.{letter as letter_of_sign, word_text};
+ghost use Rattle.bk_word.specs.declared.writer.TheConstants.{LONGEST_WORD_TEXT};
 
 use crate::storage::{is_count, sign_of};
 use crate::{Sign, Word};
 use bk_grammar::{AnswerBuffer, push_bytes, push_number};
 
+/// No word is written in more bytes.
+pub const LONGEST_WORD_TEXT: usize = 800;
+
 /// Appends the text of a word: its moves with a dot between each two, and of each the count and the letters of its
-/// signs. The word must have a move, and `out` room for 1,000 bytes.
+/// signs. The word must have a move, and `out` room for `LONGEST_WORD_TEXT` bytes and a number.
 pub fn write_word(word: &Word, out: &mut AnswerBuffer)
     requires some { 0 < length word.now }
-    requires room { array_vec_len out.old + 1000 ≤ 9000 }
+    requires room { array_vec_len out.old + LONGEST_WORD_TEXT + LONGEST_NUMBER_TEXT ≤ ANSWER_ROOM }
     ensures text { out.new.items ≡ out.old.items ++ word_text word.now }
-    ensures short { length (word_text word.now) ≤ 800 }
+    ensures short { length (word_text word.now) ≤ LONGEST_WORD_TEXT }
 {
     let bytes = word.bytes();
     push_number(u64::from(bytes[0]), out);
@@ -25,7 +30,7 @@ pub fn write_word(word: &Word, out: &mut AnswerBuffer)
 
 // Appends what is written of bytes that aren't the first.
 fn write_pieces(bytes: &[u8], out: &mut AnswerBuffer)
-    requires { array_vec_len out.old + length (flat_map piece bytes.now) + 20 ≤ 9000 }
+    requires { array_vec_len out.old + length (flat_map piece bytes.now) + LONGEST_NUMBER_TEXT ≤ ANSWER_ROOM }
     ensures { out.new.items ≡ out.old.items ++ flat_map piece bytes.now }
 {
     for byte in bytes {

@@ -5,7 +5,7 @@ pub mod NumberedSquares
 pub mod NumberedValley
 pub mod Numbering
 pub mod OutlineParts
-pub mod RunsAfterTurn
+pub mod RunsAfterMove
 pub mod Shape
 pub mod ShownOutline
 pub mod ValleyCut

@@ -3,8 +3,8 @@ pub mod AlongWord
 pub mod CellGroups
 pub mod ExactNodes
 pub mod GroupRuns
-pub mod TilingOfTurns
-pub mod TurnsOfTiling
+pub mod MovesOfTiling
+pub mod TilingOfMoves
 pub mod WordEnds
 pub mod WordNodes
 pub mod WordSquares

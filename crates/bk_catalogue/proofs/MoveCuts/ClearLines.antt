@@ -18,7 +18,7 @@ use Rattle.bk_word.specs.Play.{after_move, after_moves, numbers_from, parts, seg
 use Rattle.bk_word.specs.Word.{Move, Word}
 use Rattle.bk_word.specs.declared.Sign.{Sign}
 use Rattle.bk_lay.proofs.Filling.{in_tiling, valley_is_filled}
-use Rattle.bk_lay.proofs.Laying.{under_chain}
+use Rattle.bk_lay.proofs.ValleySquares.{under_chain}
 use Rattle.bk_lay.proofs.Places.{Placed, placed}
 use Rattle.bk_lay.proofs.LaidRuns.{one_of}
 use Rattle.bk_lay.proofs.ValleySegment.{valley_segment}

@@ -9,7 +9,7 @@ use Rattle.bk_word.specs.Word.{Move}
 use Rattle.bk_word.specs.declared.Sign.TheVariants.{Above}
 use Rattle.bk_lay.proofs.Filling.{in_tiling, is_under, valley_is_filled}
 use Rattle.bk_lay.proofs.Joining.{compared_by_sign}
-use Rattle.bk_lay.proofs.Laying.{under_chain}
+use Rattle.bk_lay.proofs.ValleySquares.{under_chain}
 use Rattle.bk_lay.proofs.Steps.{start_depicts_nothing}
 use Rattle.bk_lay.proofs.Words.{nothing_laid}
 use Rattle.bk_lay.specs.TilingWord.{IsWordOf, MovesFollow, sign_between, signs_between, squares_under}

@@ -14,7 +14,7 @@ use Rattle.bk_word.specs.Play.{outline_of}
 use Rattle.bk_word.specs.Word.{Move, Word, order_of}
 use Rattle.bk_word.specs.declared.Class.{Class}
 use Rattle.bk_lay.proofs.Filling.{in_tiling, is_under}
-use Rattle.bk_lay.proofs.Laying.{under_chain}
+use Rattle.bk_lay.proofs.ValleySquares.{under_chain}
 use Rattle.bk_lay.proofs.LaidRuns.{one_of}
 use Rattle.bk_lay.proofs.ValleySegment.{valley_segment}
 use Rattle.bk_lay.specs.Depiction.{IsSegment}

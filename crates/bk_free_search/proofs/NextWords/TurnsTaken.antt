@@ -6,6 +6,7 @@ use Rattle.bk_word.specs.Outline.{has_left_wall, has_right_wall, open_side}
 use Rattle.bk_word.specs.Play.{outline_of}
 use Rattle.bk_word.specs.Word.{Move, Word}
 use Rattle.bk_word.specs.declared.Sign.{Sign}
+use Rattle.bk_word.specs.declared.TheConstants.{INLINE_ORDER}
 use Rattle.bk_free_search.proofs.Asks.EvenSigns.{side_few}
 use Rattle.bk_free_search.specs.AskedSigns.{IsMoveBegun}
 use Rattle.bk_free_search.specs.declared.asking.Beside.{Beside}
@@ -81,7 +82,8 @@ wanted_few {s = s} begun = omega (
 )
 
 -- no sign is too many for a small move
-pub room_for_sign : {s : Search} {b : Begun} {around : Beside} → IsMoveBegun s b around → length b.m.signs < b.next.wanted → length b.m.signs < 17
+pub room_for_sign : {s : Search} {b : Begun} {around : Beside} → IsMoveBegun s b around → length b.m.signs < b.next.wanted
+    → length b.m.signs ≤ INLINE_ORDER
 room_for_sign begun low = omega (arith, low, wanted_few begun)
 
 -- the sign at a left neighbour is one of the move's own

@@ -1,6 +1,7 @@
 //! Rows of `bk_verify_report::verify`.
 
 ghost use Rattle.std.specs.Prelude.{◌<◌, ◌≤◌};
+ghost use Rattle.bk_word.specs.declared.TheConstants.{LARGEST_LISTED_ORDER};
 
 use bk_ports::{Ended, MemSink, MemSource};
 use bk_verify_report::verify;
@@ -14,7 +15,7 @@ type Row = (&'static str, u64, (u64, usize), Ended, &'static str);
 // this.
 fn is_verified(alloc: Global, order: u8, row: &Row) -> bool
     requires least { 2 ≤ order }
-    requires most { order ≤ 16 }
+    requires most { order ≤ LARGEST_LISTED_ORDER }
 {
     let (list, read, write, ended, report) = row;
     let reads = [*read];

@@ -2,7 +2,9 @@
 
 ghost use Rattle.std.specs.Prelude.{◌+◌, ◌*◌, ◌≡◌, ◌≤◌};
 
-use bk_flow::{Flow, FlowFault, NarrowFlow, SMALL, narrow_flow, solve, solve_small, whole_flow};
+use bk_flow::{
+    Flow, FlowFault, MOST_SMALL_WIRES, NarrowFlow, narrow_flow, solve, solve_small, whole_flow,
+};
 use bk_net::{Net, NetLine, read_net};
 use std::alloc::Global;
 
@@ -29,7 +31,7 @@ fn flows(alloc: Global, net: &Net, total: i128, currents: &[i128]) -> bool {
 
 // Whether a small net without a loose node has such a flow, which takes no memory.
 fn flows_small(net: &Net, total: i128, currents: &[i128]) -> bool {
-    if net.loose().is_some() || net.wires().len() > SMALL {
+    if net.loose().is_some() || net.wires().len() > MOST_SMALL_WIRES {
         return false;
     }
     match solve_small(net) {
@@ -100,7 +102,7 @@ fn is_narrow_flow(flow: &NarrowFlow, total: i128, currents: &[i128]) -> bool {
 
 // Whether the flow of a small net is found with this total and these currents, and by potentials of 32 bits too.
 fn flows_narrowly(net: &Net, total: i128, currents: &[i128]) -> bool {
-    if net.loose().is_some() || net.wires().len() > SMALL {
+    if net.loose().is_some() || net.wires().len() > MOST_SMALL_WIRES {
         return false;
     }
     match whole_flow(net) {

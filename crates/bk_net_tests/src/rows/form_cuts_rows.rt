@@ -12,8 +12,8 @@ use bk_walk_cuts::Tracing;
 use bk_word::{Class, LARGEST_ORDER, Move, Sign, Word, read_word};
 use std::alloc::Global;
 
-// Goes on by a move after these moves; whether it is legal.
-fn go_on(skel: &mut Skel, sides: &mut Tracing, m: &Move) -> bool
+// Plays a move after these moves, and traces it, where it is legal; whether it is.
+fn play_and_trace(skel: &mut Skel, sides: &mut Tracing, m: &Move) -> bool
     requires trace { IsTraceOf skel.old sides.old }
     ensures trace { IsTraceOf skel.new sides.new }
 {
@@ -42,7 +42,7 @@ fn is_last_out(word: &Word, class: Class) -> Option<bool> {
     let mut skel = Skel::new();
     let mut sides = Tracing::new();
     for i in 0..last {
-        if !go_on(&mut skel, &mut sides, &word.get(i)) {
+        if !play_and_trace(&mut skel, &mut sides, &word.get(i)) {
             return None;
         }
     }
@@ -148,7 +148,7 @@ fn along(counts: &[u8], signs: u32) -> bool {
         if is_passed_over(&skel, &m) {
             return true;
         }
-        if !same_answers(&skel, &sides, &m) || !go_on(&mut skel, &mut sides, &m) {
+        if !same_answers(&skel, &sides, &m) || !play_and_trace(&mut skel, &mut sides, &m) {
             return false;
         }
     }

@@ -85,7 +85,7 @@ fn lines_that_are_refused() -> &'static [(&'static str, &'static str)] {
 }
 
 // The number of a fault.
-fn place_of(fault: &NetFault) -> u64 {
+fn place_of_fault(fault: &NetFault) -> u64 {
     match fault {
         NetFault::Text { at } => *at as u64,
         NetFault::Wire { place } => *place as u64,
@@ -96,7 +96,7 @@ fn place_of(fault: &NetFault) -> u64 {
 
 // Whether a fault is printed so, with its number behind.
 fn is_printed(alloc: Global, fault: &NetFault, want: &str) -> bool {
-    let place = place_of(fault);
+    let place = place_of_fault(fault);
     match format!(in alloc; "{fault} {place}") {
         Ok(text) => text.as_str() == want,
         Err(_) => false,

@@ -6,7 +6,7 @@ use arrayvec::ArrayVec;
 use bk_code::flat;
 use bk_play::Steps;
 use bk_walk::*;
-use bk_word::{Class, INLINE_ORDER, Word, read_word, write_word};
+use bk_word::{Class, LARGEST_LISTED_ORDER, Word, read_word, write_word};
 use std::alloc::Global;
 use std::marker::Brand;
 use std::process::Abort;
@@ -41,11 +41,11 @@ fn word_in(rt: &impl Abort, alloc: Global, text: &str) -> Word {
 
 // A walk from the cursor of this text, or from the start.
 fn walk_from(rt: &impl Abort, alloc: Global, order: u8, class: Class, text: Option<&str>) -> Walk {
-    assert!(rt; order >= 2 && usize::from(order) <= INLINE_ORDER);
+    assert!(rt; order >= 2 && usize::from(order) <= LARGEST_LISTED_ORDER);
     match text {
         Some(text) => {
             let word = word_in(rt, alloc, text);
-            assert!(rt; word.order() <= INLINE_ORDER);
+            assert!(rt; word.order() <= LARGEST_LISTED_ORDER);
             Walk::new(alloc, order, class, Some(word))
         }
         None => Walk::new(alloc, order, class, None),

@@ -5,7 +5,7 @@ use bk_free_search::Board;
 use bk_play::SmallMove;
 use bk_short::Short;
 use bk_tiling::Tiling;
-use bk_word::{Class, Move, Sign, Word, read_word};
+use bk_word::{Class, INLINE_ORDER, Move, Sign, Word, read_word};
 use std::process::Abort;
 
 // A tiling's width, its height and its sides in code order.
@@ -27,7 +27,9 @@ fn push(rt: &impl Abort, board: &mut Board, m: &Move) {
         count: m.count,
         signs: signs_of(rt, m),
     };
-    assert!(rt; board.skel().legal(&m) && board.skel().order() + usize::from(m.count) <= 16);
+    assert!(rt;
+        board.skel().legal(&m) && board.skel().order() + usize::from(m.count) <= INLINE_ORDER
+    );
     board.push(&m);
 }
 
@@ -40,7 +42,7 @@ const NO_TIES: Ties = Ties {
 
 // The tiling at a complete word, if one of the class is found.
 fn found_at(rt: &impl Abort, board: &Board, class: Class) -> Option<Tiling> {
-    assert!(rt; board.skel().is_closed() && board.skel().order() <= 16);
+    assert!(rt; board.skel().is_closed() && board.skel().order() <= INLINE_ORDER);
     let placed = leaf(board.skel(), board.lefts(), NO_TIES, class)?;
     match Tiling::try_new(placed.width, placed.height, &placed.squares) {
         Ok(tiling) => Some(tiling),

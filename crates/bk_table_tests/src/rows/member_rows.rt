@@ -2,7 +2,7 @@
 
 use super::plain_walk::{Member, members, number_of};
 use bk_walk::MemberTable;
-use bk_word::{Class, read_word};
+use bk_word::{Class, LARGEST_LISTED_ORDER, read_word};
 use std::alloc::{AllocError, Global};
 use std::process::Abort;
 use std::test::Fail;
@@ -32,7 +32,7 @@ fn table_of<const N: usize>(
     class: Class,
     from: u128,
 ) -> MemberTable<N> {
-    assert!(rt; order >= 3 && order <= 16);
+    assert!(rt; order >= 3 && usize::from(order) <= LARGEST_LISTED_ORDER);
     MemberTable::of(order, class, from)
 }
 

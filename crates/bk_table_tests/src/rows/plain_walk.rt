@@ -13,12 +13,12 @@ use bk_play::{Skel, open_side};
 use bk_simple::{part, repeated};
 use bk_skel::{realise_small, skeleton_of};
 use bk_sym::is_canonical;
-use bk_word::{Class, Move, Sign, Word};
+use bk_word::{Class, LARGEST_LISTED_ORDER, LARGEST_ORDER, Move, Sign, Word};
 use std::alloc::{AllocError, Global};
 use std::process::Abort;
 
-// No walk of these tests goes so many turns.
-const MOST_TURNS: u32 = 1_000_000_000;
+// No walk of these tests takes so many steps.
+const MOST_STEPS: u32 = 1_000_000_000;
 
 // No move has so many signs, and no outline.
 const MOST_SIGNS: usize = 201;
@@ -45,7 +45,7 @@ impl Member {
     }
 }
 
-// Where a turn of the walk leads.
+// Where a step of the walk leads.
 enum Went {
     On,
     Complete,
@@ -61,8 +61,8 @@ pub(crate) fn members(
     let mut found = Vec::new(alloc);
     let mut skel = Skel::new();
     let mut next = least_move();
-    for _ in 0..MOST_TURNS {
-        match turn(rt, &mut skel, &mut next, order) {
+    for _ in 0..MOST_STEPS {
+        match step(rt, &mut skel, &mut next, order) {
             Went::On => {}
             Went::Complete => {
                 if let Some(member) = member_at(rt, alloc, &skel) {
@@ -77,7 +77,7 @@ pub(crate) fn members(
 
 /// The packed number of a legal word of at most 16 squares.
 pub(crate) fn number_of(rt: &impl Abort, word: &Word) -> u128 {
-    assert!(rt; skeleton_of(word).is_ok() && word.order() <= 16);
+    assert!(rt; skeleton_of(word).is_ok() && word.order() <= LARGEST_LISTED_ORDER);
     Packed::of(word).number()
 }
 
@@ -90,7 +90,7 @@ fn least_move() -> Move {
 
 // Back from moves after which none is left, or down by the next move, where its segments can be closed by the squares
 // that are left.
-fn turn(rt: &impl Abort, skel: &mut Skel, next: &mut Move, order: u8) -> Went {
+fn step(rt: &impl Abort, skel: &mut Skel, next: &mut Move, order: u8) -> Went {
     if skel.order() + usize::from(next.count) > usize::from(order) {
         let moves = skel.moves();
         if moves == 0 {
@@ -102,7 +102,7 @@ fn turn(rt: &impl Abort, skel: &mut Skel, next: &mut Move, order: u8) -> Went {
         return Went::On;
     }
     pad(rt, next, skel);
-    assert!(rt; skel.legal(next) && skel.order() + usize::from(next.count) <= 16);
+    assert!(rt; skel.legal(next) && skel.order() + usize::from(next.count) <= LARGEST_LISTED_ORDER);
     if has_part(skel, next) {
         raise(rt, next);
         return Went::On;
@@ -174,13 +174,13 @@ fn raise(rt: &impl Abort, m: &mut Move) {
         m.signs.push(raised);
         return;
     }
-    assert!(rt; m.count < 200);
+    assert!(rt; usize::from(m.count) < LARGEST_ORDER);
     m.count += 1;
 }
 
 // The member whose word is that of the skeleton, if one has it.
 fn member_at(rt: &impl Abort, alloc: Global, skel: &Skel) -> Option<Member> {
-    assert!(rt; skel.is_closed() && skel.order() <= 16);
+    assert!(rt; skel.is_closed() && skel.order() <= LARGEST_LISTED_ORDER);
     let Ok(Some(tiling)) = realise_small(skel) else {
         return None;
     };

@@ -1,6 +1,7 @@
 //! How many words a search meets.
 
 use bk_free_search::{Board, Leaves, search};
+use bk_word::LARGEST_LISTED_ORDER;
 use std::process::Abort;
 
 // How many words are met.
@@ -23,7 +24,7 @@ impl Leaves for Met {
 
 // How many words of an order are met.
 fn words_met(rt: &impl Abort, order: u8) -> usize {
-    assert!(rt; order >= 3 && order <= 16);
+    assert!(rt; order >= 3 && usize::from(order) <= LARGEST_LISTED_ORDER);
     let mut met = Met { words: 0 };
     search(&mut met, order);
     met.words

@@ -5,7 +5,7 @@ ghost use Rattle.std.specs.Prelude.{◌<◌, ◌≡◌};
 use bk_play::Steps;
 use bk_tiling::Tiling;
 use bk_walk::{MOST_MEMBERS, Walk};
-use bk_word::Class;
+use bk_word::{Class, LARGEST_LISTED_ORDER};
 use std::alloc::Global;
 use std::marker::Brand;
 use std::process::Abort;
@@ -42,7 +42,7 @@ fn rows_of_orders() -> &'static [(u8, &'static [Sides])] {
 
 // A walk through the imperfect members of an order.
 fn walk_of(rt: &impl Abort, alloc: Global, order: u8) -> Walk {
-    assert!(rt; order >= 2 && order <= 16);
+    assert!(rt; order >= 2 && usize::from(order) <= LARGEST_LISTED_ORDER);
     Walk::new(alloc, order, Class::Imperfect, None)
 }
 

@@ -2,11 +2,12 @@
 
 ghost use Rattle.std.specs.Prelude.{◌<◌, ◌≡◌, ◌≤◌};
 ghost use Rattle.bk_word.specs.Word.{order_of};
+ghost use Rattle.bk_word.specs.declared.TheConstants.{LARGEST_LISTED_ORDER};
 
 use super::plain_walk::{Member, members};
 use bk_play::Steps;
 use bk_walk::{TabledWalk, Walk};
-use bk_word::{Class, Word, read_word};
+use bk_word::{Class, LARGEST_LISTED_ORDER, Word, read_word};
 use std::alloc::{AllocError, Global};
 use std::cmp::Ordering;
 use std::marker::Brand;
@@ -29,10 +30,10 @@ const PATIENCE: u64 = 128;
 
 // A copy of a word of at most 16 squares.
 fn copy_of(rt: &impl Abort, alloc: Global, word: &Word) -> Word
-    ensures { order_of result ≤ 16 }
+    ensures { order_of result ≤ LARGEST_LISTED_ORDER }
 {
     let copy = word.copy(alloc).expect(rt, "there is memory");
-    assert!(rt; copy.order() <= 16);
+    assert!(rt; copy.order() <= LARGEST_LISTED_ORDER);
     copy
 }
 
@@ -43,7 +44,7 @@ fn walk_from_start<const ROOM: usize>(
     order: u8,
     class: Class,
 ) -> TabledWalk<ROOM> {
-    assert!(rt; order >= 2 && order <= 16);
+    assert!(rt; order >= 2 && usize::from(order) <= LARGEST_LISTED_ORDER);
     TabledWalk::new(alloc, order, class, None)
 }
 
@@ -55,7 +56,7 @@ fn walk_after<const ROOM: usize>(
     class: Class,
     cursor: &Word,
 ) -> TabledWalk<ROOM> {
-    assert!(rt; order >= 2 && order <= 16);
+    assert!(rt; order >= 2 && usize::from(order) <= LARGEST_LISTED_ORDER);
     TabledWalk::new(alloc, order, class, Some(copy_of(rt, alloc, cursor)))
 }
 

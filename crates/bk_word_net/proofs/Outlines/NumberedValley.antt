@@ -23,7 +23,7 @@ use Rattle.bk_word.specs.declared.Sign.{Sign}
 use Rattle.bk_lay.specs.Depiction.{IsSegment, Span}
 use Rattle.bk_lay.specs.TilingWord.{IsLeftmostValley, depth_before, depth_from}
 use Rattle.bk_word_net.proofs.Outlines.BottomChain.{concat-joined}
-use Rattle.bk_word_net.proofs.Outlines.RunsAfterTurn.{fills_total, first_is, last_is, level_signs, number_levels, one_run, place_in, runs_at}
+use Rattle.bk_word_net.proofs.Outlines.RunsAfterMove.{fills_total, first_is, last_is, level_signs, number_levels, one_run, place_in, runs_at}
 use Rattle.bk_word_net.proofs.Outlines.ShownOutline.{shows_move}
 use Rattle.bk_word_net.specs.LaidOutline.{FillsValley, ShowsLaid, StandsOver, back_of, bottom_at, front_of}
 use Rattle.bk_word_net.proofs.Outlines.NumberedSquares.{SpanLast, ZipLast, numbered_bottom, segment_span, span_some, zip_last}
@@ -218,18 +218,18 @@ sees width laid o s wide = cases s.begun
     cases (inl (none, first)) = at_start width laid o s p.before p.valley p.after p.is p.leftmost number p.left p.right none first
     cases (inr deep) = begun width laid o s p.before p.valley p.after p.is p.leftmost number p.left p.right deep
 
--- the outline after the turn shows what is laid then
-pub shows_turn : (width : ℕ) (laid : List Square) (o : Outline) → ShowsLaid width laid o → 0 < width
+-- where a valley is filled, the outline after the move shows what is laid then
+pub shows_filled : (width : ℕ) (laid : List Square) (o : Outline) → ShowsLaid width laid o → 0 < width
     → (m : Move) (new : List ℕ) (v : Segment) → FillsValley width laid m new v → ShowsLaid width (laid ++ laid_group v.x v.level new) (after_move o m)
-shows_turn width laid o s wide m new v turn =
-    shows_move width laid o s p.before v p.after is turn.found number left right m new turn.count turn.some turn.positive
-    (fills_total width laid m new v turn) turn.signs
+shows_filled width laid o s wide m new v filled =
+    shows_move width laid o s p.before v p.after is filled.found number left right m new filled.count filled.some filled.positive
+    (fills_total width laid m new v filled) filled.signs
   where
     p : Placed width laid 0 s.runs
     p = place_in width laid o s wide
 
     same : p.valley ≡ v
-    same = one_leftmost_valley width laid p.valley v p.leftmost turn.found
+    same = one_leftmost_valley width laid p.valley v p.leftmost filled.found
 
     is : s.runs ≡ p.before ++ v ∷ p.after
     is = p.is ∙ ap (λ (w : Segment). p.before ++ w ∷ p.after) same

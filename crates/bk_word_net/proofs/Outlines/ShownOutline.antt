@@ -25,7 +25,7 @@ use Rattle.bk_lay.proofs.LaidRuns.{new_segments, one_of, run_of, segment_more}
 use Rattle.bk_lay.specs.Depiction.{IsNumbered, IsSegment}
 use Rattle.bk_lay.specs.TilingWord.{IsLeftmostValley, depth_before, depth_from, signs_between}
 use Rattle.bk_word_net.specs.LaidOutline.{ShowsLaid}
-use Rattle.bk_word_net.proofs.Outlines.RunsAfterTurn.{flat, new_signs, one_run, runs_all, there, zip}
+use Rattle.bk_word_net.proofs.Outlines.RunsAfterMove.{flat, new_signs, one_run, runs_all, there, zip}
 
 module _ (width : ℕ) (laid : List Square) (o : Outline) (s : ShowsLaid width laid o) (before : List Segment) (v : Segment)
     (after : List Segment) (is : s.runs ≡ before ++ v ∷ after)
@@ -108,7 +108,7 @@ module _ (width : ℕ) (laid : List Square) (o : Outline) (s : ShowsLaid width l
               group_sides v.x v.level new positive r.square r.is,
             )
 
-    -- after a turn the outline after the move shows what is laid
+    -- the outline after the move shows what is laid then
     pub shows_move : ShowsLaid width (laid ++ laid_group v.x v.level new) (after_move o m)
     shows_move = record {
       runs = j.first ∷ j.more;

@@ -34,18 +34,18 @@ use Rattle.bk_word_net.specs.WordNet.{end_of, net_after}
 
 module _ (O : Outline) (played : Played O) (f : Flow) (flow : IsFlow (net_after O) f) (s : HasSides f) (width : ℕ)
     (width_is : width ≡ out_sum O.hung s.sides 0) where
-  -- one turn: the group that is laid, and its valley
-  pub record LaidTurn (laid : List Square) (o : Outline) (m : Move) (x level : ℕ) (new : List ℕ) : Type 0 where
+  -- one move: the group that is laid, and its valley
+  pub record BuiltMove (laid : List Square) (o : Outline) (m : Move) (x level : ℕ) (new : List ℕ) : Type 0 where
     pub count : length new ≡ m.count
     pub some : AllByRecursion (λ s. 0 < s) new
     pub valley : ValleyAt O played f flow s width width_is laid o x level (total new)
     pub base : Base O played f flow s width width_is laid o
 
-  -- the turns, to all squares
-  abbrev pub LaidTurns : List Square → Outline → Word → List Square → Type 0
-  LaidTurns laid o [] all = laid ≡ all
-  LaidTurns laid o (m ∷ w) all = (x : ℕ) × ((level : ℕ)
-      × ((new : List ℕ) × (LaidTurn laid o m x level new × LaidTurns (laid ++ laid_group x level new) (after_move o m) w all)))
+  -- the moves, to all squares
+  abbrev pub BuiltMoves : List Square → Outline → Word → List Square → Type 0
+  BuiltMoves laid o [] all = laid ≡ all
+  BuiltMoves laid o (m ∷ w) all = (x : ℕ) × ((level : ℕ)
+      × ((new : List ℕ) × (BuiltMove laid o m x level new × BuiltMoves (laid ++ laid_group x level new) (after_move o m) w all)))
 
   abbrev State : List Square → Outline → Type 0
   State laid o = ((laid ≡ []) × (o ≡ start)) ⊎ ((0 < length o.closed) × BottomChain laid 0 (concat o.segments) width)
@@ -53,7 +53,7 @@ module _ (O : Outline) (played : Played O) (f : Flow) (flow : IsFlow (net_after 
   -- the squares laid by the moves of a word
   pub record Result (laid : List Square) (o : Outline) (w : Word) : Type 0 where
     pub all : List Square
-    pub turns : LaidTurns laid o w all
+    pub moves : BuiltMoves laid o w all
     pub base : Base O played f flow s width width_is all O
     pub last : State all O
 
@@ -62,7 +62,7 @@ module _ (O : Outline) (played : Played O) (f : Flow) (flow : IsFlow (net_after 
       ⊎ ((0 < length o.closed) × BottomChain laid 0 (concat o.segments) width) → Result laid o w
   build [] o laid own legal e base state = record {
     all = laid;
-    turns = refl;
+    moves = refl;
     base = subst (Base O played f flow s width width_is laid) e base;
     last = subst (λ (p : Outline). ((laid ≡ []) × (p ≡ start)) ⊎ ((0 < length p.closed) × BottomChain laid 0 (concat p.segments) width)) e state;
   }
@@ -113,9 +113,9 @@ module _ (O : Outline) (played : Played O) (f : Flow) (flow : IsFlow (net_after 
           onto : Result (laid ++ laid_group x level n.new) (after_move o m) w → Result laid o (m ∷ w)
           onto r = record {
             all = r.all;
-            turns = (
+            moves = (
               x,
-              (level, (n.new, (record { count = n.count; some = n.some; valley = v; base = base }, r.turns))),
+              (level, (n.new, (record { count = n.count; some = n.some; valley = v; base = base }, r.moves))),
             );
             base = r.base;
             last = r.last;

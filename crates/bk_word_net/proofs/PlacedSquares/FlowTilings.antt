@@ -26,7 +26,7 @@ use Rattle.bk_lay.specs.Depiction.{IsNumbered}
 use Rattle.bk_lay.specs.TilingWord.{IsWordOf}
 use Rattle.bk_word_net.proofs.TilingWords.AlongWord.{AtEnd, HasBegun, NotBegun, at_end}
 use Rattle.bk_word_net.proofs.Outlines.BottomChain.{BottomChain}
-use Rattle.bk_word_net.proofs.PlacedSquares.Built.{LaidTurns, Result, all_deep, bottom_at, build_all, built, is_tiling}
+use Rattle.bk_word_net.proofs.PlacedSquares.Built.{BuiltMoves, Result, all_deep, bottom_at, build_all, built, is_tiling}
 use Rattle.bk_word_net.proofs.WordFlows.FlowFacts.{HasSides, has_sides, is_later, sides_count, total_is}
 use Rattle.bk_word_net.proofs.PlacedSquares.PlacedValley.{Placing}
 use Rattle.bk_word_net.proofs.PlacedSquares.FlowWord.{follow}
@@ -92,18 +92,18 @@ module _ (w : Word) (f : Flow) (complete : IsComplete w) (flow : IsFlow (net_aft
       (out_sum (outline_of w).hung (has_sides f places.long).sides 0) refl r.all r.base complete.one chain wide some_laid
 
   placing : (laid : List Square) (o : Outline) (v : Word) (all : List Square)
-      → LaidTurns (outline_of w) (played_word w complete) f flow (has_sides f places.long)
+      → BuiltMoves (outline_of w) (played_word w complete) f flow (has_sides f places.long)
       (out_sum (outline_of w).hung (has_sides f places.long).sides 0) refl laid o v all
       → Placing (out_sum (outline_of w).hung (has_sides f places.long).sides 0) laid o v all
   placing laid o [] all p = p
-  placing laid o (m ∷ v) all (x, (level, (new, (turn, rest)))) = (
+  placing laid o (m ∷ v) all (x, (level, (new, (step, rest)))) = (
     x,
     (
       level,
       (
         new,
         (
-          record { count = turn.count; some = turn.some; place = (turn.valley).place },
+          record { count = step.count; some = step.some; place = (step.valley).place },
           placing (laid ++ laid_group x level new) (after_move o m) v all rest,
         ),
       ),
@@ -124,7 +124,7 @@ module _ (w : Word) (f : Flow) (complete : IsComplete w) (flow : IsFlow (net_aft
       (all_deep (outline_of w) (played_word w complete) f flow (has_sides f places.long)
       (out_sum (outline_of w).hung (has_sides f places.long).sides 0) refl r.all r.base complete.one chain wide)
       (λ n. nat_abs (potential f 0 -ℤ potential f (end_of ((outline_of w).closed ++ (outline_of w).segments) n))) bottom_is
-      w start [] [] [] (nothing_laid the_tiling tiling) (start_depicts_nothing the_tiling tiling) complete.legal (placing [] start w r.all r.turns) places.signs
+      w start [] [] [] (nothing_laid the_tiling tiling) (start_depicts_nothing the_tiling tiling) complete.legal (placing [] start w r.all r.moves) places.signs
 
   no_rest : (xs : List ℕ) → length xs ≡ 0 → xs ≡ []
   no_rest [] e = refl

@@ -32,7 +32,7 @@ module _ (t : Tiling) (tiling : IsTiling t) (all : List Square) (all_in : (q : S
     (bottom : ℕ → ℕ) (bottom_is : (n : ℕ) (q : Square) → IsNumbered all n q → bottom n ≡ q.y + q.s) where
   module _ (laid : List Square) (nodes : List Segment) (o : Outline) (fills : FillsFromTop t laid) (d : Depicts t laid nodes o)
       (v : Segment) (found : IsLeftmostValley t.width laid v)
-      (m : Move) (legal : 0 < m.count) (x level : ℕ) (new : List ℕ) (turn : IsPlacing t.width laid o m x level new) (more : List Square)
+      (m : Move) (legal : 0 < m.count) (x level : ℕ) (new : List ℕ) (step : IsPlacing t.width laid o m x level new) (more : List Square)
       (all_is : all ≡ (laid ++ laid_group x level new) ++ more) where
     same_valley : (p : Placed t.width laid 0 d.runs) → p.valley ≡ v
     same_valley p = one_leftmost_valley t.width laid p.valley v p.leftmost found
@@ -46,18 +46,18 @@ module _ (t : Tiling) (tiling : IsTiling t) (all : List Square) (all_in : (q : S
             (subst (λ (signs : List Sign). AllByRecursion (λ sign. parts sign ≡ true) signs) d.signs d.parted)
 
         compared : bottoms_of_move bottom o m ≡ bottoms t laid v
-        compared = bottoms_are t tiling all all_in full bottom bottom_is laid nodes o fills d v found m legal x level new turn more all_is p (same_valley p)
+        compared = bottoms_are t tiling all all_in full bottom bottom_is laid nodes o fills d v found m legal x level new step more all_is p (same_valley p)
 
         count : m.count ≡ length (squares_under t v)
-        count = sym turn.count ∙ ap length (sym (group_list x level new)) ∙ length-map (laid_group x level new) (λ q. q.s) ∙ sym (ap length (new_is t
-            tiling all all_in full bottom bottom_is laid nodes o fills d v found m legal x level new turn more all_is))
+        count = sym step.count ∙ ap length (sym (group_list x level new)) ∙ length-map (laid_group x level new) (λ q. q.s) ∙ sym (ap length (new_is t
+            tiling all all_in full bottom bottom_is laid nodes o fills d v found m legal x level new step more all_is))
 
   -- the moves of a word whose sides are a flow's are the tiling's, one after another
   pub follow : (w : Word) (o : Outline) (laid : List Square) (nodes : List Segment) (ls : List ℕ) → FillsFromTop t laid
       → Depicts t laid nodes o → AreLegalFrom o w → Placing t.width laid o w all → SignsCompare bottom o w
       → MovesFollow t laid w × ((all_levels : List ℕ) × LaidAlong t (laid_so_far laid ls) w (laid_so_far all all_levels))
   follow [] o laid nodes ls fills d legal p signs = (λ c h. ap (λ (l : List Square). depth l c) p ∙ full c h, (ls ++ t.height ∷ [], (p, refl)))
-  follow (m ∷ w) o laid nodes ls fills d legal (x, (level, (new, (turn, rest)))) signs =
+  follow (m ∷ w) o laid nodes ls fills d legal (x, (level, (new, (step, rest)))) signs =
       onto (follow w (after_move o m) (laid ++ laid_group x level new) (nodes ++ v.0 ∷ []) (ls ++ (v.0).level ∷ []) next_fills
       next_depicts legal.1 rest signs.1)
     where
@@ -68,13 +68,13 @@ module _ (t : Tiling) (tiling : IsTiling t) (all : List Square) (all_in : (q : S
       pre = placing_prefix t.width (laid ++ laid_group x level new) (after_move o m) w all rest
 
       news : squares_under t v.0 ≡ laid_group x level new
-      news = new_is t tiling all all_in full bottom bottom_is laid nodes o fills d v.0 v.1 m (legal.0).some x level new turn pre.0 pre.1
+      news = new_is t tiling all all_in full bottom bottom_is laid nodes o fills d v.0 v.1 m (legal.0).some x level new step pre.0 pre.1
 
       down : (v.0).level < t.height
-      down = low t tiling all all_in full bottom bottom_is laid nodes o fills d v.0 v.1 m (legal.0).some x level new turn pre.0 pre.1
+      down = low t tiling all all_in full bottom bottom_is laid nodes o fills d v.0 v.1 m (legal.0).some x level new step pre.0 pre.1
 
       moves : m ≡ move_under t laid v.0
-      moves = move_is laid nodes o fills d v.0 v.1 m (legal.0).some x level new turn pre.0 pre.1 signs.0
+      moves = move_is laid nodes o fills d v.0 v.1 m (legal.0).some x level new step pre.0 pre.1 signs.0
 
       next_fills : FillsFromTop t (laid ++ laid_group x level new)
       next_fills = subst (λ (l : List Square). FillsFromTop t (laid ++ l)) news (valley_is_filled t laid v.0 tiling fills v.1 down).1

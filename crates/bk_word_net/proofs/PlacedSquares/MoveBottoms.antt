@@ -21,7 +21,7 @@ use Rattle.bk_lay.proofs.Joining.{levels}
 use Rattle.bk_lay.proofs.Places.{HasFirst, HasLast, Placed, depth_from_end}
 use Rattle.bk_lay.specs.Depiction.{Depicts, FillsFromTop, Hangs, IsNumbered, IsSegment}
 use Rattle.bk_lay.specs.TilingWord.{IsLeftmostValley, bottoms, depth_before, depth_from, squares_under}
-use Rattle.bk_word_net.proofs.Outlines.RunsAfterTurn.{runs_at}
+use Rattle.bk_word_net.proofs.Outlines.RunsAfterMove.{runs_at}
 use Rattle.bk_word_net.specs.FlowTiling.{bottoms_of_move, segment_bottom}
 use Rattle.bk_word_net.proofs.PlacedSquares.PlacedValley.{IsPlacing, group_bottoms, new_is}
 
@@ -30,7 +30,7 @@ module _ (t : Tiling) (tiling : IsTiling t) (all : List Square) (all_in : (q : S
     (bottom : ℕ → ℕ) (bottom_is : (n : ℕ) (q : Square) → IsNumbered all n q → bottom n ≡ q.y + q.s)
     (laid : List Square) (nodes : List Segment) (o : Outline) (fills : FillsFromTop t laid) (d : Depicts t laid nodes o)
     (v : Segment) (found : IsLeftmostValley t.width laid v)
-    (m : Move) (legal : 0 < m.count) (x level : ℕ) (new : List ℕ) (turn : IsPlacing t.width laid o m x level new) (more : List Square)
+    (m : Move) (legal : 0 < m.count) (x level : ℕ) (new : List ℕ) (step : IsPlacing t.width laid o m x level new) (more : List Square)
     (all_is : all ≡ (laid ++ laid_group x level new) ++ more) where
   -- a number of a laid square
   own_bottom : (n : ℕ) (q : Square) → IsNumbered laid n q → bottom n ≡ q.y + q.s
@@ -138,11 +138,11 @@ module _ (t : Tiling) (tiling : IsTiling t) (all : List Square) (all_in : (q : S
 
     middle_is : map bottom (new_squares o m) ≡ map (λ q. q.y + q.s) (squares_under t v)
     middle_is = ap (λ (k : ℕ). map bottom (numbers_from (length o.hung + 1) k))
-        (sym (turn.count) ∙ ap length (sym (group_list x level new)) ∙ length-map (laid_group x level new) (λ q. q.s))
+        (sym (step.count) ∙ ap length (sym (group_list x level new)) ∙ length-map (laid_group x level new) (λ q. q.s))
         ∙ group_bottoms t tiling all all_in full bottom bottom_is laid (laid_group x level new) more (all_is ∙ append_assoc laid (laid_group x level new)
         more) (length o.hung + 1)
         (omega (arith, zip_length (Hangs nodes) laid o.hung d.hung))
-        ∙ ap (map (λ q. q.y + q.s)) (sym (new_is t tiling all all_in full bottom bottom_is laid nodes o fills d v found m legal x level new turn more all_is))
+        ∙ ap (map (λ q. q.y + q.s)) (sym (new_is t tiling all all_in full bottom bottom_is laid nodes o fills d v found m legal x level new step more all_is))
 
     -- the bottoms that a move's signs compare are those of the tiling
     pub bottoms_are : bottoms_of_move bottom o m ≡ bottoms t laid v

@@ -22,7 +22,7 @@ use Rattle.bk_word.specs.Outline.{Outline, valley_of}
 use Rattle.bk_word.specs.Play.{after_move, numbers_from}
 use Rattle.bk_word.specs.Word.{Move, Word}
 use Rattle.bk_lay.proofs.UnderValley.{IsUnder, hangs_from, under_from}
-use Rattle.bk_lay.proofs.Laying.{ordered_filter}
+use Rattle.bk_lay.proofs.ValleySquares.{ordered_filter}
 use Rattle.bk_lay.proofs.ValleySegment.{valley_segment}
 use Rattle.bk_lay.proofs.Valleys.{segment_path}
 use Rattle.bk_lay.specs.Depiction.{Depicts, FillsFromTop, IsNumbered, IsSegment, Span}
@@ -30,7 +30,7 @@ use Rattle.bk_lay.specs.TilingWord.{IsLeftmostValley, hangs_under, squares_under
 use Rattle.bk_word_net.proofs.TilingWords.AlongWord.{top_valley}
 use Rattle.bk_word_net.proofs.WordFlows.Sums.{span_sum}
 
--- one turn of placing: the group fills the segment that the move closes
+-- one step of placing: the group fills the segment that the move closes
 pub record IsPlacing (width : ℕ) (laid : List Square) (o : Outline) (m : Move) (x level : ℕ) (new : List ℕ) : Type 0 where
   pub count : length new ≡ m.count
   pub some : AllByRecursion (λ s. 0 < s) new
@@ -46,7 +46,7 @@ Placing width laid o (m ∷ w) all = (x : ℕ)
 pub placing_prefix : (width : ℕ) (laid : List Square) (o : Outline) (w : Word) (all : List Square) → Placing width laid o w all
     → (more : List Square) × (all ≡ laid ++ more)
 placing_prefix width laid o [] all p = ([], sym p ∙ sym (append-nil laid))
-placing_prefix width laid o (m ∷ w) all (x, (level, (new, (turn, rest)))) = let r =
+placing_prefix width laid o (m ∷ w) all (x, (level, (new, (step, rest)))) = let r =
     placing_prefix width (laid ++ laid_group x level new) (after_move o m) w all rest in
     (laid_group x level new ++ r.0, r.1 ∙ append_assoc laid (laid_group x level new) r.0)
 
@@ -70,17 +70,17 @@ module _ (t : Tiling) (tiling : IsTiling t) (all : List Square) (all_in : (q : S
 
   module _ (laid : List Square) (nodes : List Segment) (o : Outline) (fills : FillsFromTop t laid) (d : Depicts t laid nodes o)
       (v : Segment) (found : IsLeftmostValley t.width laid v)
-      (m : Move) (legal : 0 < m.count) (x level : ℕ) (new : List ℕ) (turn : IsPlacing t.width laid o m x level new) (more : List Square)
+      (m : Move) (legal : 0 < m.count) (x level : ℕ) (new : List ℕ) (step : IsPlacing t.width laid o m x level new) (more : List Square)
       (all_is : all ≡ (laid ++ laid_group x level new) ++ more) where
     flat : IsLevel t.width laid v
     flat = (found.valley).flat
 
     new_some : 0 < total new
-    new_some = total-positive_of_positive new turn.some (omega (arith, turn.count, legal))
+    new_some = total-positive_of_positive new step.some (omega (arith, step.count, legal))
 
     -- the valley is where the group was placed
     valley_is : v ≡ record { x = x; width = total new; level = level }
-    valley_is = cases (valley_of o) refl turn.place (valley_segment t laid nodes o v tiling d found)
+    valley_is = cases (valley_of o) refl step.place (valley_segment t laid nodes o v tiling d found)
       where
         cases : (numbers : List ℕ) → valley_of o ≡ numbers → Span laid level x (valley_of o) (x + total new)
             ⊎ ((laid ≡ []) × (valley_of o ≡ []) × (x ≡ 0) × (level ≡ 0) × (total new ≡ t.width)) → IsSegment laid v (valley_of o)
@@ -125,7 +125,7 @@ module _ (t : Tiling) (tiling : IsTiling t) (all : List Square) (all_in : (q : S
     lower = from (over_group x level new x (omega arith) (omega (arith, new_some)))
       where
         from : HasOver level x (laid_group x level new) → level < t.height
-        from r = let b = (within_of t tiling r.square (group_in r.square r.is)).bottom in omega (arith, r.top, group_sides x level new turn.some r.square r.is)
+        from r = let b = (within_of t tiling r.square (group_in r.square r.is)).bottom in omega (arith, r.top, group_sides x level new step.some r.square r.is)
 
     -- the valley lies above the bottom
     pub low : v.level < t.height
@@ -138,7 +138,7 @@ module _ (t : Tiling) (tiling : IsTiling t) (all : List Square) (all_in : (q : S
     pub new_is : squares_under t v ≡ laid_group x level new
     new_is = ap (squares_under t) valley_is ∙ same_members (squares_under t (record { x = x; width = total new; level = level })) (laid_group x level new)
         (ordered_filter (hangs_under (record { x = x; width = total new; level = level })) t.squares tiling.ordered)
-        (group_ordered x level new turn.some) forth back
+        (group_ordered x level new step.some) forth back
       where
         forth : (p : Square) → IsOneOf p (squares_under t (record { x = x; width = total new; level = level })) → IsOneOf p (laid_group x level new)
         forth p h = from (from_filter (hangs_under (record { x = x; width = total new; level = level })) t.squares p h)
@@ -160,7 +160,7 @@ module _ (t : Tiling) (tiling : IsTiling t) (all : List Square) (all_in : (q : S
                         (omega (arith, cell_once t tiling p.x level (omega (arith, u.right, side, inside)) lower)) p r.square
                         k (covers_from p.x level p (omega arith) (omega (arith, side)) (omega (arith, u.level)) (omega (arith, u.level, side)))
                         (group_in r.square r.is) (covers_from p.x level r.square r.left r.right (omega (arith, r.top))
-                        (omega (arith, r.top, group_sides x level new turn.some r.square r.is)))
+                        (omega (arith, r.top, group_sides x level new step.some r.square r.is)))
 
         back : (p : Square) → IsOneOf p (laid_group x level new) → IsOneOf p (squares_under t (record { x = x; width = total new; level = level }))
         back p h = in_filter (hangs_under (record { x = x; width = total new; level = level })) t.squares p (group_in p h)

@@ -22,7 +22,7 @@ use Rattle.bk_word.specs.Play.{AreLegalFrom, after_move, after_moves, outline_of
 use Rattle.bk_word.specs.Word.{Move, Word}
 use Rattle.bk_word.specs.declared.Sign.{Sign}
 use Rattle.bk_lay.proofs.Filling.{in_tiling, is_under}
-use Rattle.bk_lay.proofs.Laying.{under_chain}
+use Rattle.bk_lay.proofs.ValleySquares.{under_chain}
 use Rattle.bk_lay.proofs.Places.{Placed, placed}
 use Rattle.bk_lay.proofs.ValleySegment.{valley_segment}
 use Rattle.bk_lay.proofs.Valleys.{one_leftmost_valley}
@@ -79,8 +79,8 @@ module _ (t : Tiling) (w : Word) (f : Flow) (tiling : IsTiling t) (p : IsWordOf 
       place_of (inr top) (inr b) = let flat = ((q.1).valley).flat in let within = flat.within in
           absurd (omega (arith, flat.level (q.0).x (omega arith) (omega (arith, flat.some)), b.deep (q.0).x (omega (arith, flat.some)), top.0))
 
-      turn : IsPlacing t.width laid o m (q.0).x (q.0).level (laid_sides (squares_under t q.0))
-      turn = record {
+      step : IsPlacing t.width laid o m (q.0).x (q.0).level (laid_sides (squares_under t q.0))
+      step = record {
         count = length-map (squares_under t q.0) (λ r. r.s) ∙ sym (ap (λ (n : Move). n.count) q.3);
         some = positive_sides (squares_under t q.0)
             (λ r h. in_all (λ q. 0 < q.s) t.squares (tiling.tiles).sides r (in_tiling t laid q.0 tiling a.fills q.1 q.2 r h));
@@ -105,7 +105,7 @@ module _ (t : Tiling) (w : Word) (f : Flow) (tiling : IsTiling t) (p : IsWordOf 
           some total_is).0 (((e t w f tiling p flow all some total_is).along).fills).squares r h) (e t w f tiling p flow all some total_is).full
           (bottom_in (laid_flow t (tl t w f tiling p flow all some total_is).0 ((tl t w f tiling p flow all some total_is).1).0) ((outline_of w).closed ++
           (outline_of w).segments)) (bottom_is t w f tiling p flow all some total_is)
-          laid nodes o a.fills a.depicts q.0 q.1 m (legal.0).some (q.0).x (q.0).level (laid_sides (squares_under t q.0)) turn pre.0
+          laid nodes o a.fills a.depicts q.0 q.1 m (legal.0).some (q.0).x (q.0).level (laid_sides (squares_under t q.0)) step pre.0
           (pre.1 ∙ ap (λ (s : List Square). (laid ++ s) ++ pre.0) group) runs
           (one_leftmost_valley t.width laid runs.valley q.0 runs.leftmost q.1)
 

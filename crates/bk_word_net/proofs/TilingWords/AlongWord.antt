@@ -1,4 +1,4 @@
--- What holds along a word of a tiling, from the first turn to the last: the sides of the squares that hang from a
+-- What holds along a word of a tiling, from the first move to the last: the sides of the squares that hang from a
 -- node sum to the width of its valley, and each valley but the first lies below the top.
 use Rattle.std.specs.List.{AllByRecursion}
 use Rattle.std.proofs.Common.{List, Some, [], ap, arith, inl, inr, length, refl, replicate, slice_get, subst, sym, true, ℕ, ◌++◌, ◌+◌}
@@ -23,7 +23,7 @@ use Rattle.bk_word.specs.Word.{Move, Word}
 use Rattle.bk_lay.proofs.UnderValley.{cell, hangs}
 use Rattle.bk_lay.proofs.Filling.{valley_is_filled}
 use Rattle.bk_lay.proofs.Joining.{levels}
-use Rattle.bk_lay.proofs.Laying.{under_chain}
+use Rattle.bk_lay.proofs.ValleySquares.{under_chain}
 use Rattle.bk_lay.proofs.Steps.{move_depicts, start_depicts_nothing}
 use Rattle.bk_lay.proofs.Valleys.{one_leftmost_valley}
 use Rattle.bk_lay.proofs.Words.{nothing_laid}

@@ -33,11 +33,11 @@ lines_by v kind items i j n m t u behind first second is a e =
 
 pub returns-then-j-i-clause-lines : goal.returns-then-j-i-clause-lines
 returns-then-j-i-clause-lines g c a e =
-    written_all _ _ _ _ (written_none _ _) (no_line_before c.args.kind c.args.items.now c.args.i c.args.j a c.if-j-i.true)
+    written_all _ _ _ _ (written_none _ _) (no_line_before c.args.kind c.args.items.now c.args.places.0 c.args.places.1 a c.if-j-i.true)
 
 pub returns-then-j-i-clause-count : goal.returns-then-j-i-clause-count
 returns-then-j-i-clause-count g c a e =
-    sym (ap (λ (l : List (List ℕ)). length l) (no_line_before c.args.kind c.args.items.now c.args.i c.args.j a c.if-j-i.true))
+    sym (ap (λ (l : List (List ℕ)). length l) (no_line_before c.args.kind c.args.items.now c.args.places.0 c.args.places.1 a c.if-j-i.true))
 
 pub returns-then-j-i-clause-cause : goal.returns-then-j-i-clause-cause
 returns-then-j-i-clause-cause g c = cause-of_same refl
@@ -50,13 +50,13 @@ item-second-requires g c = c.requires.second
 
 pub returns-then-not-is_pair-clause-lines : goal.returns-then-not-is_pair-clause-lines
 returns-then-not-is_pair-clause-lines g c a e =
-    written_all _ _ _ _ (written_none _ _) (lines_by false c.args.kind c.args.items.now c.args.i c.args.j c.item-first.result.0 c.item-second.result.0
-    c.item-first.result.1.now c.item-second.result.1.now c.if-j-i.false c.item-first.ensures c.item-second.ensures
+    written_all _ _ _ _ (written_none _ _) (lines_by false c.args.kind c.args.items.now c.args.places.0 c.args.places.1
+    c.item-first.result.0 c.item-second.result.0 c.item-first.result.1.now c.item-second.result.1.now c.if-j-i.false c.item-first.ensures c.item-second.ensures
     (sym c.if-not-is_pair.true ∙ c.is_pair.ensures) a e)
 
 pub returns-then-not-is_pair-clause-count : goal.returns-then-not-is_pair-clause-count
 returns-then-not-is_pair-clause-count g c a e =
-    sym (ap (λ (l : List (List ℕ)). length l) (lines_by false c.args.kind c.args.items.now c.args.i c.args.j c.item-first.result.0
+    sym (ap (λ (l : List (List ℕ)). length l) (lines_by false c.args.kind c.args.items.now c.args.places.0 c.args.places.1 c.item-first.result.0
     c.item-second.result.0 c.item-first.result.1.now c.item-second.result.1.now c.if-j-i.false c.item-first.ensures c.item-second.ensures
     (sym c.if-not-is_pair.true ∙ c.is_pair.ensures) a e))
 
@@ -65,10 +65,11 @@ returns-then-not-is_pair-clause-cause g c = cause-of_same refl
 
 pub returns-in_err-write_square-clause-lines : goal.returns-in_err-write_square-clause-lines
 returns-in_err-write_square-clause-lines g c a e =
-    ends_broken _ (later_lines c.args.kind c.args.items.now c.args.i a c.args.j) (g.O.Sink.written c.args.out.now) (g.O.Sink.written c.write_square.new.out)
+    ends_broken _ (later_lines c.args.kind c.args.items.now c.args.places.0 a c.args.places.1) (g.O.Sink.written c.args.out.now)
+    (g.O.Sink.written c.write_square.new.out)
     c.from_residual.result c.from_residual.ensures.1
     (subst (λ (l : List (List ℕ)). AppendsPrefix (g.O.Sink.written c.args.out.now) (g.O.Sink.written c.write_square.new.out) (concat l))
-    (sym (lines_by true c.args.kind c.args.items.now c.args.i c.args.j c.item-first.result.0 c.item-second.result.0
+    (sym (lines_by true c.args.kind c.args.items.now c.args.places.0 c.args.places.1 c.item-first.result.0 c.item-second.result.0
     c.item-first.result.1.now c.item-second.result.1.now c.if-j-i.false c.item-first.ensures c.item-second.ensures
     (sym c.if-not-is_pair.false ∙ c.is_pair.ensures) a e)) c.in_err-write_square.ensures.lines)
 
@@ -87,13 +88,13 @@ returns-in_err-write_square-clause-cause g c =
 pub returns-clause-lines : goal.returns-clause-lines
 returns-clause-lines g c a e =
     subst (λ (l : List (List ℕ)). Appends (g.O.Sink.written c.args.out.now) (g.O.Sink.written c.write_square.new.out) (concat l))
-    (sym (lines_by true c.args.kind c.args.items.now c.args.i c.args.j c.item-first.result.0 c.item-second.result.0
+    (sym (lines_by true c.args.kind c.args.items.now c.args.places.0 c.args.places.1 c.item-first.result.0 c.item-second.result.0
     c.item-first.result.1.now c.item-second.result.1.now c.if-j-i.false c.item-first.ensures c.item-second.ensures
     (sym c.if-not-is_pair.false ∙ c.is_pair.ensures) a e)) c.in_ok-write_square.ensures.lines
 
 pub returns-clause-count : goal.returns-clause-count
 returns-clause-count g c a e =
-    sym (ap (λ (l : List (List ℕ)). length l) (lines_by true c.args.kind c.args.items.now c.args.i c.args.j c.item-first.result.0
+    sym (ap (λ (l : List (List ℕ)). length l) (lines_by true c.args.kind c.args.items.now c.args.places.0 c.args.places.1 c.item-first.result.0
     c.item-second.result.0 c.item-first.result.1.now c.item-second.result.1.now c.if-j-i.false c.item-first.ensures c.item-second.ensures
     (sym c.if-not-is_pair.false ∙ c.is_pair.ensures) a e))
 

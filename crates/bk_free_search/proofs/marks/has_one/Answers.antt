@@ -11,5 +11,6 @@ some x told = cases x told
 pub returns : goal.returns
 returns c told =
     let below : c.args.places.bits < 2 ^ 32 = search rules in
-    let one = some_bit-in_window c.args.places.bits c.args.start c.args.many below c.requires.many (some _ told) in
+    let few : c.args.many < 31 = omega (arith, c.requires.many) in
+    let one = some_bit-in_window c.args.places.bits c.args.start c.args.many below few (some _ told) in
     record { more = one.0; few = one.1; has = one.2 }

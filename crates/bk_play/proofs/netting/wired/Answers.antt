@@ -1,15 +1,15 @@
 use Rattle.std.proofs.lemmas.Grind.{common_steps}
 use Rattle.std.proofs.Common.{ap, arith, length, ◌+◌, ◌∙◌, ◌≡◌}
 use Rattle.std.proofs.lemmas.List.{length-append, length-map}
-use Rattle.bk_play.proofs.Wirings.{next_count, no_turn, wires_here, wires_more}
+use Rattle.bk_play.proofs.Wirings.{next_count, no_record, wires_here, wires_more}
 use Rattle.bk_play.specs.Wiring.{hung_and_closed, move_wires_from}
 use Rattle.bk_play.proofs.netting.wired.Goals as goal
 
 pub add_wires-requires-clause-wires : goal.add_wires-requires-clause-wires
 add_wires-requires-clause-wires c =
     let i = c.loop-node.invariant in
-    wires_here _ (length c.args.turns.now + 1) (move_wires_from 0 (hung_and_closed c.args.turns.now) c.args.ends.now) c.loop-node.net.wires
-    c.args.turns.now c.loop-node.rest.now c.split_at.result.0.now c.loop-node.node c.from.result _
+    wires_here _ (length c.args.records.now + 1) (move_wires_from 0 (hung_and_closed c.args.records.now) c.args.ends.now) c.loop-node.net.wires
+    c.args.records.now c.loop-node.rest.now c.split_at.result.0.now c.loop-node.node c.from.result _
     (omega arith) c.requires.wires i.nodes i.wires c.from.ensures c.split_at.ensures.front
 
 pub loop-node-preserved : goal.loop-node-preserved
@@ -28,11 +28,11 @@ loop-node-preserved c =
         c.split_at.ensures.back_len,
         i.left,
         c.from.ensures,
-        next_count c.args.turns.now c.loop-node.node no_turn (omega arith),
+        next_count c.args.records.now c.loop-node.node no_record (omega arith),
       );
-      left = omega (arith, i.left, c.split_at.ensures.back_len, c.from.ensures, next_count c.args.turns.now c.loop-node.node no_turn (omega arith));
-      wires = wires_more (move_wires_from 0 (hung_and_closed c.args.turns.now) c.args.ends.now) c.loop-node.net.wires c.add_wires.new.net.wires
-          c.args.turns.now c.loop-node.rest.now c.split_at.result.0.now c.split_at.result.1.now c.loop-node.node c.from.result _
+      left = omega (arith, i.left, c.split_at.ensures.back_len, c.from.ensures, next_count c.args.records.now c.loop-node.node no_record (omega arith));
+      wires = wires_more (move_wires_from 0 (hung_and_closed c.args.records.now) c.args.ends.now) c.loop-node.net.wires c.add_wires.new.net.wires
+          c.args.records.now c.loop-node.rest.now c.split_at.result.0.now c.split_at.result.1.now c.loop-node.node c.from.result _
           (omega arith) i.wires c.from.ensures c.split_at.ensures.front c.split_at.ensures.back wires;
     }
 

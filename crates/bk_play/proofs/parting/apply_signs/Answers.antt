@@ -35,7 +35,7 @@ still_small left right a b n e f h = omega arith
 
 pub returns-clause-sizes : goal.returns-clause-sizes
 returns-clause-sizes c =
-    let to : c.first_touched-start.result + c.open_sides-open.result + 1 ≡ first_touched c.args.turn.now + (open_sides_of_record c.args.turn.now + 1) =
+    let to : c.first_touched-start.result + c.open_sides-open.result + 1 ≡ first_touched c.args.noted.now + (open_sides_of_record c.args.noted.now + 1) =
     omega (arith, c.first_touched-start.ensures, c.open_sides-open.ensures) in
     let sizes = c.put_sizes.ensures ∙ (λ i. joined_sizes (c.max.ensures i) (c.max-2.ensures i) c.args.moved.now) in
     room-filled c.args.sizes.now.items c.make_room.new.list.items c.deref_mut.result.now c.put_sizes.new.room c.first_touched-start.result

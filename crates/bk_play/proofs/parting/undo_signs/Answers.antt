@@ -47,7 +47,7 @@ slice_bounds-splice-end-2 c = omega (arith, c.from-right.ensures, c.min-2.ensure
 
 pub splice-requires : goal.splice-requires
 splice-requires c =
-    let xs = c.args.turn.now.left ∷ c.args.turn.now.closed ∷ c.args.turn.now.right ∷ [] in
+    let xs = c.args.noted.now.left ∷ c.args.noted.now.closed ∷ c.args.noted.now.right ∷ [] in
     let many = room-long xs xs (1 - c.from-left.result) (2 + c.from-right.result) (c.from-left.result + c.from-right.result + 1) refl
     (omega (arith, c.from-right.ensures, c.min-2.ensures)) (omega (arith, c.from-left.ensures, c.min.ensures)) in (
       lit< tt,
@@ -71,10 +71,10 @@ splice-requires c =
 
 pub returns-clause-sizes : goal.returns-clause-sizes
 returns-clause-sizes c =
-    let to : c.first_touched-start.result + c.from-parted.result + 1 ≡ first_touched c.args.turn.now + (c.args.turn.now.parted + 1) =
+    let to : c.first_touched-start.result + c.from-parted.result + 1 ≡ first_touched c.args.noted.now + (c.args.noted.now.parted + 1) =
     omega (arith, c.first_touched-start.ensures, c.from-parted.ensures) in
     c.splice.ensures ∙ (λ i. splice c.args.sizes.now.items (c.first_touched-start.ensures i) (to i)
-    (slice_range (c.args.turn.now.left ∷ c.args.turn.now.closed ∷ c.args.turn.now.right ∷ [])
+    (slice_range (c.args.noted.now.left ∷ c.args.noted.now.closed ∷ c.args.noted.now.right ∷ [])
     (1 - (c.from-left.ensures ∙ c.min.ensures) i) (2 + (c.from-right.ensures ∙ c.min-2.ensures) i)))
 
 pub splice-requires-2 : goal.splice-requires-2
@@ -103,7 +103,7 @@ splice-requires-2 c =
 
 pub returns-clause-signs : goal.returns-clause-signs
 returns-clause-signs c =
-    let to : c.first_touched-start.result + c.from-parted.result ≡ first_touched c.args.turn.now + c.args.turn.now.parted =
+    let to : c.first_touched-start.result + c.from-parted.result ≡ first_touched c.args.noted.now + c.args.noted.now.parted =
     omega (arith, c.first_touched-start.ensures, c.from-parted.ensures) in
     c.splice-2.ensures ∙ (λ i. splice c.args.signs.now.items (c.first_touched-start.ensures i) (to i) (slice_range (Under ∷ Above ∷ [])
     (1 - (c.from-left.ensures ∙ c.min.ensures) i) (1 + (c.from-right.ensures ∙ c.min-2.ensures) i)))

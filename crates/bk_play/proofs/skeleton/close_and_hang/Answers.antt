@@ -54,9 +54,9 @@ pub splice_numbers-requires : goal.splice_numbers-requires
 splice_numbers-requires c =
     let within : c.from-first.result + c.from.result ≤ length c.args.ends.now.items =
     omega (arith, c.requires.within, c.from-first.ensures, c.from.ensures) in
-    let fits : length c.args.ends.now.items - (c.from-first.result + c.from.result - c.from-first.result) + c.args.turn.now.count ≤ 200 =
+    let fits : length c.args.ends.now.items - (c.from-first.result + c.from.result - c.from-first.result) + c.args.noted.now.count ≤ 200 =
     omega (arith, c.requires.few) in
-    let small : c.len.result + c.len-2.result + 1 + c.args.turn.now.count ≤ 255 =
+    let small : c.len.result + c.len-2.result + 1 + c.args.noted.now.count ≤ 255 =
     omega (arith, c.requires.few, c.len.ensures.value, c.len-2.ensures.value) in (lit< tt, (omega arith, (within, (fits, small))))
 
 pub returns-clause-ends : goal.returns-clause-ends
@@ -64,7 +64,7 @@ returns-clause-ends c =
     let number : c.len.result + c.len-2.result + 1 ≡ length c.args.ends.now.items + length c.args.closed.now.items + 1 =
     omega (arith, c.len.ensures.value, c.len-2.ensures.value) in
     c.splice_numbers.ensures ∙ (λ i. splice c.args.ends.now.items (c.from-first.ensures i) (c.from-first.ensures i + c.from.ensures i)
-    (numbers_from (number i) c.args.turn.now.count))
+    (numbers_from (number i) c.args.noted.now.count))
 
 pub returns-clause-closed : goal.returns-clause-closed
 returns-clause-closed c = c.append.ensures ∙ (λ i. c.args.closed.now.items

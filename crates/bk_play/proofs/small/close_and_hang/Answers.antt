@@ -52,7 +52,7 @@ returns-clause-ends c =
     let number : c.len.result + c.len-2.result + 1 ≡ length c.args.ends.now.items + length c.args.closed.now.items + 1 =
     omega (arith, c.len.ensures.value, c.len-2.ensures.value) in
     c.hang.ensures ∙ (λ i. splice c.args.ends.now.items (c.from-first.ensures i) (c.from-first.ensures i + c.from.ensures i)
-    (numbers_from (number i) c.args.turn.now.count))
+    (numbers_from (number i) c.args.noted.now.count))
 
 pub returns-clause-closed : goal.returns-clause-closed
 returns-clause-closed c = c.append.ensures ∙ (λ i. c.args.closed.now.items ++ (c.part-valley.ensures

@@ -68,9 +68,9 @@ append-requires-2 c = (
 
 pub returns-clause-sizes : goal.returns-clause-sizes
 returns-clause-sizes c =
-    splice-from_cut c.args.sizes.now.items c.truncate.new.self.items (sizes_after c.args.turn.now c.args.moved.now) c.push_parted.new.sizes.items
-    c.part-sizes_behind.result.items c.append.new.self.items (first_touched c.args.turn.now)
-    (first_touched c.args.turn.now + (open_sides_of_record c.args.turn.now + 1)) c.len.result c.len.ensures.value
+    splice-from_cut c.args.sizes.now.items c.truncate.new.self.items (sizes_after c.args.noted.now c.args.moved.now) c.push_parted.new.sizes.items
+    c.part-sizes_behind.result.items c.append.new.self.items (first_touched c.args.noted.now)
+    (first_touched c.args.noted.now + (open_sides_of_record c.args.noted.now + 1)) c.len.result c.len.ensures.value
     (c.part-sizes_behind.ensures ∙ ap (λ n. slice_range c.args.sizes.now.items n c.len.result)
     (omega (arith, c.first_touched-start.ensures, c.open_sides.ensures)))
     (c.truncate.ensures ∙ ap (λ n. take n c.args.sizes.now.items) c.first_touched-start.ensures)
@@ -80,8 +80,8 @@ returns-clause-sizes c =
 pub returns-clause-signs : goal.returns-clause-signs
 returns-clause-signs c =
     splice-from_cut c.args.signs.now.items c.truncate-2.new.self.items (filter parts c.args.moved.now) c.push_parted.new.signs.items
-    c.part-signs_behind.result.items c.append-2.new.self.items (first_touched c.args.turn.now)
-    (first_touched c.args.turn.now + open_sides_of_record c.args.turn.now) c.len-2.result c.len-2.ensures.value
+    c.part-signs_behind.result.items c.append-2.new.self.items (first_touched c.args.noted.now)
+    (first_touched c.args.noted.now + open_sides_of_record c.args.noted.now) c.len-2.result c.len-2.ensures.value
     (c.part-signs_behind.ensures ∙ ap (λ n. slice_range c.args.signs.now.items n c.len-2.result)
     (omega (arith, c.first_touched-start.ensures, c.open_sides.ensures)))
     (c.truncate-2.ensures ∙ ap (λ n. take n c.args.signs.now.items) c.first_touched-start.ensures)

@@ -5,7 +5,7 @@ use Rattle.bk_play.proofs.NetRead.{reads_shown}
 use Rattle.bk_play.proofs.RecordCounts.{closed_many, closed_numbers}
 use Rattle.bk_play.proofs.SkelReads.{counted_in}
 use Rattle.bk_play.specs.Wiring.{AreNumbers, closed_of}
-use Rattle.bk_play.specs.declared.turns.MoveRecord.{MoveRecord}
+use Rattle.bk_play.specs.declared.records.MoveRecord.{MoveRecord}
 use Rattle.bk_play.proofs.small.small_net.Goals as goal
 
 pub end_nodes-ended-requires-clause-numbers : goal.end_nodes-ended-requires-clause-numbers

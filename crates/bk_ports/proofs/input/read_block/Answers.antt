@@ -22,8 +22,8 @@ ok_as : {E : Type 0} (r : Result ℕ E) (P Q : ℕ → Type 0) → ((n : ℕ) �
 ok_as (Ok n) P Q more h = more n h
 ok_as (Err e) P Q more h = tt
 
-pub ask-requires : goal.ask-requires
-ask-requires g c =
+pub read_once-requires : goal.read_once-requires
+read_once-requires g c =
     let most = most_asked c.args.taken c.clamp-most.result c.requires c.clamp-most.ensures in
     record {
       asked = omega (
@@ -36,8 +36,8 @@ ask-requires g c =
 pub returns-clause-within : goal.returns-clause-within
 returns-clause-within g c =
     let most = most_asked c.args.taken c.clamp-most.result c.requires c.clamp-most.ensures in
-    ok_as c.ask.result (λ n. n ≤ length c.ask.new.buf) (λ n. c.args.taken < 1073741824 → c.args.taken + n ≤ 1073741824)
-    (λ n h before. omega (arith, h, most.1 before, c.ask.auto.buf)) c.ask.ensures.count
+    ok_as c.read_once.result (λ n. n ≤ length c.read_once.new.buf) (λ n. c.args.taken < 1073741824 → c.args.taken + n ≤ 1073741824)
+    (λ n h before. omega (arith, h, most.1 before, c.read_once.auto.buf)) c.read_once.ensures.count
 
 pub overflow_sub-taken : goal.overflow_sub-taken
 overflow_sub-taken g c = c.requires
@@ -46,28 +46,29 @@ pub clamp-most-requires : goal.clamp-most-requires
 clamp-most-requires g c = lit≤ tt
 
 pub returns-clause-cause : goal.returns-clause-cause
-returns-clause-cause g c = c.ask.ensures.cause
+returns-clause-cause g c = c.read_once.ensures.cause
 
-pub slice_bounds-ask-end : goal.slice_bounds-ask-end
-slice_bounds-ask-end g c = (most_asked c.args.taken c.clamp-most.result c.requires c.clamp-most.ensures).0
+pub slice_bounds-read_once-end : goal.slice_bounds-read_once-end
+slice_bounds-read_once-end g c = (most_asked c.args.taken c.clamp-most.result c.requires c.clamp-most.ensures).0
 
 pub returns-clause-count : goal.returns-clause-count
 returns-clause-count g c =
     let most = most_asked c.args.taken c.clamp-most.result c.requires c.clamp-most.ensures in
-    ok_as c.ask.result (λ n. n ≤ length c.ask.new.buf) (λ n. n ≤ 16384) (λ n h. omega (arith, h, most.0, c.ask.auto.buf)) c.ask.ensures.count
+    ok_as c.read_once.result (λ n. n ≤ length c.read_once.new.buf) (λ n. n ≤ 16384)
+    (λ n h. omega (arith, h, most.0, c.read_once.auto.buf)) c.read_once.ensures.count
 
 pub returns-clause-one : goal.returns-clause-one
 returns-clause-one g c =
     let most = most_asked c.args.taken c.clamp-most.result c.requires c.clamp-most.ensures in
-    ok_as c.ask.result (λ n. n ≤ length c.ask.new.buf) (λ n. c.args.taken ≡ 1073741824 → n ≤ 1)
-    (λ n h all. omega (arith, h, most.2 all, c.ask.auto.buf)) c.ask.ensures.count
+    ok_as c.read_once.result (λ n. n ≤ length c.read_once.new.buf) (λ n. c.args.taken ≡ 1073741824 → n ≤ 1)
+    (λ n h all. omega (arith, h, most.2 all, c.read_once.auto.buf)) c.read_once.ensures.count
 
 pub returns-clause-bytes : goal.returns-clause-bytes
 returns-clause-bytes g c =
     let most = most_asked c.args.taken c.clamp-most.result c.requires c.clamp-most.ensures in
-    read_longer _ _ c.ask.result c.ask.new.buf _ c.ask.ensures.count (omega (
+    read_longer _ _ c.read_once.result c.read_once.new.buf _ c.read_once.ensures.count (omega (
       arith,
       at_least_one c.args.taken c.clamp-most.result c.clamp-most.ensures,
       most.0,
-      c.ask.auto.buf,
-    )) c.ask.ensures.bytes
+      c.read_once.auto.buf,
+    )) c.read_once.ensures.bytes

@@ -7,11 +7,11 @@ use Rattle.bk_skel.proofs.placing.place.Goals as goal
 
 pub slice_bounds-sum_of-end : goal.slice_bounds-sum_of-end
 slice_bounds-sum_of-end c = first_is_there c.args.skel.now c.requires.closed c.args.sides.now c.requires.sides
-    (omega (arith, c.requires.count, (c.moves-moves.ensures.kept).few)) c.requires.count c.turn.result c.turn.ensures c.from.result c.from.ensures
+    (omega (arith, c.requires.count, (c.moves-moves.ensures.kept).few)) c.requires.count c.record_at.result c.record_at.ensures c.from.result c.from.ensures
 
 pub loop-i-init : goal.loop-i-init
 loop-i-init c = record {
-  width = width_as c.args.skel.now c.args.sides.now c.turn.result c.from.result c.sum_of-width.result c.requires.closed.some c.turn.ensures
+  width = width_as c.args.skel.now c.args.sides.now c.record_at.result c.from.result c.sum_of-width.result c.requires.closed.some c.record_at.ensures
       c.from.ensures c.sum_of-width.ensures.sum;
   to = start_as c.args.skel.now c.args.sides.now c.clear.new.self.items c.clear-2.new.self.items c.clear.ensures c.clear-2.ensures
       (placed_start c.args.sides.now c.requires.sides (omega (arith, c.requires.count, (c.moves-moves.ensures.kept).few)) c.args.skel.now
@@ -24,7 +24,7 @@ slice_bounds-new-end c = omega (
   sides_there c.args.skel.now (c.moves-moves.ensures.kept).legal c.args.sides.now c.requires.sides
       (omega (arith, c.requires.count, (c.moves-moves.ensures.kept).few)) c.loop-i.i
       (omega (arith, c.loop-i-test.true, c.moves-moves.ensures.value)) c.loop-i.laying.laid.items c.loop-i.laying.numbers.items c.loop-i.invariant.to
-      c.turn-turn.result c.turn-turn.ensures,
+      c.record_at-noted.result c.record_at-noted.ensures,
   c.len-from.ensures.value,
   c.from-in-loop-i.ensures,
 )
@@ -33,7 +33,7 @@ pub lay_move-requires : goal.lay_move-requires
 lay_move-requires c = step_can c.args.skel.now (c.moves-moves.ensures.kept).legal c.args.sides.now c.requires.sides
     (omega (arith, c.requires.count, (c.moves-moves.ensures.kept).few)) c.loop-i.i
     (omega (arith, c.loop-i-test.true, c.moves-moves.ensures.value)) c.loop-i.laying.laid.items c.loop-i.laying.numbers.items c.loop-i.invariant.to
-    c.turn-turn.result c.turn-turn.ensures c.loop-i.laying.width c.len-from.result c.from-in-loop-i.result c.from-first.result
+    c.record_at-noted.result c.record_at-noted.ensures c.loop-i.laying.width c.len-from.result c.from-in-loop-i.result c.from-first.result
     c.from-in-loop-i-2.result c.signs_at-signs.result.now
     (take (c.len-from.result + c.from-in-loop-i.result - c.len-from.result) (drop c.len-from.result c.args.sides.now))
     c.loop-i.invariant.width c.len-from.ensures.value c.from-in-loop-i.ensures c.from-first.ensures c.from-in-loop-i-2.ensures c.signs_at-signs.ensures refl
@@ -42,7 +42,7 @@ pub returns-then-not-lay_move-clause-only : goal.returns-then-not-lay_move-claus
 returns-then-not-lay_move-clause-only c = step_none c.args.skel.now (c.moves-moves.ensures.kept).legal c.args.sides.now c.requires.sides
     (omega (arith, c.requires.count, (c.moves-moves.ensures.kept).few)) c.loop-i.i
     (omega (arith, c.loop-i-test.true, c.moves-moves.ensures.value)) c.loop-i.laying.laid.items c.loop-i.laying.numbers.items c.loop-i.invariant.to
-    c.turn-turn.result c.turn-turn.ensures c.loop-i.laying.width c.len-from.result c.from-in-loop-i.result c.from-first.result
+    c.record_at-noted.result c.record_at-noted.ensures c.loop-i.laying.width c.len-from.result c.from-in-loop-i.result c.from-first.result
     c.from-in-loop-i-2.result c.signs_at-signs.result.now
     (take (c.len-from.result + c.from-in-loop-i.result - c.len-from.result) (drop c.len-from.result c.args.sides.now))
     c.loop-i.invariant.width c.len-from.ensures.value c.from-in-loop-i.ensures c.from-first.ensures c.from-in-loop-i-2.ensures
@@ -55,7 +55,7 @@ loop-i-preserved c = record {
       step_more c.args.skel.now (c.moves-moves.ensures.kept).legal c.args.sides.now c.requires.sides
       (omega (arith, c.requires.count, (c.moves-moves.ensures.kept).few)) c.loop-i.i
       (omega (arith, c.loop-i-test.true, c.moves-moves.ensures.value)) c.loop-i.laying.laid.items c.loop-i.laying.numbers.items c.loop-i.invariant.to
-      c.turn-turn.result c.turn-turn.ensures c.loop-i.laying.width c.len-from.result c.from-in-loop-i.result c.from-first.result
+      c.record_at-noted.result c.record_at-noted.ensures c.loop-i.laying.width c.len-from.result c.from-in-loop-i.result c.from-first.result
       c.from-in-loop-i-2.result c.signs_at-signs.result.now
       (take (c.len-from.result + c.from-in-loop-i.result - c.len-from.result) (drop c.len-from.result c.args.sides.now))
       c.loop-i.invariant.width c.len-from.ensures.value c.from-in-loop-i.ensures c.from-first.ensures c.from-in-loop-i-2.ensures

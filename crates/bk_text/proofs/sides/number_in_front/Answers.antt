@@ -7,8 +7,8 @@ use Rattle.bk_text.proofs.sides.number_in_front.Goals as goal
 
 pub loop-i-preserved : goal.loop-i-preserved
 loop-i-preserved c =
-    subst (λ (z : List ℕ). SpellOn c.args.greatest z 0 c.in-Some.longer) (sym (take_more c.args.bytes.now c.loop-i.i 0 (omega arith)))
-    (spelled_further c.args.greatest (take c.loop-i.i c.args.bytes.now) (get_or c.args.bytes.now c.loop-i.i 0 ∷ []) 0 c.loop-i.number c.in-Some.longer
+    subst (λ (z : List ℕ). SpellOn c.args.greatest z 0 c.in-Some.next) (sym (take_more c.args.bytes.now c.loop-i.i 0 (omega arith)))
+    (spelled_further c.args.greatest (take c.loop-i.i c.args.bytes.now) (get_or c.args.bytes.now c.loop-i.i 0 ∷ []) 0 c.loop-i.number c.in-Some.next
     c.loop-i.invariant c.in-Some.ensures)
 
 pub loop-i-init : goal.loop-i-init
@@ -17,11 +17,11 @@ loop-i-init c = record { small = zero-le; leads = λ _ _ _ _ _. refl }
 pub bounds-bytes-i : goal.bounds-bytes-i
 bounds-bytes-i c = c.loop-i-test.true
 
-pub longer-requires-clause-large : goal.longer-requires-clause-large
-longer-requires-clause-large c = c.requires
+pub with_digit-requires-clause-large : goal.with_digit-requires-clause-large
+with_digit-requires-clause-large c = c.requires
 
-pub longer-requires-clause-number : goal.longer-requires-clause-number
-longer-requires-clause-number c = c.loop-i.invariant.small
+pub with_digit-requires-clause-number : goal.with_digit-requires-clause-number
+with_digit-requires-clause-number c = c.loop-i.invariant.small
 
 pub returns-in-None-clause-within : goal.returns-in-None-clause-within
 returns-in-None-clause-within c = le_of_lt c.loop-i-test.true

@@ -9,13 +9,13 @@ list_members-requires-clause-most g c = omega (arith, c.requires.most, ap (λ (s
 
 pub returns-clause-listed : goal.returns-clause-listed
 returns-clause-listed g c =
-    subst (λ (s : WalkState). IfOk c.list_members.result (λ last. WritesListing (listing_of s c.args.limit) last
+    subst (λ (s : WalkState). IfOk c.list_members.result (λ last. WritesListing (listing_of s c.args.asked.limit) last
     (g.O.Sink.written c.args.out.now) (g.O.Sink.written c.list_members.new.out))) c.after-members.ensures
     c.list_members.ensures.listed
 
 pub returns-clause-begun : goal.returns-clause-begun
 returns-clause-begun g c =
-    subst (λ (s : WalkState). OnErr c.list_members.result (BeginsListing (listing_of s c.args.limit)
+    subst (λ (s : WalkState). OnErr c.list_members.result (BeginsListing (listing_of s c.args.asked.limit)
     (g.O.Sink.written c.args.out.now) (g.O.Sink.written c.list_members.new.out))) c.after-members.ensures
     c.list_members.ensures.begun
 

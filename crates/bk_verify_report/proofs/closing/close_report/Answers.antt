@@ -1,6 +1,6 @@
 -- What is written by the rest is written by the entries that it was made from.
 use Rattle.std.specs.Prelude.{IfOk, OnErr}
-use Rattle.std.proofs.Common.{ap, subst, ◌∙◌}
+use Rattle.std.proofs.Common.{ap, subst, sym, ◌≤◌}
 use Rattle.bk_verify_report.specs.MissingLines.{ClosesReport, IsClosingBegun}
 use Rattle.bk_verify_report.specs.ReportEnd.{kept_of_rest}
 use Rattle.bk_verify_report.specs.Rest.{RestState}
@@ -16,23 +16,20 @@ pub new-steps-requires-clause-some : goal.new-steps-requires-clause-some
 new-steps-requires-clause-some g c = c.requires.some
 
 pub close_rest-requires-clause-most : goal.close_rest-requires-clause-most
-close_rest-requires-clause-most g c = c.requires.most
-
-pub close_rest-requires-clause-order : goal.close_rest-requires-clause-order
-close_rest-requires-clause-order g c = ap (λ (s : RestState). s.walk.order) c.of-rest.ensures ∙ c.requires.order
+close_rest-requires-clause-most g c = subst (λ (s : RestState). s.walk.order ≤ 16) (sym c.of-rest.ensures) c.requires.most
 
 pub close_rest-requires-clause-start : goal.close_rest-requires-clause-start
 close_rest-requires-clause-start g c = ap (λ (s : RestState). s.walk.cursor) c.of-rest.ensures
 
 pub returns-clause-closed : goal.returns-clause-closed
 returns-clause-closed g c =
-    subst (λ (s : RestState). IfOk c.close_rest.result (λ differs. ClosesReport c.args.order
+    subst (λ (s : RestState). IfOk c.close_rest.result (λ differs. ClosesReport s.walk.order
     (kept_of_rest s (record { foreign = c.args.state.foreign; repeated = c.args.state.repeated; refused = c.args.state.refused })) differs
     (g.O.Sink.written c.args.out.now) (g.O.Sink.written c.close_rest.new.out))) c.of-rest.ensures c.close_rest.ensures.closed
 
 pub returns-clause-begun : goal.returns-clause-begun
 returns-clause-begun g c =
-    subst (λ (s : RestState). OnErr c.close_rest.result (IsClosingBegun c.args.order
+    subst (λ (s : RestState). OnErr c.close_rest.result (IsClosingBegun s.walk.order
     (kept_of_rest s (record { foreign = c.args.state.foreign; repeated = c.args.state.repeated; refused = c.args.state.refused }))
     (g.O.Sink.written c.args.out.now) (g.O.Sink.written c.close_rest.new.out))) c.of-rest.ensures c.close_rest.ensures.begun
 

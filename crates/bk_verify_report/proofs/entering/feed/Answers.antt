@@ -11,53 +11,53 @@ use Rattle.bk_answer.proofs.Failing.{cause-of_error, cause-of_same}
 use Rattle.bk_verify_report.proofs.entering.feed.Goals as goal
 
 pub returns-in-Ok-New-clause-outcome : goal.returns-in-Ok-New-clause-outcome
-returns-in-Ok-New-clause-outcome g c =
+returns-in-Ok-New-clause-outcome g c line has =
     let fed = subst (λ (f : Fed). IsFed c.args.state.now.entries c.args.number c.args.tiling.now f c.feed.new.self) c.in-Ok-New.field-0-is
     c.in-Ok-New.ensures.fed in
-    written_none c.args.state.now c.args.number c.args.line.now false (record c.args.state.now { entries = c.feed.new.self })
+    written_none c.args.state.now c.args.number line false (record c.args.state.now { entries = c.feed.new.self })
     (g.O.Sink.written c.args.out.now) (g.O.Sink.written c.args.out.now)
-    (feeds c.args.tiling.now New c.feed.new.self c.requires.has fed) refl
+    (feeds c.args.tiling.now New c.feed.new.self has fed) refl
 
 pub returns-in_ok-write_all-in-Ok-Repeats-clause-outcome : goal.returns-in_ok-write_all-in-Ok-Repeats-clause-outcome
-returns-in_ok-write_all-in-Ok-Repeats-clause-outcome g c =
+returns-in_ok-write_all-in-Ok-Repeats-clause-outcome g c line has =
     let fed = subst (λ (f : Fed). IsFed c.args.state.now.entries c.args.number c.args.tiling.now f c.feed.new.self) c.in-Ok-Repeats.field-0-is
     c.in-Ok-Repeats.ensures.fed in
-    written_one c.args.state.now c.args.number c.args.line.now false (record c.args.state.now
+    written_one c.args.state.now c.args.number line false (record c.args.state.now
     { entries = c.feed.new.self; repeated = c.args.state.now.repeated + 1 })
     (g.O.Sink.written c.args.out.now) (g.O.Sink.written c.write_all.new.self) (repeats_line c.args.number c.in-Ok-Repeats.first) c.as_slice.result.now
-    (c.as_slice.ensures.value ∙ c.write_repeats.ensures) (feeds c.args.tiling.now (Repeats c.in-Ok-Repeats.first) c.feed.new.self c.requires.has fed)
+    (c.as_slice.ensures.value ∙ c.write_repeats.ensures) (feeds c.args.tiling.now (Repeats c.in-Ok-Repeats.first) c.feed.new.self has fed)
     c.in_ok-write_all-in-Ok-Repeats.ensures.ok
 
 pub returns-in_err-write_all-in-Ok-Repeats-clause-failed : goal.returns-in_err-write_all-in-Ok-Repeats-clause-failed
-returns-in_err-write_all-in-Ok-Repeats-clause-failed g c =
+returns-in_err-write_all-in-Ok-Repeats-clause-failed g c line has =
     let fed = subst (λ (f : Fed). IsFed c.args.state.now.entries c.args.number c.args.tiling.now f c.feed.new.self) c.in-Ok-Repeats.field-0-is
     c.in-Ok-Repeats.ensures.fed in
     on_err-intro c.from_residual.result
-    (begun_one c.args.state.now c.args.number c.args.line.now false (record c.args.state.now
+    (begun_one c.args.state.now c.args.number line false (record c.args.state.now
     { entries = c.feed.new.self; repeated = c.args.state.now.repeated + 1 })
     (g.O.Sink.written c.args.out.now) (g.O.Sink.written c.write_all.new.self) (repeats_line c.args.number c.in-Ok-Repeats.first) c.as_slice.result.now
-    (c.as_slice.ensures.value ∙ c.write_repeats.ensures) (feeds c.args.tiling.now (Repeats c.in-Ok-Repeats.first) c.feed.new.self c.requires.has fed)
+    (c.as_slice.ensures.value ∙ c.write_repeats.ensures) (feeds c.args.tiling.now (Repeats c.in-Ok-Repeats.first) c.feed.new.self has fed)
     c.in_err-write_all-in-Ok-Repeats.ensures.err)
 
 pub returns-in_ok-write_all-in-Ok-Foreign-clause-outcome : goal.returns-in_ok-write_all-in-Ok-Foreign-clause-outcome
-returns-in_ok-write_all-in-Ok-Foreign-clause-outcome g c =
+returns-in_ok-write_all-in-Ok-Foreign-clause-outcome g c line has =
     let fed = subst (λ (f : Fed). IsFed c.args.state.now.entries c.args.number c.args.tiling.now f c.feed.new.self) c.in-Ok-Foreign.field-0-is
     c.in-Ok-Foreign.ensures.fed in
-    written_one c.args.state.now c.args.number c.args.line.now false (record c.args.state.now
+    written_one c.args.state.now c.args.number line false (record c.args.state.now
     { entries = c.feed.new.self; foreign = c.args.state.now.foreign + 1 })
     (g.O.Sink.written c.args.out.now) (g.O.Sink.written c.write_all-in-Ok-Foreign.new.self) (foreign_line c.args.number) c.as_slice-in-Ok-Foreign.result.now
-    (c.as_slice-in-Ok-Foreign.ensures.value ∙ c.write_foreign.ensures) (feeds c.args.tiling.now Foreign c.feed.new.self c.requires.has fed)
+    (c.as_slice-in-Ok-Foreign.ensures.value ∙ c.write_foreign.ensures) (feeds c.args.tiling.now Foreign c.feed.new.self has fed)
     c.in_ok-write_all-in-Ok-Foreign.ensures.ok
 
 pub returns-in_err-write_all-in-Ok-Foreign-clause-failed : goal.returns-in_err-write_all-in-Ok-Foreign-clause-failed
-returns-in_err-write_all-in-Ok-Foreign-clause-failed g c =
+returns-in_err-write_all-in-Ok-Foreign-clause-failed g c line has =
     let fed = subst (λ (f : Fed). IsFed c.args.state.now.entries c.args.number c.args.tiling.now f c.feed.new.self) c.in-Ok-Foreign.field-0-is
     c.in-Ok-Foreign.ensures.fed in
     on_err-intro c.from_residual-in_err-write_all-in-Ok-Foreign.result
-    (begun_one c.args.state.now c.args.number c.args.line.now false (record c.args.state.now
+    (begun_one c.args.state.now c.args.number line false (record c.args.state.now
     { entries = c.feed.new.self; foreign = c.args.state.now.foreign + 1 })
     (g.O.Sink.written c.args.out.now) (g.O.Sink.written c.write_all-in-Ok-Foreign.new.self) (foreign_line c.args.number) c.as_slice-in-Ok-Foreign.result.now
-    (c.as_slice-in-Ok-Foreign.ensures.value ∙ c.write_foreign.ensures) (feeds c.args.tiling.now Foreign c.feed.new.self c.requires.has fed)
+    (c.as_slice-in-Ok-Foreign.ensures.value ∙ c.write_foreign.ensures) (feeds c.args.tiling.now Foreign c.feed.new.self has fed)
     c.in_err-write_all-in-Ok-Foreign.ensures.err)
 
 pub returns-in-Err-clause-cause : goal.returns-in-Err-clause-cause
@@ -77,7 +77,7 @@ returns-in-Ok-New-clause-ready g c =
     record { foreign = omega (arith, ready.foreign); repeated = omega (arith, ready.repeated); refused = omega (arith, ready.refused) }
 
 pub returns-in_err-write_all-in-Ok-Repeats-clause-outcome : goal.returns-in_err-write_all-in-Ok-Repeats-clause-outcome
-returns-in_err-write_all-in-Ok-Repeats-clause-outcome g c =
+returns-in_err-write_all-in-Ok-Repeats-clause-outcome g c line has =
     if_ok-of_error _ c.from_residual.result _ c.from_residual.ensures.1
 
 pub returns-in_err-write_all-in-Ok-Repeats-clause-cause : goal.returns-in_err-write_all-in-Ok-Repeats-clause-cause
@@ -100,7 +100,7 @@ pub overflow_add-state : goal.overflow_add-state
 overflow_add-state g c = omega (arith, c.requires.early, c.requires.ready.repeated)
 
 pub returns-in_err-write_all-in-Ok-Foreign-clause-outcome : goal.returns-in_err-write_all-in-Ok-Foreign-clause-outcome
-returns-in_err-write_all-in-Ok-Foreign-clause-outcome g c =
+returns-in_err-write_all-in-Ok-Foreign-clause-outcome g c line has =
     if_ok-of_error _ c.from_residual-in_err-write_all-in-Ok-Foreign.result _ c.from_residual-in_err-write_all-in-Ok-Foreign.ensures.1
 
 pub returns-in_err-write_all-in-Ok-Foreign-clause-cause : goal.returns-in_err-write_all-in-Ok-Foreign-clause-cause
@@ -130,7 +130,7 @@ pub as_slice-requires-in-Ok-Foreign : goal.as_slice-requires-in-Ok-Foreign
 as_slice-requires-in-Ok-Foreign g c = lit< tt
 
 pub returns-in-Err-clause-outcome : goal.returns-in-Err-clause-outcome
-returns-in-Err-clause-outcome g c = record {
-  cause = record { tiling = c.args.tiling.now; has = c.requires.has; sight = c.in-Err.ensures.wanting };
+returns-in-Err-clause-outcome g c line has = record {
+  cause = record { tiling = c.args.tiling.now; has = has; sight = c.in-Err.ensures.wanting };
   kept = Keeps-refl (g.O.Sink.written c.args.out.now);
 }

@@ -1,12 +1,7 @@
-use Rattle.std.proofs.Common.{false, inl, inr, refl, subst, true, ℕ, ◌∙◌}
+use Rattle.std.proofs.Common.{false, inl, inr, refl, subst, sym, true, ℕ, ◌∙◌, ◌≤◌}
 use Rattle.bk_ports.specs.Causes.{Rose}
 use Rattle.bk_verify_report.proofs.Ending.{ends_broken, ends_whole, last_order}
 use Rattle.bk_verify_report.proofs.run.verify.Goals as goal
-
-pub close_report-requires-clause-order : goal.close_report-requires-clause-order
-close_report-requires-clause-order g c =
-    last_order c.args.order c.in-Ok.list (g.S.Source.left c.args.source.now) (g.S.Source.left c.read_list.new.source)
-    (g.O.Sink.written c.args.out.now) (g.O.Sink.written c.read_list.new.out) c.in-Ok.ensures.read
 
 pub returns-in-Err-clause-verified : goal.returns-in-Err-clause-verified
 returns-in-Err-clause-verified g c = c.in-Err.ensures.stopped
@@ -64,7 +59,10 @@ pub read_list-requires-clause-most : goal.read_list-requires-clause-most
 read_list-requires-clause-most g c = c.requires.most
 
 pub close_report-requires-clause-most : goal.close_report-requires-clause-most
-close_report-requires-clause-most g c = c.requires.most
+close_report-requires-clause-most g c =
+    let order = last_order c.args.order c.in-Ok.list (g.S.Source.left c.args.source.now) (g.S.Source.left c.read_list.new.source)
+    (g.O.Sink.written c.args.out.now) (g.O.Sink.written c.read_list.new.out) c.in-Ok.ensures.read in
+    subst (λ (k : ℕ). k ≤ 16) (sym order) c.requires.most
 
 pub close_report-requires-clause-name : goal.close_report-requires-clause-name
 close_report-requires-clause-name g c = refl

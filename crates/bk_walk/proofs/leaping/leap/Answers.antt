@@ -2,7 +2,7 @@ use Rattle.std.proofs.Common.{ap, arith, length, subst, sym}
 use Rattle.bk_word.specs.Play.{IsLegal}
 use Rattle.bk_word.specs.Word.{order_of}
 use Rattle.bk_tree_walk.specs.Search.{SearchState}
-use Rattle.bk_tree_walk.proofs.SearchTurns.{stays_then}
+use Rattle.bk_tree_walk.proofs.LoopSteps.{stays_then}
 use Rattle.bk_walk.specs.Leaping.{GoesToWord, IsAtNumber}
 use Rattle.bk_walk.proofs.LeapStates.{leap_goes, leap_member, leap_met, leap_within}
 use Rattle.bk_walk.proofs.leaping.leap.Goals as goal

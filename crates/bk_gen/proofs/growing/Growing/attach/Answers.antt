@@ -3,7 +3,7 @@ use Rattle.std.specs.Prelude.{Bool, cond, false, true}
 use Rattle.std.proofs.Common.{arith, length, subst, sym, ℕ, ◌+◌, ◌<◌, ◌≡◌, ◌≤◌}
 use Rattle.bk_tiling.specs.Tiling.{Tiling}
 use Rattle.bk_gen.specs.Attaching.{goes_up_or_down, next_side}
-use Rattle.bk_gen.specs.Growing.{IsGrowing, with_behind, with_in_front}
+use Rattle.bk_gen.specs.Growing.{IsGrowing, moved_all, with_behind, with_corner}
 use Rattle.bk_gen.proofs.GrowingLaws.{growing_height, growing_width, grows_above, grows_below, grows_left, grows_right}
 use Rattle.bk_gen.proofs.growing.Growing.attach.Goals as goal
 
@@ -27,20 +27,24 @@ is_set-requires c = omega arith
 
 pub put_in_front-requires-clause-grows : goal.put_in_front-requires-clause-grows
 put_in_front-requires-clause-grows c =
-    grows c.args.v c.args.turn true (with_in_front c.self.inside.width 0 c.self.inside.width c.self.inside.width (c.self.inside.height + c.self.inside.width)) c.self.view_is c.in-true-true.ensures c.requires.few c.requires.side
-    (grows_above _ c.self.invariant)
+    grows c.args.v c.args.turn true
+    (λ (t : Tiling). with_corner c.self.inside.width c.self.inside.width (c.self.inside.height + c.self.inside.width) (moved_all 0 c.self.inside.width t))
+    c.self.view_is c.in-true-true.ensures c.requires.few c.requires.side (grows_above _ c.self.invariant)
 
 pub put_behind-requires-clause-grows : goal.put_behind-requires-clause-grows
 put_behind-requires-clause-grows c =
-    grows c.args.v c.args.turn true (with_behind (record { x = 0; y = c.self.inside.height; s = c.self.inside.width }) c.self.inside.width (c.self.inside.height + c.self.inside.width)) c.self.view_is c.in-true-false.ensures c.requires.few
-    c.requires.side (grows_below _ c.self.invariant)
+    grows c.args.v c.args.turn true
+    (with_behind (record { x = 0; y = c.self.inside.height; s = c.self.inside.width }) c.self.inside.width (c.self.inside.height + c.self.inside.width))
+    c.self.view_is c.in-true-false.ensures c.requires.few c.requires.side (grows_below _ c.self.invariant)
 
 pub put_in_front-requires-in-false-true-clause-grows : goal.put_in_front-requires-in-false-true-clause-grows
 put_in_front-requires-in-false-true-clause-grows c =
-    grows c.args.v c.args.turn false (with_in_front c.self.inside.height c.self.inside.height 0 (c.self.inside.width + c.self.inside.height) c.self.inside.height) c.self.view_is c.in-false-true.ensures c.requires.few c.requires.side
-    (grows_left _ c.self.invariant)
+    grows c.args.v c.args.turn false
+    (λ (t : Tiling). with_corner c.self.inside.height (c.self.inside.width + c.self.inside.height) c.self.inside.height (moved_all c.self.inside.height 0 t))
+    c.self.view_is c.in-false-true.ensures c.requires.few c.requires.side (grows_left _ c.self.invariant)
 
 pub put_behind-requires-in-false-false-clause-grows : goal.put_behind-requires-in-false-false-clause-grows
 put_behind-requires-in-false-false-clause-grows c =
-    grows c.args.v c.args.turn false (with_behind (record { x = c.self.inside.width; y = 0; s = c.self.inside.height }) (c.self.inside.width + c.self.inside.height) c.self.inside.height) c.self.view_is c.in-false-false.ensures c.requires.few
-    c.requires.side (grows_right _ c.self.invariant)
+    grows c.args.v c.args.turn false
+    (with_behind (record { x = c.self.inside.width; y = 0; s = c.self.inside.height }) (c.self.inside.width + c.self.inside.height) c.self.inside.height)
+    c.self.view_is c.in-false-false.ensures c.requires.few c.requires.side (grows_right _ c.self.invariant)

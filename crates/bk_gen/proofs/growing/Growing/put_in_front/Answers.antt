@@ -4,7 +4,7 @@ use Rattle.arrayvec.proofs.ArrayVecLemmas.{items-with_items}
 use Rattle.bk_tiling.specs.Scale.{moved_square}
 use Rattle.bk_tiling.specs.Tiling.{Tiling}
 use Rattle.bk_tiling.specs.declared.Square.{Square}
-use Rattle.bk_gen.specs.Growing.{IsGrowing, with_in_front}
+use Rattle.bk_gen.specs.Growing.{IsGrowing, moved_all, with_corner}
 use Rattle.bk_gen.proofs.GrowingLaws.{fit_moved}
 use Rattle.bk_gen.proofs.MovedFront.{as_many_moved}
 use Rattle.bk_gen.proofs.growing.Growing.put_in_front.Goals as goal
@@ -40,7 +40,8 @@ squares c = c.push.ensures.items
 
 pub invariant_of-self : goal.invariant_of-self
 invariant_of-self c =
-    rw (squares c) (subst (λ (t : Tiling). IsGrowing (with_in_front c.args.s c.args.right c.args.down c.args.width c.args.height t)) (sym c.self.view_is) c.requires.grows)
+    rw (squares c) (subst (λ (t : Tiling). IsGrowing (with_corner c.args.s c.args.width c.args.height (moved_all c.args.right c.args.down t)))
+    (sym c.self.view_is) c.requires.grows)
 
 pub returns : goal.returns
-returns c = rw (squares c) (ap (with_in_front c.args.s c.args.right c.args.down c.args.width c.args.height) c.self.view_is)
+returns c = rw (squares c) (ap (λ (t : Tiling). with_corner c.args.s c.args.width c.args.height (moved_all c.args.right c.args.down t)) c.self.view_is)

@@ -1,5 +1,5 @@
 use Rattle.std.proofs.Common.{refl}
-use Rattle.bk_lay.proofs.TurnLaws.{outline_of_nothing}
+use Rattle.bk_lay.proofs.LaidMoveLaws.{outline_of_nothing}
 use Rattle.bk_lay.proofs.outline.Outline.begin.Goals as goal
 
 pub returns-clause-outline : goal.returns-clause-outline

@@ -1,7 +1,7 @@
 use Rattle.std.proofs.Common.{List, ap, arith, length, subst, sym, ◌++◌, ◌+◌, ◌≡◌}
 use Rattle.std.proofs.lemmas.List.{length-append}
 use Rattle.bk_lay.proofs.MeetingRuns.{rises_after}
-use Rattle.bk_lay.proofs.NextTurn.{length_under}
+use Rattle.bk_lay.proofs.NextLaidMove.{length_under}
 use Rattle.bk_lay.specs.LevelRuns.{Meet, runs_under}
 use Rattle.bk_tiling.specs.declared.Square.{Square}
 use Rattle.bk_lay.specs.declared.outline.Run.{Run}

@@ -38,24 +38,24 @@ behind : (g : given.Over) (c : goal.After-push-then-len-2 g) → IsPut g.row.N c
     (seen c.push-then-len-2.new.self.items c.self.inside.limit) c.args.number
 behind g c = subst (λ (t : Numbers). IsPut g.row.N t (seen c.push-then-len-2.new.self.items c.self.inside.limit) c.args.number) c.self.view_is
     (put_behind g.row.N (seen c.self.inside.numbers.items c.self.inside.limit) (seen c.push-then-len-2.new.self.items c.self.inside.limit)
-    c.args.number c.sort_once.new.numbers.items c.self.invariant c.sort_once.ensures.same
+    c.args.number c.sort_and_thin.new.numbers.items c.self.invariant c.sort_and_thin.ensures.same
     (not_so c.is_dropped.result (IsSomeAnd c.self.inside.limit (λ least. least ≤ c.args.number)) c.is_dropped.ensures.1 c.if-is_dropped.false)
     c.push-then-len-2.ensures.items refl)
 
 -- one that is there
 again : (g : given.Over) (c : goal.Then-has g) → IsPut g.row.N c.args.self.now
-    (seen c.sort_once.new.numbers.items c.self.inside.limit) c.args.number
-again g c = subst (λ (t : Numbers). IsPut g.row.N t (seen c.sort_once.new.numbers.items c.self.inside.limit) c.args.number) c.self.view_is
-    (put_again g.row.N (seen c.self.inside.numbers.items c.self.inside.limit) (seen c.sort_once.new.numbers.items c.self.inside.limit)
-    c.args.number c.self.invariant c.sort_once.ensures.same
+    (seen c.sort_and_thin.new.numbers.items c.self.inside.limit) c.args.number
+again g c = subst (λ (t : Numbers). IsPut g.row.N t (seen c.sort_and_thin.new.numbers.items c.self.inside.limit) c.args.number) c.self.view_is
+    (put_again g.row.N (seen c.self.inside.numbers.items c.self.inside.limit) (seen c.sort_and_thin.new.numbers.items c.self.inside.limit)
+    c.args.number c.self.invariant c.sort_and_thin.ensures.same
     (subst (λ l. Contains l c.args.number) c.as_slice.ensures.value (c.has.ensures.0 c.if-has.true)) refl)
 
 -- one below the limit that is set
 low : (g : given.Over) (c : goal.After-push-then-number-limit g) → IsPut g.row.N c.args.self.now
     (seen c.push-then-number-limit.new.self.items (Some c.cut_off-limit.result)) c.args.number
 low g c = subst (λ (t : Numbers). IsPut g.row.N t (seen c.push-then-number-limit.new.self.items (Some c.cut_off-limit.result)) c.args.number)
-    c.self.view_is (put_low g.row.N (seen c.self.inside.numbers.items c.self.inside.limit) c.args.number c.sort_once.new.numbers.items c.self.invariant
-    c.sort_once.ensures.ascending c.sort_once.ensures.same (omega (arith, c.if-len-2.false, c.len-2.ensures.value))
+    c.self.view_is (put_low g.row.N (seen c.self.inside.numbers.items c.self.inside.limit) c.args.number c.sort_and_thin.new.numbers.items c.self.invariant
+    c.sort_and_thin.ensures.ascending c.sort_and_thin.ensures.same (omega (arith, c.if-len-2.false, c.len-2.ensures.value))
     (absent c.has.result c.as_slice.ensures.value c.has.ensures.1 c.if-has.false)
     (seen c.push-then-number-limit.new.self.items (Some c.cut_off-limit.result)) (omega (arith, c.if-number-limit.true, c.cut_off-limit.ensures.least))
     (c.push-then-number-limit.ensures.items ∙ ap (λ l. l ++ c.args.number ∷ []) c.cut_off-limit.ensures.kept) (ap (λ n. Some n) c.cut_off-limit.ensures.least))
@@ -64,8 +64,8 @@ low g c = subst (λ (t : Numbers). IsPut g.row.N t (seen c.push-then-number-limi
 high : (g : given.Over) (c : goal.Else-number-limit g) → IsPut g.row.N c.args.self.now
     (seen c.cut_off-limit.new.numbers.items (Some c.cut_off-limit.result)) c.args.number
 high g c = subst (λ (t : Numbers). IsPut g.row.N t (seen c.cut_off-limit.new.numbers.items (Some c.cut_off-limit.result)) c.args.number) c.self.view_is
-    (put_high g.row.N (seen c.self.inside.numbers.items c.self.inside.limit) c.args.number c.sort_once.new.numbers.items c.self.invariant
-    c.sort_once.ensures.ascending c.sort_once.ensures.same (omega (arith, c.if-len-2.false, c.len-2.ensures.value))
+    (put_high g.row.N (seen c.self.inside.numbers.items c.self.inside.limit) c.args.number c.sort_and_thin.new.numbers.items c.self.invariant
+    c.sort_and_thin.ensures.ascending c.sort_and_thin.ensures.same (omega (arith, c.if-len-2.false, c.len-2.ensures.value))
     (absent c.has.result c.as_slice.ensures.value c.has.ensures.1 c.if-has.false)
     (seen c.cut_off-limit.new.numbers.items (Some c.cut_off-limit.result)) (omega (arith, c.if-number-limit.false, c.cut_off-limit.ensures.least))
     c.cut_off-limit.ensures.kept (ap (λ n. Some n) c.cut_off-limit.ensures.least))
@@ -104,7 +104,7 @@ pub returns-else-number-limit : goal.returns-else-number-limit
 returns-else-number-limit g c = (high g c).holds
 
 pub has-requires : goal.has-requires
-has-requires g c = subst AreAscendingNumbers (sym c.as_slice.ensures.value) c.sort_once.ensures.ascending
+has-requires g c = subst AreAscendingNumbers (sym c.as_slice.ensures.value) c.sort_and_thin.ensures.ascending
 
 pub is_dropped-requires : goal.is_dropped-requires
 is_dropped-requires g c = tt
@@ -115,8 +115,8 @@ len-requires g c = omega arith
 pub push-requires : goal.push-requires
 push-requires g c = (omega arith, omega (arith, c.len.ensures.value, c.if-len.true))
 
-pub sort_once-requires : goal.sort_once-requires
-sort_once-requires g c = omega arith
+pub sort_and_thin-requires : goal.sort_and_thin-requires
+sort_and_thin-requires g c = omega arith
 
 pub len-requires-2 : goal.len-requires-2
 len-requires-2 g c = omega arith

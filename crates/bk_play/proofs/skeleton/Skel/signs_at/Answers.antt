@@ -9,7 +9,7 @@ pub deref-requires : goal.deref-requires
 deref-requires c = lit< tt
 
 pub slice_bounds-result-count : goal.slice_bounds-result-count
-slice_bounds-result-count c = omega (arith, c.turn-turn.ensures.order, c.from.ensures, c.from-2.ensures)
+slice_bounds-result-count c = omega (arith, c.record_at-noted.ensures.order, c.from.ensures, c.from-2.ensures)
 
 pub slice_bounds-result-start : goal.slice_bounds-result-start
 slice_bounds-result-start c = omega (arith, slice_bounds-result-count c)
@@ -17,7 +17,7 @@ slice_bounds-result-start c = omega (arith, slice_bounds-result-count c)
 pub slice_bounds-result-end : goal.slice_bounds-result-end
 slice_bounds-result-end c = omega (
   arith,
-  c.turn-turn.ensures.within,
+  c.record_at-noted.ensures.within,
   c.from-2.ensures,
   ap (length {A = Sign}) (c.deref.ensures.0 ∙ c.self.invariant.played_are),
   ap (λ (w : Word). length (signs_of w)) c.self.view_is,
@@ -26,4 +26,4 @@ slice_bounds-result-end c = omega (
 pub returns : goal.returns
 returns c m e =
     let all = c.deref.ensures.0 ∙ c.self.invariant.played_are ∙ ap signs_of c.self.view_is in
-    (λ j. take (c.from-2.ensures j - c.from.ensures j) (drop (c.from.ensures j) (all j))) ∙ c.turn-turn.ensures.signs m e
+    (λ j. take (c.from-2.ensures j - c.from.ensures j) (drop (c.from.ensures j) (all j))) ∙ c.record_at-noted.ensures.signs m e

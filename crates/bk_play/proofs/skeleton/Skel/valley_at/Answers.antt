@@ -20,7 +20,7 @@ bounds-deref-place c =
     c.leftmost-place.ensures.within
 
 -- the part of the open squares that is read
-own : (c : goal.After-from) → AreOfValley (moves_stored c.self.inside.turns.items c.self.inside.played.items) c.deref-3.result.now
+own : (c : goal.After-from) → AreOfValley (moves_stored c.self.inside.records.items c.self.inside.played.items) c.deref-3.result.now
     c.leftmost-place.result.1 (c.leftmost-place.result.1 + c.from.result)
 own c = valley_cut c.self.invariant c.deref.result.now c.deref-4.result.now c.deref-3.result.now c.deref-2.result.now c.leftmost-place.result.0
     c.leftmost-place.result.1 c.from.result c.deref.ensures.0 c.deref-4.ensures.0 c.deref-3.ensures.0 c.deref-2.ensures.0

@@ -3,7 +3,7 @@ use Rattle.bk_word.specs.Outline.{IsLegalMove}
 use Rattle.bk_word.specs.Play.{outline_of}
 use Rattle.bk_word.specs.Word.{Word, order_of}
 use Rattle.bk_tree_walk.specs.Search.{HasPassed, IsSearchState, SearchState, IsKeptSearch}
-use Rattle.bk_tree_walk.proofs.SearchTurns.{stays_then, stays_same}
+use Rattle.bk_tree_walk.proofs.LoopSteps.{stays_then, stays_same}
 use Rattle.bk_tree_walk.proofs.StateLaws.{down_from, stays_played, stays_put, stand_anew}
 use Rattle.bk_tree_walk.proofs.TakingUp.{few_steps, stuck_place, stuck_stand, takes_down, whole_place}
 use Rattle.bk_tree_walk.proofs.tree_walk.TreeWalk.resume.Goals as goal

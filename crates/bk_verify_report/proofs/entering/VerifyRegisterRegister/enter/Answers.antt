@@ -44,10 +44,6 @@ feed-requires-clause-early g c = c.requires.early
 pub feed-requires-clause-ready : goal.feed-requires-clause-ready
 feed-requires-clause-ready g c = subst (λ (s : Verifying). CountsAreBelow s c.args.number) (sym c.self.view_is) c.requires.ready
 
-pub feed-requires-clause-has : goal.feed-requires-clause-has
-feed-requires-clause-has g c =
-    subst (λ (o : Option (Bor Tiling)). IsLaidLine c.args.line.now (option_copied o)) c.in-Ok-Some.field-0-is c.in-Ok-Some.ensures.laid
-
 pub overflow_add-self : goal.overflow_add-self
 overflow_add-self g c = omega (arith, c.requires.early, c.requires.ready.refused, ap (λ (s : Verifying). s.refused) c.self.view_is)
 
@@ -60,18 +56,20 @@ returns-in-Ok-None-clause-ready g c =
 
 pub returns-in-Ok-Some-clause-outcome : goal.returns-in-Ok-Some-clause-outcome
 returns-in-Ok-Some-clause-outcome g c =
+    let has = subst (λ (o : Option (Bor Tiling)). IsLaidLine c.args.line.now (option_copied o)) c.in-Ok-Some.field-0-is c.in-Ok-Some.ensures.laid in
     subst (λ (s : Verifying). IfOk c.feed.result (λ o. HasOutcome (λ pieces refused. EntersLine s c.args.number c.args.line.now
     (record { pieces = pieces; refused = refused })
     c.feed.new.state)
     (MayWantAt s c.args.number c.args.line.now) (g.O.Sink.written c.args.out.now) (g.O.Sink.written c.feed.new.out) o)) c.self.view_is
-    c.feed.ensures.outcome
+    (c.feed.ensures.outcome c.args.line.now has)
 
 pub returns-in-Ok-Some-clause-failed : goal.returns-in-Ok-Some-clause-failed
 returns-in-Ok-Some-clause-failed g c =
+    let has = subst (λ (o : Option (Bor Tiling)). IsLaidLine c.args.line.now (option_copied o)) c.in-Ok-Some.field-0-is c.in-Ok-Some.ensures.laid in
     subst (λ (s : Verifying). OnErr c.feed.result (IsAnswerBegun (λ pieces refused. (last : Verifying) × EntersLine s c.args.number c.args.line.now
     (record { pieces = pieces; refused = refused }) last)
     (g.O.Sink.written c.args.out.now) (g.O.Sink.written c.feed.new.out)))
-    c.self.view_is c.feed.ensures.failed
+    c.self.view_is (c.feed.ensures.failed c.args.line.now has)
 
 pub returns-in-Ok-Some-clause-cause : goal.returns-in-Ok-Some-clause-cause
 returns-in-Ok-Some-clause-cause g c = c.feed.ensures.cause

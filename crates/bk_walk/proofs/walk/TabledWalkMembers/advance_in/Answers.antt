@@ -8,65 +8,65 @@ use Rattle.bk_tiling.specs.Tiling.{Tiling}
 use Rattle.bk_code.specs.Code.{code_of}
 use Rattle.bk_tree_walk.specs.Search.{Finds, place_of}
 use Rattle.bk_members.specs.Walking.{IsNextMember, PushesGrow, WalkState}
-use Rattle.bk_walk.proofs.walk.TabledWalkMembers.advance_in.Goals.{After-search}
+use Rattle.bk_walk.proofs.walk.TabledWalkMembers.advance_in.Goals.{After-find_next}
 use Rattle.bk_walk.proofs.walk.TabledWalkMembers.advance_in.Goals as goal
 
 -- what the search found, from the walk's own order and class
-search_finds : (g : _) (c : After-search g) (met : Bool) → c.search.result ≡ met
-    → Finds (record c.resume.new.self { order = c.self.inside.tree.order; class = c.self.inside.tree.class }) c.search.new.tree
-    (c.search.new.steps - c.resume.new.steps) met
-search_finds g c met is = finds_of c.self.inside.tree c.resume.new.self c.search.new.tree (c.search.new.steps - c.resume.new.steps)
-    c.search.result met c.resume.ensures.stays.order c.resume.ensures.stays.class is c.search.ensures.finds
+search_finds : (g : _) (c : After-find_next g) (met : Bool) → c.find_next.result ≡ met
+    → Finds (record c.resume.new.self { order = c.self.inside.tree.order; class = c.self.inside.tree.class }) c.find_next.new.tree
+    (c.find_next.new.steps - c.resume.new.steps) met
+search_finds g c met is = finds_of c.self.inside.tree c.resume.new.self c.find_next.new.tree (c.find_next.new.steps - c.resume.new.steps)
+    c.find_next.result met c.resume.ensures.stays.order c.resume.ensures.stays.class is c.find_next.ensures.finds
 
 pub invariant_of-self : goal.invariant_of-self
 invariant_of-self g c =
     let s = c.self.inside.tree in
-    let finds = search_finds g (goal.at.invariant_of-self g c).After-search false c.if-not-search.true in
-    kept_ended (record { order = s.order; class = s.class; cursor = c.self.inside.cursor; ended = true; pushes = c.search.new.tree.pushes })
-    c.search.new.tree.front c.search.new.tree.order c.search.new.tree.class
-    (c.search.ensures.stays.order ∙ c.resume.ensures.stays.order) (c.search.ensures.stays.class ∙ c.resume.ensures.stays.class)
-    (kept_at_end _ c.search.new.tree.front c.self.invariant.least c.self.invariant.most c.self.invariant.few finds.1
+    let finds = search_finds g (goal.at.invariant_of-self g c).After-find_next false c.if-not-find_next.true in
+    kept_ended (record { order = s.order; class = s.class; cursor = c.self.inside.cursor; ended = true; pushes = c.find_next.new.tree.pushes })
+    c.find_next.new.tree.front c.find_next.new.tree.order c.find_next.new.tree.class
+    (c.find_next.ensures.stays.order ∙ c.resume.ensures.stays.order) (c.find_next.ensures.stays.class ∙ c.resume.ensures.stays.class)
+    (kept_at_end _ c.find_next.new.tree.front c.self.invariant.least c.self.invariant.most c.self.invariant.few finds.1
     (none_after s.order s.class c.self.inside.cursor (place_of c.resume.new.self) c.resume.ensures.place c.args.steps.now c.resume.new.steps
-    c.search.new.steps c.resume.ensures.few finds.0)
-    (counts_known c.resume.new.self.pushes c.search.new.tree.pushes c.resume.new.steps c.search.new.steps c.search.ensures.stays.counts))
+    c.find_next.new.steps c.resume.ensures.few finds.0)
+    (counts_known c.resume.new.self.pushes c.find_next.new.tree.pushes c.resume.new.steps c.find_next.new.steps c.find_next.ensures.stays.counts))
 
 pub invariant_of-self-2 : goal.invariant_of-self-2
 invariant_of-self-2 g c =
     let s = c.self.inside.tree in
-    let entry = same_entry s.order c.resume.new.self.order s.class c.resume.new.self.class c.search.new.tree.front c.search.new.tree.front
-    c.search.new.tiling c.resume.ensures.stays.order c.resume.ensures.stays.class refl (c.search.ensures.member c.if-not-search.false) in
-    kept_at_word s.order _ c.search.new.tree.front c.self.invariant.least c.self.invariant.most
-    (c.search.ensures.stays.order ∙ c.resume.ensures.stays.order) c.write_found.ensures.cursor
-    (members_order s.order s.class c.search.new.tiling c.search.new.tree.front entry) c.if-self.false
-    (counts_known c.resume.new.self.pushes c.search.new.tree.pushes c.resume.new.steps c.search.new.steps c.search.ensures.stays.counts)
+    let entry = same_entry s.order c.resume.new.self.order s.class c.resume.new.self.class c.find_next.new.tree.front c.find_next.new.tree.front
+    c.find_next.new.tiling c.resume.ensures.stays.order c.resume.ensures.stays.class refl (c.find_next.ensures.member c.if-not-find_next.false) in
+    kept_at_word s.order _ c.find_next.new.tree.front c.self.invariant.least c.self.invariant.most
+    (c.find_next.ensures.stays.order ∙ c.resume.ensures.stays.order) c.write_found.ensures.cursor
+    (members_order s.order s.class c.find_next.new.tiling c.find_next.new.tree.front entry) c.if-self.false
+    (counts_known c.resume.new.self.pushes c.find_next.new.tree.pushes c.resume.new.steps c.find_next.new.steps c.find_next.ensures.stays.counts)
 
-pub returns-then-not-search-clause-none : goal.returns-then-not-search-clause-none
-returns-then-not-search-clause-none g c _ =
+pub returns-then-not-find_next-clause-none : goal.returns-then-not-find_next-clause-none
+returns-then-not-find_next-clause-none g c _ =
     let s = c.self.inside.tree in
-    let finds = search_finds g (goal.at.returns-then-not-search-clause-none g c).After-search false c.if-not-search.true in
+    let finds = search_finds g (goal.at.returns-then-not-find_next-clause-none g c).After-find_next false c.if-not-find_next.true in
     subst (λ (w : WalkState). HasNoneAfter w.order w.class w.cursor) c.self.view_is
     (none_after s.order s.class c.self.inside.cursor (place_of c.resume.new.self) c.resume.ensures.place c.args.steps.now c.resume.new.steps
-    c.search.new.steps c.resume.ensures.few finds.0)
+    c.find_next.new.steps c.resume.ensures.few finds.0)
 
-pub returns-then-not-search-clause-steps_to_end : goal.returns-then-not-search-clause-steps_to_end
-returns-then-not-search-clause-steps_to_end g c _ =
+pub returns-then-not-find_next-clause-steps_to_end : goal.returns-then-not-find_next-clause-steps_to_end
+returns-then-not-find_next-clause-steps_to_end g c _ =
     let s = c.self.inside.tree in
-    let finds = search_finds g (goal.at.returns-then-not-search-clause-steps_to_end g c).After-search false c.if-not-search.true in
-    subst (λ (w : WalkState). IsAtMostTree w.order w.cursor None (c.search.new.steps - c.args.steps.now)) c.self.view_is
+    let finds = search_finds g (goal.at.returns-then-not-find_next-clause-steps_to_end g c).After-find_next false c.if-not-find_next.true in
+    subst (λ (w : WalkState). IsAtMostTree w.order w.cursor None (c.find_next.new.steps - c.args.steps.now)) c.self.view_is
     (steps_to_end s.order s.class c.self.inside.cursor (place_of c.resume.new.self) c.resume.ensures.place c.args.steps.now c.resume.new.steps
-    c.search.new.steps c.resume.ensures.few finds.0)
+    c.find_next.new.steps c.resume.ensures.few finds.0)
 
 pub returns-clause-entry : goal.returns-clause-entry
 returns-clause-entry g c _ =
     let s = c.self.inside.tree in
-    let finds = search_finds g (goal.at.returns-clause-entry g c).After-search true c.if-not-search.false in
-    let entry = same_entry s.order c.resume.new.self.order s.class c.resume.new.self.class c.search.new.tree.front c.search.new.tree.front
-    c.search.new.tiling c.resume.ensures.stays.order c.resume.ensures.stays.class refl (c.search.ensures.member c.if-not-search.false) in
+    let finds = search_finds g (goal.at.returns-clause-entry g c).After-find_next true c.if-not-find_next.false in
+    let entry = same_entry s.order c.resume.new.self.order s.class c.resume.new.self.class c.find_next.new.tree.front c.find_next.new.tree.front
+    c.find_next.new.tiling c.resume.ensures.stays.order c.resume.ensures.stays.class refl (c.find_next.ensures.member c.if-not-find_next.false) in
     let found = c.write_found.new.entry in
     subst (λ (w : WalkState). IsNextMember w.order w.class w.cursor (record { tiling = found.tiling; word = found.word })) c.self.view_is
     (subst (λ (t : Tiling). IsNextMember s.order s.class c.self.inside.cursor (record { tiling = t; word = found.word })) (sym c.write_found.ensures.tiling)
     (next_member s.order s.class c.self.inside.cursor (place_of c.resume.new.self) c.resume.ensures.place c.args.steps.now c.resume.new.steps
-    c.search.new.steps c.resume.ensures.few c.search.new.tiling c.search.new.tree.front found.word c.write_found.ensures.word entry finds))
+    c.find_next.new.steps c.resume.ensures.few c.find_next.new.tiling c.find_next.new.tree.front found.word c.write_found.ensures.word entry finds))
 
 pub returns-clause-code : goal.returns-clause-code
 returns-clause-code g c _ = c.write_found.ensures.code ∙ ap code_of (sym c.write_found.ensures.tiling)
@@ -74,10 +74,10 @@ returns-clause-code g c _ = c.write_found.ensures.code ∙ ap code_of (sym c.wri
 pub returns-clause-steps : goal.returns-clause-steps
 returns-clause-steps g c _ =
     let s = c.self.inside.tree in
-    let finds = search_finds g (goal.at.returns-clause-steps g c).After-search true c.if-not-search.false in
-    subst (λ (w : WalkState). IsAtMostTree w.order w.cursor (Some c.write_found.new.cursor) (c.search.new.steps - c.args.steps.now)) c.self.view_is
+    let finds = search_finds g (goal.at.returns-clause-steps g c).After-find_next true c.if-not-find_next.false in
+    subst (λ (w : WalkState). IsAtMostTree w.order w.cursor (Some c.write_found.new.cursor) (c.find_next.new.steps - c.args.steps.now)) c.self.view_is
     (steps_to_word s.order s.class c.self.inside.cursor (place_of c.resume.new.self) c.resume.ensures.place c.args.steps.now c.resume.new.steps
-    c.search.new.steps c.resume.ensures.few c.search.new.tree.front c.write_found.new.cursor
+    c.find_next.new.steps c.resume.ensures.few c.find_next.new.tree.front c.write_found.new.cursor
     c.write_found.ensures.cursor finds)
 
 -- the walk has ended before
@@ -113,32 +113,32 @@ pub returns-then-self-clause-steps : goal.returns-then-self-clause-steps
 returns-then-self-clause-steps g c e = absurd (true≢false (sym e))
 
 -- the search comes to the end
-pub returns-then-not-search-clause-entry : goal.returns-then-not-search-clause-entry
-returns-then-not-search-clause-entry g c e = absurd (true≢false (sym e))
+pub returns-then-not-find_next-clause-entry : goal.returns-then-not-find_next-clause-entry
+returns-then-not-find_next-clause-entry g c e = absurd (true≢false (sym e))
 
-pub returns-then-not-search-clause-code : goal.returns-then-not-search-clause-code
-returns-then-not-search-clause-code g c e = absurd (true≢false (sym e))
+pub returns-then-not-find_next-clause-code : goal.returns-then-not-find_next-clause-code
+returns-then-not-find_next-clause-code g c e = absurd (true≢false (sym e))
 
-pub returns-then-not-search-clause-cursor : goal.returns-then-not-search-clause-cursor
-returns-then-not-search-clause-cursor g c e = absurd (true≢false (sym e))
+pub returns-then-not-find_next-clause-cursor : goal.returns-then-not-find_next-clause-cursor
+returns-then-not-find_next-clause-cursor g c e = absurd (true≢false (sym e))
 
-pub returns-then-not-search-clause-stays : goal.returns-then-not-search-clause-stays
-returns-then-not-search-clause-stays g c _ = ap (λ (w : WalkState). w.cursor) c.self.view_is
+pub returns-then-not-find_next-clause-stays : goal.returns-then-not-find_next-clause-stays
+returns-then-not-find_next-clause-stays g c _ = ap (λ (w : WalkState). w.cursor) c.self.view_is
 
-pub returns-then-not-search-clause-ended : goal.returns-then-not-search-clause-ended
-returns-then-not-search-clause-ended g c = (λ _. refl, λ _. refl)
+pub returns-then-not-find_next-clause-ended : goal.returns-then-not-find_next-clause-ended
+returns-then-not-find_next-clause-ended g c = (λ _. refl, λ _. refl)
 
-pub returns-then-not-search-clause-later : goal.returns-then-not-search-clause-later
-returns-then-not-search-clause-later g c _ = refl
+pub returns-then-not-find_next-clause-later : goal.returns-then-not-find_next-clause-later
+returns-then-not-find_next-clause-later g c _ = refl
 
-pub returns-then-not-search-clause-order : goal.returns-then-not-search-clause-order
-returns-then-not-search-clause-order g c = c.search.ensures.stays.order ∙ c.resume.ensures.stays.order ∙ ap (λ (w : WalkState). w.order) c.self.view_is
+pub returns-then-not-find_next-clause-order : goal.returns-then-not-find_next-clause-order
+returns-then-not-find_next-clause-order g c = c.find_next.ensures.stays.order ∙ c.resume.ensures.stays.order ∙ ap (λ (w : WalkState). w.order) c.self.view_is
 
-pub returns-then-not-search-clause-class : goal.returns-then-not-search-clause-class
-returns-then-not-search-clause-class g c = c.search.ensures.stays.class ∙ c.resume.ensures.stays.class ∙ ap (λ (w : WalkState). w.class) c.self.view_is
+pub returns-then-not-find_next-clause-class : goal.returns-then-not-find_next-clause-class
+returns-then-not-find_next-clause-class g c = c.find_next.ensures.stays.class ∙ c.resume.ensures.stays.class ∙ ap (λ (w : WalkState). w.class) c.self.view_is
 
-pub returns-then-not-search-clause-steps : goal.returns-then-not-search-clause-steps
-returns-then-not-search-clause-steps g c e = absurd (true≢false (sym e))
+pub returns-then-not-find_next-clause-steps : goal.returns-then-not-find_next-clause-steps
+returns-then-not-find_next-clause-steps g c e = absurd (true≢false (sym e))
 
 -- the search comes to a member
 pub returns-clause-none : goal.returns-clause-none
@@ -157,10 +157,10 @@ pub returns-clause-later : goal.returns-clause-later
 returns-clause-later g c e = absurd (true≢false (sym e ∙ ap (λ (w : WalkState). w.ended) (sym c.self.view_is) ∙ c.if-self.false))
 
 pub returns-clause-order : goal.returns-clause-order
-returns-clause-order g c = c.search.ensures.stays.order ∙ c.resume.ensures.stays.order ∙ ap (λ (w : WalkState). w.order) c.self.view_is
+returns-clause-order g c = c.find_next.ensures.stays.order ∙ c.resume.ensures.stays.order ∙ ap (λ (w : WalkState). w.order) c.self.view_is
 
 pub returns-clause-class : goal.returns-clause-class
-returns-clause-class g c = c.search.ensures.stays.class ∙ c.resume.ensures.stays.class ∙ ap (λ (w : WalkState). w.class) c.self.view_is
+returns-clause-class g c = c.find_next.ensures.stays.class ∙ c.resume.ensures.stays.class ∙ ap (λ (w : WalkState). w.class) c.self.view_is
 
 pub returns-clause-steps_to_end : goal.returns-clause-steps_to_end
 returns-clause-steps_to_end g c e = absurd (true≢false e)
@@ -175,20 +175,20 @@ resume-requires-clause-begun g c = c.self.invariant.begun
 pub resume-requires-clause-few : goal.resume-requires-clause-few
 resume-requires-clause-few g c = c.self.invariant.few
 
-pub returns-then-not-search-clause-pushes : goal.returns-then-not-search-clause-pushes
-returns-then-not-search-clause-pushes g c =
-    subst (λ (w : WalkState). PushesGrow w.pushes c.search.new.tree.pushes c.args.steps.now c.search.new.steps) c.self.view_is
-    (counts_then c.self.inside.tree.pushes c.resume.new.self.pushes c.search.new.tree.pushes c.args.steps.now c.resume.new.steps c.search.new.steps
-    c.resume.ensures.stays.counts c.search.ensures.stays.counts)
+pub returns-then-not-find_next-clause-pushes : goal.returns-then-not-find_next-clause-pushes
+returns-then-not-find_next-clause-pushes g c =
+    subst (λ (w : WalkState). PushesGrow w.pushes c.find_next.new.tree.pushes c.args.steps.now c.find_next.new.steps) c.self.view_is
+    (counts_then c.self.inside.tree.pushes c.resume.new.self.pushes c.find_next.new.tree.pushes c.args.steps.now c.resume.new.steps c.find_next.new.steps
+    c.resume.ensures.stays.counts c.find_next.ensures.stays.counts)
 
 pub returns-clause-pushes : goal.returns-clause-pushes
 returns-clause-pushes g c =
-    subst (λ (w : WalkState). PushesGrow w.pushes c.search.new.tree.pushes c.args.steps.now c.search.new.steps) c.self.view_is
-    (counts_then c.self.inside.tree.pushes c.resume.new.self.pushes c.search.new.tree.pushes c.args.steps.now c.resume.new.steps c.search.new.steps
-    c.resume.ensures.stays.counts c.search.ensures.stays.counts)
+    subst (λ (w : WalkState). PushesGrow w.pushes c.find_next.new.tree.pushes c.args.steps.now c.find_next.new.steps) c.self.view_is
+    (counts_then c.self.inside.tree.pushes c.resume.new.self.pushes c.find_next.new.tree.pushes c.args.steps.now c.resume.new.steps c.find_next.new.steps
+    c.resume.ensures.stays.counts c.find_next.ensures.stays.counts)
 
 pub returns-then-self-clause-steps_to_end : goal.returns-then-self-clause-steps_to_end
 returns-then-self-clause-steps_to_end g c _ = record { words = []; each = tt; ascending = tt; count = omega arith }
 
-pub search-requires : goal.search-requires
-search-requires g c = grind (arith, g.ROOM.fits)
+pub find_next-requires : goal.find_next-requires
+find_next-requires g c = grind (arith, g.ROOM.fits)

@@ -22,20 +22,20 @@ returns-then-order-from-ge-FOLLOWED-clause-followed c all few = absurd (omega (
 pub returns-then-not-follows-clause-followed : goal.returns-then-not-follows-clause-followed
 returns-then-not-follows-clause-followed c all few = absurd (c.follows.ensures.no c.if-not-follows.true all (omega (arith, few)))
 
-pub go_on-requires-clause-trace : goal.go_on-requires-clause-trace
-go_on-requires-clause-trace c = c.requires.trace
+pub push_followed-requires-clause-trace : goal.push_followed-requires-clause-trace
+push_followed-requires-clause-trace c = c.requires.trace
 
-pub go_on-requires-clause-legal : goal.go_on-requires-clause-legal
-go_on-requires-clause-legal c = c.requires.legal
+pub push_followed-requires-clause-legal : goal.push_followed-requires-clause-legal
+push_followed-requires-clause-legal c = c.requires.legal
 
-pub go_on-requires-clause-all : goal.go_on-requires-clause-all
-go_on-requires-clause-all c = c.follows.ensures.all c.if-not-follows.false
+pub push_followed-requires-clause-all : goal.push_followed-requires-clause-all
+push_followed-requires-clause-all c = c.follows.ensures.all c.if-not-follows.false
 
-pub go_on-requires-clause-few : goal.go_on-requires-clause-few
-go_on-requires-clause-few c = c.follows.ensures.few c.if-not-follows.false
+pub push_followed-requires-clause-few : goal.push_followed-requires-clause-few
+push_followed-requires-clause-few c = c.follows.ensures.few c.if-not-follows.false
 
 pub returns-clause-trace : goal.returns-clause-trace
-returns-clause-trace c = c.go_on.ensures.trace
+returns-clause-trace c = c.push_followed.ensures.trace
 
 pub returns-clause-followed : goal.returns-clause-followed
-returns-clause-followed c all few = c.go_on.ensures.followed
+returns-clause-followed c all few = c.push_followed.ensures.followed

@@ -1,5 +1,0 @@
-use Rattle.bk_packed.proofs.BroughtForward.{IsBrought}
-use Rattle.bk_packed.proofs.settling.bring_forward.Given as goal
-
-abbrev pub invariant-numbers : goal.invariant-numbers
-invariant-numbers l = IsBrought l.fn.numbers l.numbers l.count l.i
