@@ -15,7 +15,7 @@ pub record IsGrowing (t : Tiling) : Type 0 where
 abbrev pub with_behind : Square → ℕ → ℕ → Tiling → Tiling
 with_behind q width height t = record { width = width; height = height; squares = t.squares ++ q ∷ [] }
 
--- its squares moved to the right and down
+-- a rectangle with its squares moved to the right and down
 abbrev pub moved_all : ℕ → ℕ → Tiling → Tiling
 moved_all right down t = record t { squares = map (moved_square right down) t.squares }
 

@@ -95,7 +95,8 @@ impl Growing {
         self.height = height;
     }
 
-    // The same in the left upper corner, once the others are moved to the right or down.
+    // Puts a square in the left upper corner, once the others are moved to the right or down, which makes a rectangle
+    // of this size.
     fn put_in_front(&mut self, s: u64, right: u64, down: u64, width: u64, height: u64)
         requires few { length self.old.squares < MOST_SQUARES }
         requires right { right ≤ LONGEST_SIDE }

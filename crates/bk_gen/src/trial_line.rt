@@ -14,5 +14,13 @@ pub fn trial(seed: u64, count: u32, out: &mut AnswerBuffer)
     ensures { IsTrialLine seed count out.new.items }
 {
     let counts = tally_of(seed, count, out);
-    write_trial(seed, count, &counts, out);
+    write_trial(
+        seed,
+        count,
+        counts.accepted,
+        counts.perfect,
+        counts.simple,
+        counts.squares,
+        out,
+    );
 }

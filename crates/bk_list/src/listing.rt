@@ -12,7 +12,7 @@ use bk_grammar::AnswerBuffer;
 use bk_members::Members;
 use bk_play::Steps;
 use bk_ports::{Failed, Sink};
-use bk_report::{Last, ListedEntries, write_last};
+use bk_report::{Last, write_last};
 use std::sync::ledger::Ledger;
 
 /// Writes the listing of these members: the entry line of each one, ascending by word, up to the limit if there is one;
@@ -56,12 +56,14 @@ pub fn write_listing<M: Members, L: Ledger, O: Sink>(
         buffer: AnswerBuffer::new(),
     };
     let (last, listed) = write_entries(members, limit, steps, &mut room, out)?;
-    let entries = ListedEntries {
-        order: members.order(),
-        class: members.class(),
-        count: listed,
-    };
-    write_last(last, &entries, members.cursor(), &mut room.buffer);
+    write_last(
+        last,
+        members.order(),
+        members.class(),
+        listed,
+        members.cursor(),
+        &mut room.buffer,
+    );
     out.write_all(room.buffer.as_slice())?;
     Ok(last)
 }

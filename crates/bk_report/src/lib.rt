@@ -22,7 +22,7 @@ pub use list_reports::{
     ReportCounts, write_alike, write_foreign, write_group, write_line_refused, write_member,
     write_missing, write_pair, write_pairs, write_repeats, write_verified,
 };
-pub use listing_lines::{Last, ListedEntries, write_entry, write_last};
+pub use listing_lines::{Last, write_entry, write_last};
 pub use net::write_net;
 pub use refusal::{Refused, write_refused};
 pub use trial::{TrialCounts, write_trial};

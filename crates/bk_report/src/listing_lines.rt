@@ -39,17 +39,6 @@ pub enum Last {
     Wide,
 }
 
-/// The entries that a listing has.
-#[derive(Clone, Copy)]
-pub struct ListedEntries {
-    /// The order of their tilings.
-    pub order: u8,
-    /// The class of their tilings.
-    pub class: Class,
-    /// How many there are.
-    pub count: u64,
-}
-
 /// Writes the entry of a tiling in a catalogue: the order, the size, the code, and then ` ; ` and the text of the word.
 /// The code is that of the tiling, and the word must have a move.
 pub fn write_entry(tiling: &Tiling, code: &Code, word: &Word, out: &mut AnswerBuffer)
@@ -78,16 +67,23 @@ pub(crate) fn push_entry(tiling: &Tiling, code: &Code, word: &Word, out: &mut An
 
 /// Writes the last line of a listing: `; end`, `; limit` or `; wide`, the order, the class unless that is the perfect
 /// one, how many entries were listed, and for `wide` the word at which it ended. That word must then have a move.
-pub fn write_last(last: Last, entries: &ListedEntries, word: &Word, out: &mut AnswerBuffer)
+pub fn write_last(
+    last: Last,
+    order: u8,
+    class: Class,
+    listed: u64,
+    word: &Word,
+    out: &mut AnswerBuffer,
+)
     requires { last ≡ Last.Wide → 0 < length word.now }
-    ensures { out.new.items ≡ last_line last entries.now.order entries.now.class entries.now.count word.now }
+    ensures { out.new.items ≡ last_line last order class listed word.now }
 {
     out.clear();
     push_bytes(b"; ", out);
     push_name(last, out);
-    push_filled(b" order #", &[u64::from(entries.order)], out);
-    push_class(entries.class, out);
-    push_filled(b" listed #", &[entries.count], out);
+    push_filled(b" order #", &[u64::from(order)], out);
+    push_class(class, out);
+    push_filled(b" listed #", &[listed], out);
     push_wide(last, word, out);
     out.push(b'\n');
 }

@@ -21,18 +21,20 @@ pub struct TrialCounts {
 
 /// Writes a line about `count` trial codes of a seed: how many of them were accepted, how many were perfect and how
 /// many simple (Brooks, Smith, Stone and Tutte 1940), and how many squares they had together.
-pub fn write_trial(seed: u64, count: u32, counts: &TrialCounts, out: &mut AnswerBuffer)
-    ensures { out.new.items ≡ trial_line seed count counts.now }
+pub fn write_trial(
+    seed: u64,
+    count: u32,
+    ok: u64,
+    perfect: u64,
+    simple: u64,
+    squares: u64,
+    out: &mut AnswerBuffer,
+)
+    ensures { out.new.items
+        ≡ trial_line seed count (record { accepted = ok; perfect = perfect; simple = simple; squares = squares }) }
 {
     out.clear();
-    let numbers = [
-        seed,
-        u64::from(count),
-        counts.accepted,
-        counts.perfect,
-        counts.simple,
-        counts.squares,
-    ];
+    let numbers = [seed, u64::from(count), ok, perfect, simple, squares];
     push_filled(
         b"trial seed # count # ok # perfect # simple # squares #\n",
         &numbers,

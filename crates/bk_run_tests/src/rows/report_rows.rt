@@ -7,10 +7,10 @@ use bk_code::code_of;
 use bk_flow::solve;
 use bk_net::{Net, NetLine, read_net};
 use bk_report::{
-    Last, ListedEntries, Refused, TrialCounts, write_alike, write_check, write_entry, write_flow,
-    write_foreign, write_group, write_last, write_line_refused, write_member, write_missing,
-    write_net, write_pair, write_pairs, write_refused, write_repeats, write_tiling, write_trial,
-    write_verified, write_word_line,
+    Last, Refused, write_alike, write_check, write_entry, write_flow, write_foreign, write_group,
+    write_last, write_line_refused, write_member, write_missing, write_net, write_pair,
+    write_pairs, write_refused, write_repeats, write_tiling, write_trial, write_verified,
+    write_word_line,
 };
 use bk_tiling::{Square, Tiling};
 use bk_word::{Class, Word, read_word};
@@ -188,12 +188,7 @@ fn is_ending(ending: &Ending, word: &Word, line: &mut Line) -> bool {
     if word.moves() == 0 {
         return false;
     }
-    let entries = ListedEntries {
-        order: *order,
-        class: *class,
-        count: *listed,
-    };
-    write_last(*last, &entries, word, line);
+    write_last(*last, *order, *class, *listed, word, line);
     is(line, text)
 }
 
@@ -374,14 +369,8 @@ fn rows_of_trials() -> &'static [Trial] {
 
 // Whether the line about trial codes is written so.
 fn is_trial(trial: &Trial, line: &mut Line) -> bool {
-    let (seed, count, accepted, perfect, squares, text) = trial;
-    let counts = TrialCounts {
-        accepted: *accepted,
-        perfect: *perfect,
-        simple: 0,
-        squares: *squares,
-    };
-    write_trial(*seed, *count, &counts, line);
+    let (seed, count, ok, perfect, squares, text) = trial;
+    write_trial(*seed, *count, *ok, *perfect, 0, *squares, line);
     is(line, text)
 }
 

@@ -16,8 +16,7 @@ returns c =
       c.push_bytes.ensures,
       c.clear.ensures,
     )
-    (last_pieces (last_name c.args.last) (decimal c.args.entries.now.order) (decimal c.args.entries.now.count) (class_words c.args.entries.now.class)
-    (wide_words c.args.last c.args.word.now))
+    (last_pieces (last_name c.args.last) (decimal c.args.order) (decimal c.args.listed) (class_words c.args.class) (wide_words c.args.last c.args.word.now))
 
 pub push_wide-requires-clause-some : goal.push_wide-requires-clause-some
 push_wide-requires-clause-some c = c.requires

@@ -6,6 +6,6 @@ use Rattle.bk_report.proofs.trial.write_trial.Goals as goal
 pub returns : goal.returns
 returns c =
     let words : ℕ → List (List ℕ) = λ count. codes "trial" ∷ codes "seed" ∷ decimal c.args.seed ∷ codes "count" ∷ decimal count ∷ codes "ok"
-    ∷ decimal c.args.counts.now.accepted ∷ codes "perfect" ∷ decimal c.args.counts.now.perfect ∷ codes "simple" ∷ decimal c.args.counts.now.simple
-    ∷ codes "squares" ∷ decimal c.args.counts.now.squares ∷ [] in
+    ∷ decimal c.args.ok ∷ codes "perfect" ∷ decimal c.args.perfect ∷ codes "simple" ∷ decimal c.args.simple ∷ codes "squares"
+    ∷ decimal c.args.squares ∷ [] in
     rw (c.push_filled.ensures.text, c.clear.ensures) (ap (λ count. ended (words count)) c.from.ensures ∙ sym (line-ended (words c.args.count)))
