@@ -17,7 +17,7 @@ import sys
 import tempfile
 
 # Where the search and what it calls are.
-SEARCH = re.compile(r"bk_(free_search|found|walk)::")
+SEARCH = re.compile(r"bk_(free_search|found|packed|play|short|walk)::")
 
 
 def called(command):

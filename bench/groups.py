@@ -65,7 +65,7 @@ def code_of(squares):
 
 
 def catalogue(order, folder):
-    """The codes of a catalogue, by the way through all planar maps."""
+    """The codes of a catalogue, by the way through all 3-connected planar maps."""
     run = subprocess.run([compiled("planar_maps", folder), str(order)], stdout=subprocess.PIPE, stderr=subprocess.DEVNULL, text=True, check=True)
     return [line.split(" ")[2] for line in run.stdout.splitlines()]
 

@@ -10,8 +10,7 @@ import argparse
 import statistics
 import tempfile
 
-from equations import counted
-from resources import compiled, measured
+from resources import compiled, counted, measured
 
 
 def times_of(peak, commands, runs):

@@ -1,5 +1,5 @@
 #!/usr/bin/env python3
-"""Times bench/planar_maps.c, the way through all planar maps in memory, and beside it `list` of PROGRAM, one run after the other.
+"""Times bench/planar_maps.c, the way through all 3-connected planar maps in memory, and beside it `list` of PROGRAM, one run after the other.
 
     bench/planar_maps.py [--first N] [--last N] [--class CLASS] [--runs K] [PROGRAM]
 

@@ -1,6 +1,8 @@
-"""What a run of a command takes: time, and memory at the peak, by bench/peak_memory.c."""
+"""What a run of a command takes: time, and memory at the peak, by bench/peak_memory.c, and instructions, by callgrind (valgrind)."""
 import os
+import re
 import subprocess
+import sys
 import tempfile
 from dataclasses import dataclass
 
@@ -32,3 +34,13 @@ def measured(peak, command, path=os.devnull):
         run = subprocess.run([peak, told.name, *command], stdin=source, stdout=subprocess.PIPE, stderr=subprocess.DEVNULL, text=True, check=False)
         wall, processor, user, kilobytes = told.read().split()
     return Resources(float(wall), float(processor), float(user), int(kilobytes), run.returncode, run.stdout)
+
+
+def counted(command):
+    """Returns how many instructions callgrind counts in the run of a command."""
+    counting = ["valgrind", "--tool=callgrind", f"--callgrind-out-file={os.devnull}", *command]
+    run = subprocess.run(counting, stdin=subprocess.DEVNULL, stdout=subprocess.DEVNULL, stderr=subprocess.PIPE, text=True, check=False)
+    found = re.search(r"Collected : (\d+)", run.stderr)
+    if run.returncode != 0 or found is None:
+        sys.exit(f"{' '.join(counting)}: status {run.returncode}")
+    return int(found[1])

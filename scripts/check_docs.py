@@ -10,6 +10,7 @@
 - docs/CLAIM.md shows the definitions that what it claims stands on, as they are now (scripts/claim.py).
 - What a public contract rests on stands in specs/Lib.antt under what the crate says (scripts/headings.py).
 - No line is wider than 120 columns, but for those of tables.
+- What the scripts of scripts/ and bench/ import is there (scripts/imports.py).
 
 Prints what differs, and at the end how many examples and names were tried and how many differ; the status is 1 if something does. With --write what
 is made is made anew first.
@@ -29,6 +30,7 @@ import tempfile
 
 from claim import wrong_claim
 from headings import wrong_headings
+from imports import wrong_imports
 from proving import PROGRAM, is_right
 from share import FILES, rows
 from sources import PARTS, TOP, files_of, groups, named_by_crate, text_of
@@ -288,7 +290,7 @@ def wrong_files(is_written):
 
 def main(words):
     given, tried = [it for it in words if not it.startswith("--")], {"examples": 0, "names": 0}
-    found = [*wrong_files("--write" in words), *wrong_claim("--write" in words), *wrong_names(tried), *wrong_inventories(), *wrong_headings(), *wide_lines()]
+    found = [*wrong_files("--write" in words), *wrong_claim("--write" in words), *wrong_names(tried), *wrong_inventories(), *wrong_headings(), *wide_lines(), *wrong_imports()]
     program = given[0] if given else PROGRAM
     if os.access(program, os.X_OK) and (given or is_right()):
         found += wrong_examples(program, tried)

@@ -1,7 +1,7 @@
 #!/usr/bin/env python3
 """What one has to believe: the definitions that a definition of specs/ stands on, down to those of the standard library.
 
-    scripts/claim.py                       writes the second half of docs/CLAIM.md anew
+    scripts/claim.py                       writes the definitions in docs/CLAIM.md anew
     scripts/claim.py NAME.. [--text]       counts the definitions under these, as bk_top.Running.Lists; --text prints them
 
 A name is looked up as the imports say, so what only a tactic uses isn't seen. A type of the code that a definition names is shown as the code has it.
@@ -151,7 +151,7 @@ def by_path(files):
 
 
 def shown():
-    """Returns the second half of the page: all definitions of its parts, by files."""
+    """Returns the last part of the page: all definitions of its parts, by files."""
     done, lines = set(), []
     for title, root in PARTS:
         all_below = below(root)[0]
@@ -184,7 +184,7 @@ def unexplained(text):
 
 
 def wrong_claim(is_written):
-    """Says what of the page isn't as it should be; its second half is written anew first, if it is to be."""
+    """Says what of the page isn't as it should be; its definitions are written anew first, if it is to be."""
     by_hand, begin, rest = text_of(PAGE).partition(BEGIN)
     made, end, behind = rest.partition(END)
     if not begin or not end:

@@ -45,7 +45,7 @@ group_below items a = below_all (λ (i, item). size_eq a (item_size item)) 0 (le
 pub places_of_size : (items : List KeptItem) (a : ℕ × ℕ) (places : List ℕ) → places ≡ group_of items a → AllByRecursion (λ place. place < length items) places
 places_of_size items a places are = subst (λ (l : List ℕ). AllByRecursion (λ place. place < length items) l) (sym are) (group_below items a)
 
--- so each of them is one
+-- each place of a group is that of an item
 pub place_below : (items : List KeptItem) (a : ℕ × ℕ) (places : List ℕ) (k : ℕ) → places ≡ group_of items a → k < length places
     → get_or places k 0 < length items
 place_below items a places k are below =

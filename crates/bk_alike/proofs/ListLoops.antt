@@ -73,7 +73,7 @@ module _ (items : List KeptItem) (places : List ℕ) (k d line : ℕ) (t : Tilin
       loop_more (member_at items) all places k (get_or places k d) a b c below (slice_get-get_or places k d below) state
       (subst (λ (l : List (List ℕ)). Appends b c (concat l)) (sym member_here) (appends-one_piece (member_line line t) piece b c is w))
 
-  -- or a write of it failed
+  -- a write of the line of the member at a place failed
   pub members_broken : (all : List (List ℕ)) (a b c : Option (List ℕ)) → IsWrittenTo all (flat_map (member_at items) (drop k places)) a b
       → AppendsPrefix b c piece → AppendsPrefix a c (concat all)
   members_broken all a b c state w =

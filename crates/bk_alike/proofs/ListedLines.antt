@@ -29,7 +29,7 @@ pub refused_outcome : (answers : List (List ℕ) → Bool → Type 0) (wants : T
 refused_outcome answers wants line a b (Ok o) h ok = subst (HasOutcome answers wants a b) (sym ok.0) (writes_one answers true line a b h ok.1)
 refused_outcome answers wants line a b (Err f) h ok = tt
 
--- or a write of it failed
+-- a write of the line of a refusal failed
 pub refused_begun : (answers : List (List ℕ) → Bool → Type 0) (line : List ℕ) (a b : Option (List ℕ)) (r : Result Outcome Failed) → answers (line ∷ []) true
     → OnErr r (AppendsPrefix a b line) → OnErr r (IsAnswerBegun answers a b)
 refused_begun answers line a b (Ok o) h err = tt
@@ -51,7 +51,7 @@ kept_line s next number bytes t c a has few canon is =
     (writes_none (λ pieces refused. ListsLine s number bytes (record { pieces = pieces; refused = refused }) (with_item s number c)) false a
     (keeps t c has few canon))
 
--- or refused, where 16,384 are kept
+-- a line whose tiling comes where 16,384 items are kept is refused
 pub full_line : (s next : Listed) (number : ℕ) (bytes : List ℕ) (t : Tiling) → HasTiling bytes t → 16384 ≤ length s.items → next ≡ with_refused s
     → ListsLine s number bytes (record { pieces = refused_line number More ∷ []; refused = true }) next
 full_line s next number bytes t has full is =
@@ -70,7 +70,7 @@ has_room n r other full = by (cases_lt n 16384)
 pub kept_apart : (r : Result (Unit {0}) AddFault) (done : Unit {0}) → r ≡ Ok done → r ≡ Err Full → ⊥
 kept_apart r done is e = absurd (cc)
 
--- nor does one for which memory is wanting
+-- a call for which memory is wanting doesn't say that 16,384 items are kept
 pub wanting_apart : (r : Result (Unit {0}) AddFault) → r ≡ Err NoMemory → r ≡ Err Full → ⊥
 wanting_apart r is e = absurd (cc)
 

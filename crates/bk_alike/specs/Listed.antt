@@ -20,11 +20,11 @@ pub record Listed : Type 0 where
   pub items : List KeptItem
   pub refused : ℕ
 
--- with one more item
+-- what is kept, with one more item
 abbrev pub with_item : Listed → ℕ → Tiling → Listed
 with_item s number c = record s { items = s.items ++ record { line = number; tiling = c } ∷ [] }
 
--- with one more refused line
+-- what is kept, with one more refused line
 abbrev pub with_refused : Listed → Listed
 with_refused s = record s { refused = s.refused + 1 }
 
@@ -35,10 +35,10 @@ pub data ListsLine (s : Listed) (number : ℕ) (bytes : List ℕ) : Reply → Li
   -- a line that `check` refuses is answered by its number and the cause
   refuses : (refused : Refused) → IsLineRefused bytes refused
       → ListsLine s number bytes (record { pieces = refused_line number refused ∷ []; refused = true }) (with_refused s)
-  -- one that it accepts is kept with the canonical tiling, as long as fewer than 16,384 are
+  -- a line that `check` accepts is kept with the canonical tiling, as long as fewer than 16,384 items are kept
   keeps : (t c : Tiling) → HasTiling bytes t → length s.items < MOST_ITEMS → IsCanonicalOf t c
       → ListsLine s number bytes (record { pieces = []; refused = false }) (with_item s number c)
-  -- and refused where so many are
+  -- a line that `check` accepts is refused where 16,384 items are kept
   no_more : (t : Tiling) → HasTiling bytes t → MOST_ITEMS ≤ length s.items
       → ListsLine s number bytes (record { pieces = refused_line number More ∷ []; refused = true }) (with_refused s)
 

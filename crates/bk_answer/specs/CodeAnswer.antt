@@ -16,7 +16,7 @@ use Rattle.bk_answer.specs.declared.command.Command.{Command}
 pub data IsRefusedBy (command : Command) (bytes : List ℕ) : Refused → Type 0 where
   -- the line is refused, whatever the command
   any_command : (refused : Refused) → IsLineRefused bytes refused → IsRefusedBy command bytes refused
-  -- its item speaks of a tiling that is too large for the command
+  -- the line's item speaks of a tiling that is too large for the command
   too_large : (t : Tiling) → HasTiling bytes t → (Allows command t → ⊥) → IsRefusedBy command bytes Large
 
 -- the answer to a line of a code

@@ -26,12 +26,12 @@ pub data AnswersNet (net : Net) : List (List ℕ) → Bool → Type 0 where
   solved : (flow : FlowNumbers) → HasNoLoose net → (IsWide net → ⊥) → IsPrimitiveFlow net flow.total flow.currents
       → AnswersNet net (flow_line flow ∷ []) false
 
--- the bytes are a network line that is not too long, and stand for this
+-- the bytes are a network line that is not too long, and stand for this item
 pub record HasNetItem (bytes : List ℕ) (item : NetLine) : Type 0 where
   pub short : length bytes ≤ LONGEST_LINE
   pub meaning : IsNetLine item bytes
 
--- they stand for this net, which is not too large
+-- the bytes are a network line that is not too long, and stand for this net, which is not too large
 pub record HasNet (bytes : List ℕ) (net : Net) : Type 0 where
   pub item : HasNetItem bytes (Item net.nodes net.wires)
   pub kept : IsKeptNet net

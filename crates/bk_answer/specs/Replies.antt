@@ -5,7 +5,8 @@ use Rattle.bk_ports.specs.declared.Outcome.{Outcome}
 use Rattle.bk_ports.specs.declared.Outcome.TheVariants.{Accepted}
 use Rattle.bk_ports.specs.declared.Failed.{Failed}
 
--- its outcome, or a write that failed. `answers` says which pieces may be written, and whether they are a refusal
+-- what a call that answers a line gives: the outcome of the line, or a write that failed. `answers` says which pieces
+-- may be written, and whether they are a refusal
 abbrev pub IsReplyWith : (List (List ℕ) → Bool → Type 0) → Type 0 → Option (List ℕ) → Option (List ℕ)
     → Result Outcome Failed → Type 0
 IsReplyWith answers may_want before after (Ok outcome) = HasOutcome answers may_want before after outcome

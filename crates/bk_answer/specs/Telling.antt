@@ -37,7 +37,7 @@ IsAnswerTo (Plain Draw) t pieces = pieces ≡ drawing_lines t
 IsAnswerTo (Memory Flow) t pieces = ⊥
 IsAnswerTo (Memory Solve) t pieces = ⊥
 
--- these pieces are told, and they are no refusal
+-- a command tells these pieces of a tiling, and they are no refusal
 pub data TellsPieces (command : Command) (t : Tiling) : List (List ℕ) → Bool → Type 0 where
   tells : (pieces : List (List ℕ)) → IsAnswerTo command t pieces → TellsPieces command t pieces false
 

@@ -29,7 +29,7 @@ pub data AnswersWord (w : Word) : List (List ℕ) → Bool → Type 0 where
   -- no tiling has the word
   no_tiling : IsComplete w → (IsWideWord w → ⊥) → ((t : Tiling) → IsTiling t → IsWordOf t w → ⊥)
       → AnswersWord w (refusal_line Nothing ∷ []) true
-  -- its one primitive tiling
+  -- the one primitive tiling of the word
   realised : (t : Tiling) → IsComplete w → (IsWideWord w → ⊥) → IsTilingOf w t
       → AnswersWord w (tiling_line t ∷ []) false
 

@@ -35,6 +35,6 @@ test_of_known (known ∷ names) name has = elim (cases_Bool (bytes_eq known.now 
   ]
 ]
 
--- so the test decides whether the name is one of them
+-- the test decides whether the name is one of the known ones
 pub test_decides_known : (names : List (Bor (List ℕ))) (name : List ℕ) (r : Bool) → r ≡ is_among names name → Decides r (Contains (texts_of names) name)
 test_decides_known names name r is = (λ e. known_from_test names name (sym is ∙ e), λ has. is ∙ test_of_known names name has)

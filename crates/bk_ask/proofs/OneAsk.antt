@@ -111,7 +111,8 @@ same_listing words order class from limit a (asks.List order' class' from' limit
     limit limit' a say
 same_listing words order class from limit a _ at say = absurd (omega arith)
 
-same_trial : (words : List (List ℕ)) (seed count : ℕ) → AsksTrial words seed count → (b : Ask) → 12 ≡ ask_place b → OptionsSay words b → asks.Trial seed count ≡ b
+same_trial : (words : List (List ℕ)) (seed count : ℕ) → AsksTrial words seed count → (b : Ask) → 12 ≡ ask_place b
+    → OptionsSay words b → asks.Trial seed count ≡ b
 same_trial words seed count a (asks.Trial seed' count') at say = trial_once words seed seed' count count' a say
 same_trial words seed count a _ at say = absurd (omega arith)
 

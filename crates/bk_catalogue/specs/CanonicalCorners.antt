@@ -15,7 +15,7 @@ pub record IsTopLeft (t : Tiling) (q : Square) : Type 0 where
   pub x : q.x ≡ 0
   pub y : q.y ≡ 0
 
--- the square is the top left one in that image
+-- the square is the top left one in the image by a turn
 pub record TurnsTopLeft (turn : Turn) (t : Tiling) (q : Square) : Type 0 where
   pub is : IsOneOf q t.squares
   pub x : (image_square turn t.width t.height q).x ≡ 0

@@ -11,7 +11,7 @@ use Rattle.bk_word.specs.declared.Sign.TheVariants.{Above, Even, Under}
 abbrev pub closings : List Sign → ℕ → ℕ
 closings signs i = count_by is_above (take i signs) + count_by is_under (drop i signs)
 
--- the greatest number of these over all segments: the first one has as many as there are signs under, and each other
+-- the greatest number of closings over all segments: the first one has as many as there are signs under, and each other
 -- one has those of the segments from the second on, and one more where the first sign is above
 abbrev pub closing_bound : List Sign → ℕ
 closing_bound [] = 0
@@ -26,6 +26,6 @@ pub record IsMostClosings (signs : List Sign) (number : ℕ) : Type 0 where
   pub within : place ≤ length signs
   pub met : closings signs place ≡ number
 
--- the bound is the greatest number of closings
+-- the closing bound is the greatest number of closings
 abbrev pub TheClosingBoundIsMost : Type 0
 TheClosingBoundIsMost = (signs : List Sign) → IsMostClosings signs (closing_bound signs)

@@ -14,7 +14,7 @@ use Rattle.bk_word.specs.declared.Sign.TheVariants.{Above, Even, Under}
 abbrev pub IsMoveFrom : Move → Move → Type 0
 IsMoveFrom x m = move_cmp m x ≡ Less → ⊥
 
--- no legal move is before it
+-- the first of all moves: no legal move is before it
 abbrev pub first_move : Move
 first_move = record { count = 1; signs = [] }
 
@@ -67,7 +67,7 @@ shortened sides m = cond (nat_lt (signs_wanted sides m.count) (length m.signs))
 abbrev pub fitted : ℕ → Move → Move
 fitted sides m = padded sides (shortened sides m)
 
--- what makes it so, at a state
+-- at a state a move is the least legal one that is not before another
 pub record IsLeastFrom (o : Outline) (x m : Move) : Type 0 where
   pub legal : IsLegalMove o m
   pub from : IsMoveFrom x m

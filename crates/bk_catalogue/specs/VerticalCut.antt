@@ -61,7 +61,7 @@ touched lines [] = []
 touched lines (segment ∷ segments) =
     (list_any (on_line lines) segment || next_on_line lines segments) ∷ touched lines segments
 
--- the greatest number of closings, where a segment that a line touches has one more
+-- the line bound: the greatest number of closings, where a segment that a line touches has one more
 abbrev pub line_bound : List Sign → List Bool → ℕ
 line_bound signs [] = 0
 line_bound [] (mark ∷ marks) = cond mark 1 0
@@ -75,7 +75,7 @@ pub record IsMostMarked (signs : List Sign) (marks : List Bool) (number : ℕ) :
   pub within : place < length marks
   pub met : closings signs place + cond (slice_index_or marks place false) 1 0 ≡ number
 
--- the bound is the greatest number of closings, with one mark for each segment
+-- the line bound is the greatest number of closings, with one mark for each segment
 abbrev pub TheLineBoundIsMost : Type 0
 TheLineBoundIsMost = (signs : List Sign) (marks : List Bool) → length marks ≡ length signs + 1
     → IsMostMarked signs marks (line_bound signs marks)
@@ -85,6 +85,6 @@ abbrev pub segments_of : List ℕ → List ℕ → List (List ℕ)
 segments_of [] ends = []
 segments_of (size ∷ sizes) ends = take size ends ∷ segments_of sizes (drop size ends)
 
--- the bound after the moves of a word
+-- the line bound after the moves of a word
 abbrev pub line_bound_of : Word → ℕ
 line_bound_of w = line_bound (outline_of w).signs (touched (edges_on_lines w) (outline_of w).segments)

@@ -16,7 +16,7 @@ abbrev pub ClosingsAreHung : Type 0
 ClosingsAreHung = (front rest : Word) → IsComplete (front ++ rest)
     → order_of front + closing_bound (outline_of front).signs ≤ order_of (front ++ rest)
 
--- the move does not hang one square alone from a valley of one square
+-- a move does not hang one square alone from a valley of one square
 abbrev pub HangsNoPair : Outline → Move → Type 0
 HangsNoPair o m = length (valley_of o) ≡ 1 → m.count ≡ 1 → ⊥
 
@@ -24,12 +24,14 @@ abbrev pub HangNoPairsFrom : Outline → Word → Type 0
 HangNoPairsFrom o [] = ⊤
 HangNoPairsFrom o (m ∷ moves) = HangsNoPair o m × HangNoPairsFrom (after_move o m) moves
 
--- no move does, and one square alone is not the last segment
+-- a word without pairs: no move of it hangs one square alone from a valley of one square, and one square alone is not
+-- its last segment
 pub record IsWithoutPairs (w : Word) : Type 0 where
   pub moves : HangNoPairsFrom start w
   pub last : (s : List ℕ) → (outline_of w).segments ≡ s ∷ [] → length s ≡ 1 → ⊥
 
--- a complete word without pairs hangs one more for each valley of one square
+-- after its first moves a complete word without pairs hangs at least as many squares as segments must be closed, and
+-- one more for each valley of one square
 abbrev pub SinglesAreHung : Type 0
 SinglesAreHung = (front rest : Word) → IsComplete (front ++ rest) → IsWithoutPairs (front ++ rest)
     → order_of front + closing_bound (outline_of front).signs + single_valleys (outline_of front).signs
@@ -40,7 +42,8 @@ SinglesAreHung = (front rest : Word) → IsComplete (front ++ rest) → IsWithou
 abbrev pub EndsNoLine : Word → Type 0
 EndsNoLine w = (s : List ℕ) → (outline_of w).segments ≡ s ∷ [] → list_any (on_line (edges_on_lines w)) s ≡ true → ⊥
 
--- then it hangs one more where lines from the top end on a segment
+-- after its first moves a complete word without pairs, to whose last segment no line from the top comes down, hangs at
+-- least as many squares as the line bound, and one more for each valley of one square
 abbrev pub LinesAreHung : Type 0
 LinesAreHung = (front rest : Word) → IsComplete (front ++ rest) → IsWithoutPairs (front ++ rest)
     → EndsNoLine (front ++ rest)

@@ -9,7 +9,7 @@ pub fn the_closing_bound_is_most()
     ensures { TheClosingBoundIsMost }
 {}
 
-/// The bound with lines is the greatest number of closings, where a segment that a line touches has one more.
+/// The line bound is the greatest number of closings, where a segment that a line touches has one more.
 pub fn the_line_bound_is_most()
     ensures { TheLineBoundIsMost }
 {}
@@ -19,12 +19,14 @@ pub fn closings_are_hung()
     ensures { ClosingsAreHung }
 {}
 
-/// A complete word without pairs hangs one more for each valley of one square.
+/// After its first moves a complete word without pairs hangs at least as many squares as segments must be closed, and
+/// one more for each valley of one square.
 pub fn singles_are_hung()
     ensures { SinglesAreHung }
 {}
 
-/// It hangs one more where lines from the top end on a segment, if none comes down to the last one.
+/// After its first moves a complete word without pairs, to whose last segment no line from the top comes down, hangs at
+/// least as many squares as the line bound, and one more for each valley of one square.
 pub fn lines_are_hung()
     ensures { LinesAreHung }
 {}

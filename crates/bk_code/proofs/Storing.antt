@@ -143,7 +143,7 @@ stored_more starts xs ys stored some sides room = record {
     cut : groups_at (starts ++ length xs ∷ []) (xs ++ ys) ≡ groups_at starts xs ++ ys ∷ []
     cut = groups_more starts xs ys stored.starts_rise
 
--- and after a further side of the last group
+-- what is stored after a further side of the last group
 pub stored_side : (starts xs : List ℕ) (s : ℕ) → IsStoredCode starts xs → 0 < length starts → IsSide s → length xs < 200 → IsStoredCode starts (xs ++ s ∷ [])
 stored_side starts xs s stored some side room = record {
   starts_rise = starts_on starts (length xs) (length (xs ++ s ∷ [])) some stored.starts_rise (omega (arith, length-append xs (s ∷ [])));
@@ -226,7 +226,7 @@ starts_count starts xs code view = sym (groups_length starts xs) ∙ ap (λ (c :
 pub sides_room : (starts xs : List ℕ) (code : Code) → IsStoredCode starts xs → groups_at starts xs ≡ code → length (flat code) < 200 → length xs < 200
 sides_room starts xs code stored view room = omega (arith, sides_count starts xs code stored view)
 
--- and fewer than 200 starts
+-- a code of fewer than 200 sides has fewer than 200 starts
 pub starts_room : (starts xs : List ℕ) (code : Code) → IsStoredCode starts xs → groups_at starts xs ≡ code → length (flat code) < 200 → length starts < 200
 starts_room starts xs code stored view room = omega (arith, sides_count starts xs code stored view, starts_below starts (length xs) stored.starts_rise)
 

@@ -16,6 +16,9 @@ pub use laws::{a_flat_list_fixes_a_tiling, codes_are_ordered};
 use std::cmp::Ordering;
 use std::marker::Model;
 
+/// No number of a header, which states an order and a size before a code, is greater.
+pub const LARGEST_HEADER_NUMBER: u64 = 999_999_999_999_999_999;
+
 /// A code in Bouwkamp's notation (1946-47): groups of sides, from top to bottom and from left to right. No group is
 /// empty, there are at most 200 sides in all, and each is 1 to 999,999,999,999,999.
 #[derive(Drop)]
@@ -118,12 +121,12 @@ impl Code {
         requires { g < length self.now }
         ensures { result.now ≡ slice_index_or self.now g [] }
     {
-        part(self.starts.as_slice(), self.sides.as_slice(), g)
+        sides_of_group(self.starts.as_slice(), self.sides.as_slice(), g)
     }
 }
 
 // The sides from a start to the next one, or to the end.
-fn part<'a>(starts: &[usize], sides: &'a [u64], g: usize) -> &'a [u64]
+fn sides_of_group<'a>(starts: &[usize], sides: &'a [u64], g: usize) -> &'a [u64]
     requires place { g < length starts.now }
     requires rise { AreStarts starts.now (length sides.now) }
     ensures { result.now ≡ slice_index_or (groups_at starts.now sides.now) g [] }

@@ -78,7 +78,7 @@ mark-beside q x y beside = mark-none q x y (and_left _ _ (side beside)) (and_lef
     across (inl h) = and_left _ _ (lt-leb q.x x h)
     across (inr h) = and_right _ _ (lt-leb x (q.x + q.s) h)
 
--- and nothing at levels apart from it
+-- a square draws nothing at levels apart from it
 pub mark-apart : (q : Square) (x y : ℕ) → is_at_edge q y ≡ false → is_along q y ≡ false → mark_of q x y ≡ 32
 mark-apart q x y a b = mark-none q x y (and_right _ _ a) (and_right _ _ a) (and_right _ _ b)
 
@@ -92,7 +92,7 @@ pub at_between : (q : Square) (y from to : ℕ) (before after : List ℕ) → Is
     → slice_index after x ≡ seen (slice_index before x) (mark_of q x y)
 at_between q y from to before after drawn x below low high = drawn x below ∙ cond-true _ _ _ (and_from _ _ (le-leb from x low) (lt-ltb x to high))
 
--- and at another point stands what stood there
+-- after a square was drawn between two columns, at any other point stands what stood there
 pub at_other : (q : Square) (y from to : ℕ) (before after : List ℕ) → IsDrawnBetween (λ x. mark_of q x y) from to before after → (x : ℕ) → x < length before
     → (x < from) ⊎ (to ≤ x)
     → slice_index after x ≡ slice_index before x

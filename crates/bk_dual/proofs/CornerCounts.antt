@@ -109,7 +109,7 @@ module _ (t : Tiling) (tiling : IsTiling t) (x y : ℕ) where
       (on_bottom y q)
       (among y q) (cond_count-range_from q.x q.s x (side_of t tiling q h)) (cond_count-range_to q.y q.s y (side_of t tiling q h) some))
 
-  -- and over the cell at its left and above one with its bottom right corner there, its right side, its lower side or its inside
+  -- over the cell at the left of a point and above it lies one square with its bottom right corner there, its right side, its lower side or its inside
   pub over_both : 0 < x → 0 < y → count_by (covers (x - 1) (y - 1)) t.squares
       ≡ count_by (bottom_right x y) t.squares + count_by (λ q. on_right x q && among y q) t.squares + count_by (λ q. between x q && on_bottom y q) t.squares +
       count_by (λ q. between x q && among y q) t.squares

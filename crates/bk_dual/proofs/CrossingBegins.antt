@@ -26,7 +26,7 @@ module _ (t : Tiling) (tiling : IsTiling t) (other : Square → Bool) where
   pub none_right : count_by (λ q. on_right 0 q && other q) t.squares ≡ 0
   none_right = none_counted (λ q. on_right 0 q && other q) t.squares (λ q h e. no_right q (side_of t tiling q h) (and-left_true (on_right 0 q) (other q) e))
 
-  -- and no inside
+  -- at column 0 no square has a right side or its inside
   pub none_between : count_by (λ q. between 0 q && other q) t.squares ≡ 0
   none_between = none_counted (λ q. between 0 q && other q) t.squares (λ q h e. no_between q (and-left_true (between 0 q) (other q) e))
 
@@ -35,7 +35,7 @@ module _ (t : Tiling) (tiling : IsTiling t) (other : Square → Bool) where
   none_bottom = none_counted (λ q. other q && on_bottom 0 q) t.squares
       (λ q h e. no_bottom q (side_of t tiling q h) (and-right_true (other q) (on_bottom 0 q) e))
 
-  -- and no inside
+  -- at level 0 no square has a lower side or its inside
   pub none_among : count_by (λ q. other q && among 0 q) t.squares ≡ 0
   none_among = none_counted (λ q. other q && among 0 q) t.squares (λ q h e. no_among q (and-right_true (other q) (among 0 q) e))
 

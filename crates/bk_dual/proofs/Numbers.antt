@@ -17,7 +17,7 @@ use Rattle.bk_tiling.specs.declared.Square.{Square}
 use Rattle.bk_sym.proofs.Images.{from_map, in_map}
 use Rattle.bk_sym.specs.Image.{image, image_square}
 use Rattle.bk_sym.specs.declared.Turn.TheVariants.{Swap}
-use Rattle.bk_net.specs.GroupNumbers.{is_no_later}
+use Rattle.bk_net.specs.CellOrder.{is_no_later}
 use Rattle.std.specs.Prelude.{pos, ℤ, ◌-ℤ◌}
 use Rattle.bk_tiling.proofs.Places.{at_place, later_place}
 use Rattle.bk_net.specs.Diagram.{node_levels}
@@ -32,7 +32,7 @@ stands_at x y q = (q.x == x) && (q.y == y)
 pub stands_itself : (q : Square) → stands_at q.x q.y q ≡ true
 stands_itself q = grind (arith, nat_tests)
 
--- and one that comes before it stands elsewhere
+-- a square that comes before another one stands elsewhere
 pub earlier_stands_apart : (q r : Square) → comes_before r q ≡ true → stands_at q.x q.y r ≡ false
 earlier_stands_apart q r e = grind (arith, nat_tests)
 
@@ -50,7 +50,7 @@ module _ (squares : List Square) (ordered : InCodeOrder squares) (q : Square) (o
     pub at : (d : Square) → slice_index_or squares place d ≡ q
     pub is : position_or_len (stands_at q.x q.y) squares ≡ place
 
-  -- so a square's place in the list is the first at which one stands where it does
+  -- a square's place in the list is the first at which one stands where it does
   pub has_place : HasPlace
   has_place = from (at_place squares q one)
     where
@@ -65,7 +65,7 @@ module _ (squares : List Square) (ordered : InCodeOrder squares) (q : Square) (o
             (λ h. ap (stands_at q.x q.y) (at q) ∙ stands_itself q);
       }
 
-  -- so many come no later
+  -- as many squares come no later than a square as its place says, and itself
   pub count_no_later : (k : ℕ) → k ≤ length squares → IsPartitionPoint (λ r. is_no_later q.x q.y r ≡ true) (λ r. is_no_later q.x q.y r ≡ false) squares k
       → k ≡ position_or_len (stands_at q.x q.y) squares + 1
   count_no_later k within parts = omega (arith, has_place.is, last)

@@ -20,8 +20,7 @@ vertical_segments t = map (map exchanged) (square_groups (image Swap t).squares)
 abbrev pub IsAtLeft : Tiling → Square → ℕ → Type 0
 IsAtLeft t q v = IsSomeAnd (slice_get (vertical_segments t) v) (λ squares. IsOneOf q squares)
 
--- the other square is at the square's right: it begins in the column where the square ends, and covers the level of its
--- top
+-- r is at the right of q: it begins in the column where q ends, and covers the level of the top of q
 pub record IsBeside (q r : Square) : Type 0 where
   pub column : r.x ≡ q.x + q.s
   pub top : r.y ≤ q.y
@@ -42,9 +41,9 @@ pub record LeadsAcross (t : Tiling) (wire : ℕ × ℕ) (number : ℕ) : Type 0 
   pub left : IsAtLeft t square wire.0
   pub right : IsAtRight t square wire.1
 
--- and so does each wire of the dual diagram, where a number stands for each. Example (DualExamples): four squares of
--- side 1 have three vertical segments with two, two and no squares at their right, the wires 0-1, 0-1, 1-2 and 1-2, and
--- the numbers 1, 3, 2, 4
+-- each wire of the dual diagram for which a number stands leads from the vertical segment at the left of the square
+-- with this number to the one at its right. Example (DualExamples): four squares of side 1 have three vertical segments
+-- with two, two and no squares at their right, the wires 0-1, 0-1, 1-2 and 1-2, and the numbers 1, 3, 2, 4
 abbrev pub WiresLeadAcross : Tiling → List ℕ → Type 0
 WiresLeadAcross t numbers = (k : ℕ) (wire : ℕ × ℕ) (number : ℕ) → slice_get (dual_diagram t).wires k ≡ Some wire
     → slice_get numbers k ≡ Some number → LeadsAcross t wire number

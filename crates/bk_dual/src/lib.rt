@@ -6,13 +6,12 @@ ghost use Rattle.bk_dual.specs.Dual.{crossings, dual_diagram, dual_flow, dual_or
 ghost use Rattle.bk_dual.specs.DualWires.{WiresLeadAcross};
 ghost use Rattle.bk_dual.specs.NodeSum.{NodesAndCrossings};
 ghost use Rattle.bk_net.specs.Flow.{IsOneFlow};
-ghost use Rattle.bk_net.specs.GroupNumbers.{is_no_later};
 ghost use Rattle.bk_net.specs.Net.{HasNoLoose};
 ghost use Rattle.bk_tiling.specs.KeptTiling.{IsKept};
 ghost use Rattle.bk_tiling.specs.Tiling.{IsOneOf, order};
 
 use arrayvec::ArrayVec;
-use bk_net::{Net, net_of};
+use bk_net::{Net, is_no_later, net_of};
 use bk_sym::{Turn, image};
 use bk_tiling::{MOST_SQUARES, Square, Tiling};
 
@@ -29,9 +28,9 @@ pub fn dual_of(tiling: &Tiling) -> Net
     net
 }
 
-/// For each wire of the dual diagram the number, from 1, of its square in the tiling (own). Each number up to the order
-/// stands there once, and no other. The wire leads from the vertical segment at the left of that square to the one at
-/// its right, which is the right side of the rectangle where the square ends there.
+/// For each wire of the dual diagram the number, from 1, of its square in the tiling. Each number up to the order
+/// stands there once, and no other. The order is our own. The wire leads from the vertical segment at the left of that
+/// square to the one at its right, which is the right side of the rectangle where the square ends there.
 pub fn dual_order(tiling: &Tiling) -> ArrayVec<u16, MOST_SQUARES>
     ensures value { result.items ≡ dual_order tiling.now }
     ensures once { (n : ℕ) → 0 < n → n ≤ order tiling.now → count_by (λ m. m == n) result.items ≡ 1 }
@@ -76,14 +75,7 @@ fn number_of(tiling: &Tiling, q: Square) -> u16
     ensures { result ≡ number_at tiling.now q.x q.y }
 {
     let squares = tiling.squares();
-    squares.partition_point(|r| is_no_later(r, q)) as u16
-}
-
-// Whether a square is another, or comes before it in code order.
-fn is_no_later(r: &Square, q: Square) -> bool
-    ensures { result ≡ is_no_later q.x q.y r.now }
-{
-    r.y < q.y || (r.y == q.y && r.x <= q.x)
+    squares.partition_point(|r| is_no_later(r, q.x, q.y)) as u16
 }
 
 /// The nodes of the Smith diagram, those of the dual diagram, and the crossings are three more than the squares

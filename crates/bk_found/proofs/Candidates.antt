@@ -37,16 +37,16 @@ use Rattle.bk_layout.specs.SignedFlow.{signed_flow, signed_side, upper_end}
 use Rattle.bk_layout.specs.SignedWord.{IsSignedWordOf, left_edge, line_column, right_edge}
 
 -- a square placed by its edges and levels
-placed : (turned : Bool) (q : Square) (left right above below current : ℤ) → 0 < q.s → left ≡ pos (cond turned (q.x + q.s) q.x)
-    → right ≡ pos (cond turned q.x (q.x + q.s)) → cond turned below above ≡ pos q.y
-    → current ≡ cond turned (neg_ℤ (pos q.s)) (pos q.s) → placed_square left right above below current ≡ q
+placed : (is_reversed : Bool) (q : Square) (left right above below current : ℤ) → 0 < q.s → left ≡ pos (cond is_reversed (q.x + q.s) q.x)
+    → right ≡ pos (cond is_reversed q.x (q.x + q.s)) → cond is_reversed below above ≡ pos q.y
+    → current ≡ cond is_reversed (neg_ℤ (pos q.s)) (pos q.s) → placed_square left right above below current ≡ q
 placed false q left right above below current some l r y c = ap (placed_square left right above below) c
     ∙ (λ i. record { x = nat_abs (l i); y = nat_abs (y i); s = q.s })
-placed true q left right above below current some l r y c = turned_side q.s refl some
+placed true q left right above below current some l r y c = reversed_side q.s refl some
   where
-    turned_side : (s : ℕ) → q.s ≡ s → 0 < q.s → placed_square left right above below current ≡ q
-    turned_side zero e some = absurd (omega (arith, e, some))
-    turned_side (suc s) e some = ap (placed_square left right above below) (c ∙ ap (λ (n : ℕ). neg_ℤ (pos n)) e)
+    reversed_side : (s : ℕ) → q.s ≡ s → 0 < q.s → placed_square left right above below current ≡ q
+    reversed_side zero e some = absurd (omega (arith, e, some))
+    reversed_side (suc s) e some = ap (placed_square left right above below) (c ∙ ap (λ (n : ℕ). neg_ℤ (pos n)) e)
         ∙ (λ i. record { x = nat_abs (r i); y = nat_abs (y i); s = sym e i })
 
 module _ (t : Tiling) (w : Word) (f : Flow) (tiling : IsTiling t) (primitive : IsPrimitiveTiling t) (s : IsSignedWordOf t w)
@@ -69,20 +69,20 @@ module _ (t : Tiling) (w : Word) (f : Flow) (tiling : IsTiling t) (primitive : I
   long : length (square_lines w) ≡ length t.squares
   long = as_many_sides w ∙ s.order_is
 
-  edges : StandRight t s.turned s.square (length t.squares) (right_edges w f)
-  edges = subst (λ (n : ℕ). StandRight t s.turned s.square n (right_edges w f)) (omega (arith, long))
-      (subst (λ (cs : List ℤ). StandRight t s.turned s.square (0 + length (square_lines w)) (right_edges_from f.total [] (square_lines w) cs))
-      (ap (λ (n : ℕ). map (λ k. signed_side t s.turned (s.square k)) (numbers_from 0 n)) long ∙ sym same.1)
-      (edges_are t s.turned s.square f.total same.0 0 (square_lines w) [] (record { many = refl; each = λ k h. absurd (omega arith) }) lines))
+  edges : StandRight t s.is_reversed s.square (length t.squares) (right_edges w f)
+  edges = subst (λ (n : ℕ). StandRight t s.is_reversed s.square n (right_edges w f)) (omega (arith, long))
+      (subst (λ (cs : List ℤ). StandRight t s.is_reversed s.square (0 + length (square_lines w)) (right_edges_from f.total [] (square_lines w) cs))
+      (ap (λ (n : ℕ). map (λ k. signed_side t s.is_reversed (s.square k)) (numbers_from 0 n)) long ∙ sym same.1)
+      (edges_are t s.is_reversed s.square f.total same.0 0 (square_lines w) [] (record { many = refl; each = λ k h. absurd (omega arith) }) lines))
     where
       lines : (j : ℕ) (p : ℕ × ℕ) → slice_get (square_lines w) j ≡ Some p
-          → (left_edge t s.turned (s.square (0 + j)) ≡ line_column t s.turned s.square p.0) × (p.0 < 0 + j + 2)
-      lines j p e = (ap (λ (k : ℕ). left_edge t s.turned (s.square k)) (omega arith) ∙ (s.lines j p.0 p.1 e).0, omega (arith, (known_lines w j p e).0))
+          → (left_edge t s.is_reversed (s.square (0 + j)) ≡ line_column t s.is_reversed s.square p.0) × (p.0 < 0 + j + 2)
+      lines j p e = (ap (λ (k : ℕ). left_edge t s.is_reversed (s.square k)) (omega arith) ∙ (s.lines j p.0 p.1 e).0, omega (arith, (known_lines w j p e).0))
 
   -- a line of the word stands where it is computed
   pub left_is : (k : ℕ) → k < length t.squares
-      → line_place f.total (right_edges w f) (slice_index_or (square_lines w) k (0, 1)).0 ≡ pos (left_edge t s.turned (s.square k))
-  left_is k h = place_is t s.turned s.square f.total same.0 (length t.squares) (right_edges w f) edges (slice_index_or (square_lines w) k (0, 1)).0
+      → line_place f.total (right_edges w f) (slice_index_or (square_lines w) k (0, 1)).0 ≡ pos (left_edge t s.is_reversed (s.square k))
+  left_is k h = place_is t s.is_reversed s.square f.total same.0 (length t.squares) (right_edges w f) edges (slice_index_or (square_lines w) k (0, 1)).0
       (omega (arith, h, (known_lines w k (slice_index_or (square_lines w) k (0, 1)) got).0))
       ∙ ap pos (sym (s.lines k (slice_index_or (square_lines w) k (0, 1)).0 (slice_index_or (square_lines w) k (0, 1)).1 got).0)
     where
@@ -90,23 +90,23 @@ module _ (t : Tiling) (w : Word) (f : Flow) (tiling : IsTiling t) (primitive : I
       got = slice_get-get_or (square_lines w) k (0, 1) (omega (arith, long, h))
 
   -- the right edge of a square stands where it is computed
-  pub right_is : (k : ℕ) → k < length t.squares → slice_index_or (right_edges w f) k (pos 0) ≡ pos (right_edge t s.turned (s.square k))
+  pub right_is : (k : ℕ) → k < length t.squares → slice_index_or (right_edges w f) k (pos 0) ≡ pos (right_edge t s.is_reversed (s.square k))
   right_is k h = edges.each k h
 
-  -- a current is the side of its square, negative where this is turned
-  pub current_is : (k : ℕ) → k < length t.squares → slice_index_or f.currents k (pos 0) ≡ signed_side t s.turned (s.square k)
+  -- a current is the side of its square, negative where this is reversed
+  pub current_is : (k : ℕ) → k < length t.squares → slice_index_or f.currents k (pos 0) ≡ signed_side t s.is_reversed (s.square k)
   current_is k h = ap (λ (cs : List ℤ). slice_index_or cs k (pos 0)) same.1
-      ∙ numbers_index {A = ℤ} (λ k. signed_side t s.turned (s.square k)) 0 (length t.squares) k (pos 0) h
-      ∙ ap (λ (i : ℕ). signed_side t s.turned (s.square i)) (omega arith)
+      ∙ numbers_index {A = ℤ} (λ k. signed_side t s.is_reversed (s.square k)) 0 (length t.squares) k (pos 0) h
+      ∙ ap (λ (i : ℕ). signed_side t s.is_reversed (s.square i)) (omega arith)
 
   -- one square
   pub square_is : (k : ℕ) → k < length t.squares → candidate_square w f k ≡ square_of t (s.square k)
-  square_is k h = placed (s.turned (s.square k)) (square_of t (s.square k))
+  square_is k h = placed (s.is_reversed (s.square k)) (square_of t (s.square k))
       (line_place f.total (right_edges w f) (slice_index_or (square_lines w) k (0, 1)).0) (slice_index_or (right_edges w f) k (pos 0))
       (level_in f (slice_index_or (net_of_word w).wires k (0, 0)).0) (level_in f (slice_index_or (net_of_word w).wires k (0, 0)).1)
       (slice_index_or f.currents k (pos 0))
       (side_of t tiling (square_of t (s.square k)) (in_square t tiling (s.square k) (square_below t tiling w s k h)))
-      (left_is k h) (right_is k h) (level (s.turned (s.square k)) (hangs_by_flow t tiling w s k h)) (current_is k h)
+      (left_is k h) (right_is k h) (level (s.is_reversed (s.square k)) (hangs_by_flow t tiling w s k h)) (current_is k h)
     where
       level : (b : Bool) → pos (square_of t (s.square k)).y ≡ potential (signed_flow t w s) 0 -ℤ potential (signed_flow t w s) (upper_end w b k)
           → cond b (level_in f (slice_index_or (net_of_word w).wires k (0, 0)).1)
@@ -116,7 +116,7 @@ module _ (t : Tiling) (w : Word) (f : Flow) (tiling : IsTiling t) (primitive : I
 
   squares_are : candidate_squares w f ≡ other t tiling s.square (square_below t tiling w s) (square_apart t tiling w s)
   squares_are = ap (λ (n : ℕ). map (candidate_square w f) (numbers_from 0 n))
-      (ap length same.1 ∙ numbers_length {A = ℤ} (λ k. signed_side t s.turned (s.square k)) 0 (length t.squares))
+      (ap length same.1 ∙ numbers_length {A = ℤ} (λ k. signed_side t s.is_reversed (s.square k)) 0 (length t.squares))
       ∙ numbers_each {A = Square} (candidate_square w f) (λ k. square_of t (s.square k)) 0 (length t.squares) (λ k lo hi. square_is k (omega (arith, hi)))
 
   -- the height is the level of the last node
@@ -156,10 +156,10 @@ module _ (t : Tiling) (w : Word) (f : Flow) (tiling : IsTiling t) (primitive : I
     height = height_is;
     currents = same.1;
     some = subst (λ (cs : List ℤ). AllByRecursion (λ c. c ≢ pos 0) cs) (sym same.1)
-        (numbers_all {A = ℤ} (λ c. c ≢ pos 0) (λ k. signed_side t s.turned (s.square k)) 0 (length t.squares)
-        (λ k lo hi. signed-nonzero (s.turned (s.square k)) (square_of t (s.square k)).s (side_some k (omega (arith, hi)))));
+        (numbers_all {A = ℤ} (λ c. c ≢ pos 0) (λ k. signed_side t s.is_reversed (s.square k)) 0 (length t.squares)
+        (λ k lo hi. signed-nonzero (s.is_reversed (s.square k)) (square_of t (s.square k)).s (side_some k (omega (arith, hi)))));
     positive = λ kept. subst (λ (cs : List ℤ). AllByRecursion (λ c. pos 1 ≤ℤ c) cs) (sym same.1)
-        (numbers_all {A = ℤ} (λ c. pos 1 ≤ℤ c) (λ k. signed_side t s.turned (s.square k)) 0 (length t.squares)
+        (numbers_all {A = ℤ} (λ c. pos 1 ≤ℤ c) (λ k. signed_side t s.is_reversed (s.square k)) 0 (length t.squares)
         (λ k lo hi. subst (λ (b : Bool). pos 1 ≤ℤ cond b (neg_ℤ (pos (square_of t (s.square k)).s)) (pos (square_of t (s.square k)).s))
         (sym (kept (s.square k))) (omega (arith, ints, side_some k (omega (arith, hi))))));
     tiles = subst (λ (qs : List Square). Tiles (whole t) qs) (sym squares_are)
@@ -168,6 +168,6 @@ module _ (t : Tiling) (w : Word) (f : Flow) (tiling : IsTiling t) (primitive : I
         ∙ other_in_order t tiling s.square (square_below t tiling w s) (square_apart t tiling w s);
   }
 
--- so it is for each primitive flow of the net, which is the signed one
+-- the candidate by each primitive flow of a signed word's net, which is the signed one, is the tiling
 pub the_candidate_is_the_tiling : TheCandidateIsTheTiling
 the_candidate_is_the_tiling t w f tiling primitive s flow positive lowest = candidate t w f tiling primitive s flow positive lowest

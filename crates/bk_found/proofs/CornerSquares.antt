@@ -1,5 +1,5 @@
 -- The longest squares in corners, as wires and lines tell them, are those of the candidate of a signed word of a tiling: a square that isn't
--- turned touches the sides that its wire and its lines tell, and a turned one, the wire of which leads upwards, neither top nor bottom.
+-- reversed touches the sides that its wire and its lines tell, and a reversed one, the wire of which leads upwards, neither top nor bottom.
 use Rattle.std.specs.Prelude.{cond, max, nat_abs, neg_ℤ, pos, ℤ, ◌&&◌, ◌==◌, ◌||◌, ◌≤ℤ◌}
 use Rattle.std.proofs.Common.{Bool, List, [], ap, arith, false, length, map, refl, slice_index_or, subst, suc, sym, true, zero, ℕ, ◌+◌, ◌<◌, ◌∙◌}
 use Rattle.std.proofs.Common.{◌≡◌, ◌≤◌}
@@ -128,39 +128,39 @@ module _ (t : Tiling) (w : Word) (f : Flow) (tiling : IsTiling t) (primitive : I
     bottom_is : s.node (last_node (net_of_word w)) ≡ length (square_groups t.squares)
     bottom_is = last_is t w f tiling primitive s flow positive lowest
 
-    -- the nodes of a square that isn't turned, and of one that is
-    above : s.turned (s.square k) ≡ false → node_above (square_groups t.squares) q ≡ s.node wire.0
+    -- the nodes of a square that isn't reversed, and of one that is
+    above : s.is_reversed (s.square k) ≡ false → node_above (square_groups t.squares) q ≡ s.node wire.0
     above e = (pair_is t tiling w s k h).0 ∙ ap (λ (b : Bool). s.node (start_of b wire)) e
 
-    under : s.turned (s.square k) ≡ false → node_below (square_groups t.squares) q ≡ s.node wire.1
+    under : s.is_reversed (s.square k) ≡ false → node_below (square_groups t.squares) q ≡ s.node wire.1
     under e = (pair_is t tiling w s k h).1 ∙ ap (λ (b : Bool). s.node (finish_of b wire)) e
 
-    turned_above : s.turned (s.square k) ≡ true → node_above (square_groups t.squares) q ≡ s.node wire.1
-    turned_above e = (pair_is t tiling w s k h).0 ∙ ap (λ (b : Bool). s.node (start_of b wire)) e
+    reversed_above : s.is_reversed (s.square k) ≡ true → node_above (square_groups t.squares) q ≡ s.node wire.1
+    reversed_above e = (pair_is t tiling w s k h).0 ∙ ap (λ (b : Bool). s.node (start_of b wire)) e
 
-    turned_under : s.turned (s.square k) ≡ true → node_below (square_groups t.squares) q ≡ s.node wire.0
-    turned_under e = (pair_is t tiling w s k h).1 ∙ ap (λ (b : Bool). s.node (finish_of b wire)) e
+    reversed_under : s.is_reversed (s.square k) ≡ true → node_below (square_groups t.squares) q ≡ s.node wire.0
+    reversed_under e = (pair_is t tiling w s k h).1 ∙ ap (λ (b : Bool). s.node (finish_of b wire)) e
 
-    top_told : s.turned (s.square k) ≡ false → (wire.0 == 0) ≡ (q.y == 0)
+    top_told : s.is_reversed (s.square k) ≡ false → (wire.0 == 0) ≡ (q.y == 0)
     top_told e = eq_test-same_of_equivalent wire.0 0 q.y 0 (λ z. (at_top t tiling q in_tiling).0 (above e ∙ ap s.node z ∙ s.net.first))
         (λ z. same_node wire.0 0 below.0 some (sym (above e) ∙ (at_top t tiling q in_tiling).1 z ∙ sym s.net.first))
 
-    bottom_told : s.turned (s.square k) ≡ false → (wire.1 == last_node (net_of_word w)) ≡ (q.y + q.s == t.height)
+    bottom_told : s.is_reversed (s.square k) ≡ false → (wire.1 == last_node (net_of_word w)) ≡ (q.y + q.s == t.height)
     bottom_told e = eq_test-same_of_equivalent wire.1 (last_node (net_of_word w)) (q.y + q.s) t.height
         (λ z. (on_bottom t tiling q in_tiling).0 (under e ∙ ap s.node z ∙ bottom_is))
         (λ z. same_node wire.1 (last_node (net_of_word w)) below.1 last_below (sym (under e) ∙ (on_bottom t tiling q in_tiling).1 z ∙ sym bottom_is))
 
-    left_told : s.turned (s.square k) ≡ false → nat_abs (line_place f.total (right_edges w f) (slice_index_or (lefts_of w) k 0)) ≡ q.x
+    left_told : s.is_reversed (s.square k) ≡ false → nat_abs (line_place f.total (right_edges w f) (slice_index_or (lefts_of w) k 0)) ≡ q.x
     left_told e = ap nat_abs (left_place ∙ left_is t w f tiling primitive s flow positive lowest k h ∙ ap (λ (b : Bool). pos (cond b (q.x + q.s) q.x)) e)
 
-    right_told : s.turned (s.square k) ≡ false → nat_abs (slice_index_or (right_edges w f) k (pos 0)) ≡ q.x + q.s
+    right_told : s.is_reversed (s.square k) ≡ false → nat_abs (slice_index_or (right_edges w f) k (pos 0)) ≡ q.x + q.s
     right_told e = ap nat_abs (right_is t w f tiling primitive s flow positive lowest k h ∙ ap (λ (b : Bool). pos (cond b q.x (q.x + q.s))) e)
 
-    side_told : s.turned (s.square k) ≡ false → nat_abs (slice_index_or f.currents k (pos 0)) ≡ q.s
+    side_told : s.is_reversed (s.square k) ≡ false → nat_abs (slice_index_or f.currents k (pos 0)) ≡ q.s
     side_told e = ap nat_abs (current_is t w f tiling primitive s flow positive lowest k h
         ∙ ap (λ (b : Bool). cond b (neg_ℤ (pos q.s)) (pos q.s)) e)
 
-    contact_told : s.turned (s.square k) ≡ false → contact_at lines k ≡ contact_of t.width t.height q
+    contact_told : s.is_reversed (s.square k) ≡ false → contact_at lines k ≡ contact_of t.width t.height q
     contact_told e = λ i. record {
       top = top_told e i;
       bottom = bottom_told e i;
@@ -168,27 +168,27 @@ module _ (t : Tiling) (w : Word) (f : Flow) (tiling : IsTiling t) (primitive : I
       right = right_told e i == nat_abs (wide i);
     }
 
-    -- a turned square lies at neither end, nor is it told so
-    no_top : s.turned (s.square k) ≡ true → (q.y == 0) ≡ false
+    -- a reversed square lies at neither end, nor is it told so
+    no_top : s.is_reversed (s.square k) ≡ true → (q.y == 0) ≡ false
     no_top e = nat_eq-of_different q.y 0 (λ z.
-        let first : wire.1 ≡ 0 = same_node wire.1 0 below.1 some (sym (turned_above e) ∙ (at_top t tiling q in_tiling).1 z ∙ sym s.net.first) in
+        let first : wire.1 ≡ 0 = same_node wire.1 0 below.1 some (sym (reversed_above e) ∙ (at_top t tiling q in_tiling).1 z ∙ sym s.net.first) in
         omega (arith, first, later))
 
-    no_bottom : s.turned (s.square k) ≡ true → (q.y + q.s == t.height) ≡ false
+    no_bottom : s.is_reversed (s.square k) ≡ true → (q.y + q.s == t.height) ≡ false
     no_bottom e = nat_eq-of_different (q.y + q.s) t.height (λ z.
         let last : wire.0 ≡ last_node (net_of_word w) =
-        same_node wire.0 (last_node (net_of_word w)) below.0 last_below (sym (turned_under e) ∙ (on_bottom t tiling q in_tiling).1 z ∙ sym bottom_is) in
+        same_node wire.0 (last_node (net_of_word w)) below.0 last_below (sym (reversed_under e) ∙ (on_bottom t tiling q in_tiling).1 z ∙ sym bottom_is) in
         omega (arith, last, later, below.1))
 
-    no_top_told : s.turned (s.square k) ≡ true → (wire.0 == 0) ≡ false
+    no_top_told : s.is_reversed (s.square k) ≡ true → (wire.0 == 0) ≡ false
     no_top_told e = nat_eq-of_different wire.0 0
-        (λ z. omega (arith, (((a_tiling_has_a_layout t tiling).0).nodes.ends_below (s.square k) inside).0, turned_under e ∙ ap s.node z ∙ s.net.first))
+        (λ z. omega (arith, (((a_tiling_has_a_layout t tiling).0).nodes.ends_below (s.square k) inside).0, reversed_under e ∙ ap s.node z ∙ s.net.first))
 
-    no_bottom_told : s.turned (s.square k) ≡ true → (wire.1 == last_node (net_of_word w)) ≡ false
+    no_bottom_told : s.is_reversed (s.square k) ≡ true → (wire.1 == last_node (net_of_word w)) ≡ false
     no_bottom_told e = nat_eq-of_different wire.1 (last_node (net_of_word w))
-        (λ z. omega (arith, ((a_tiling_has_a_layout t tiling).0).nodes.hangs_above (s.square k) inside, turned_above e ∙ ap s.node z ∙ bottom_is))
+        (λ z. omega (arith, ((a_tiling_has_a_layout t tiling).0).nodes.hangs_above (s.square k) inside, reversed_above e ∙ ap s.node z ∙ bottom_is))
 
-    side_is : (corner : Contact → Bool) → NeedsTopOrBottom corner → (b : Bool) → s.turned (s.square k) ≡ b
+    side_is : (corner : Contact → Bool) → NeedsTopOrBottom corner → (b : Bool) → s.is_reversed (s.square k) ≡ b
         → side_in corner lines k ≡ cond (corner (contact_of t.width t.height q)) q.s 0
     side_is corner needs false e = λ i. cond (corner (contact_told e i)) (side_told e i) 0
     side_is corner needs true e = ap (λ (b : Bool). cond b (nat_abs (slice_index_or f.currents k (pos 0))) 0)
@@ -203,7 +203,7 @@ module _ (t : Tiling) (w : Word) (f : Flow) (tiling : IsTiling t) (primitive : I
     where
       each : (k : ℕ) → 0 ≤ k → k < 0 + length t.squares
           → side_in corner lines k ≡ cond (corner (contact_of t.width t.height (candidate_square w f k))) (candidate_square w f k).s 0
-      each k lo hi = side_is k (omega (arith, hi)) corner needs (s.turned (s.square k)) refl
+      each k lo hi = side_is k (omega (arith, hi)) corner needs (s.is_reversed (s.square k)) refl
           ∙ sym (ap (λ (r : Square). cond (corner (contact_of t.width t.height r)) r.s 0)
           (square_is t w f tiling primitive s flow positive lowest k (omega (arith, hi))))
 

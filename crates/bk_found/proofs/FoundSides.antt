@@ -37,7 +37,7 @@ in_order_permutes [] = IsPermutation-refl []
 in_order_permutes (q ∷ squares) = IsPermutation-trans (q ∷ squares) (q ∷ in_code_order squares) (with_square q (in_code_order squares))
     (IsPermutation-cons q squares (in_code_order squares) (in_order_permutes squares)) (with_square_permutes q (in_code_order squares))
 
--- so a tiling has the sides of its squares in any order
+-- a tiling has the sides of its squares in any order
 pub sides_in_order : (t : Tiling) (squares : List Square) → in_code_order squares ≡ t.squares → IsPermutation (sides_of t) (map (λ q. q.s) squares)
 sides_in_order t squares same = IsPermutation-map (λ q. q.s) t.squares squares
     (IsPermutation-sym squares t.squares (subst (λ (qs : List Square). IsPermutation squares qs) same (in_order_permutes squares)))

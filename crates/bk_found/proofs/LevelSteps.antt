@@ -39,11 +39,11 @@ fits_small most (negsuc n) s h = record { sfits = omega (arith, ints, s.0, h) }
 pub held_as_is : (most : ℕ) (z : ℤ) → IsSmallNumber most z → most ≤ 2 ^ 40 → to_z w64 (of_z w64 z) ≡ z
 held_as_is most z small few = to_z-of_z w64 z (fits_small most z small few)
 
--- and stays small
+-- a small number that is held in 64 bits stays small
 pub held_still : (most : ℕ) (z : ℤ) → IsSmallNumber most z → most ≤ 2 ^ 40 → IsSmallNumber most (to_z w64 (of_z w64 z))
 held_still most z small few = subst (λ (x : ℤ). IsSmallNumber most x) (sym (held_as_is most z small few)) small
 
--- and within what 40 bits hold
+-- a small number that is held in 64 bits is within what 40 bits hold
 pub held_within : (most : ℕ) (z : ℤ) → IsSmallNumber most z → most ≤ 2 ^ 40 → IsSmallNumber (2 ^ 40) (to_z w64 (of_z w64 z))
 held_within most z small few = small_more most (2 ^ 40) (to_z w64 (of_z w64 z)) (held_still most z small few) few
 
@@ -146,7 +146,7 @@ place_small rights total i zero small many each h = small_zero ((i + 1) * 2 ^ 34
 place_small rights total i (suc zero) small many each h = small_more (2 ^ 34) ((i + 1) * 2 ^ 34) total small (omega arith)
 place_small rights total i (suc (suc k)) small many each h = each k (omega (arith, h))
 
--- so does each line where all right edges are small
+-- each line lies at a small place where all right edges are small
 pub line_within : (rights : List ℤ) (total : ℤ) (line : ℕ) → IsSmallNumber (2 ^ 34) total → AreSmallNumbers (17 * 2 ^ 34) rights → line < length rights + 2
     → IsSmallNumber (17 * 2 ^ 34) (line_place total rights line)
 line_within rights total zero small each h = small_zero (17 * 2 ^ 34)

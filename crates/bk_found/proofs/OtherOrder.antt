@@ -92,7 +92,7 @@ module _ (t : Tiling) (tiling : IsTiling t) (square : ℕ → ℕ) (below : (k :
   other_in_order = same_members (in_code_order other) t.squares (ordered other (λ q h. side_of t tiling q (of_other q h)) once)
       tiling.ordered (λ q h. of_other q (from_order other q h)) (λ q h. in_order other q (in_other q h))
 
-  -- the other squares tile the whole rectangle
+  -- squares that are the tiling's, put in the order of a code, tile the whole rectangle
   pub other_tiles : Tiles (whole t) other
   other_tiles = record {
     some = omega (arith, tiling.tiles.some, numbers_length {A = Square} (λ k. square_of t (square k)) 0 (length t.squares));

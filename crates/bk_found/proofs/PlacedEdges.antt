@@ -13,10 +13,10 @@ use Rattle.bk_found.specs.Candidate.{line_place, right_edges_from}
 use Rattle.bk_layout.specs.SignedFlow.{signed_side}
 use Rattle.bk_layout.specs.SignedWord.{left_edge, line_column, right_edge}
 
-module _ (t : Tiling) (turned : ℕ → Bool) (square : ℕ → ℕ) where
+module _ (t : Tiling) (is_reversed : ℕ → Bool) (square : ℕ → ℕ) where
   -- the column of the right edge, as the word takes it, of the square at place k
   abbrev pub ends_at : ℕ → ℕ
-  ends_at k = right_edge t turned (square k)
+  ends_at k = right_edge t is_reversed (square k)
 
   -- so many edges stand right
   pub record StandRight (b : ℕ) (rs : List ℤ) : Type 0 where
@@ -25,14 +25,14 @@ module _ (t : Tiling) (turned : ℕ → Bool) (square : ℕ → ℕ) where
 
   -- the column that is computed for a line is that of the line
   pub place_is : (total : ℤ) → total ≡ pos t.width → (b : ℕ) (rs : List ℤ) → StandRight b rs → (f : ℕ) → f < b + 2
-      → line_place total rs f ≡ pos (line_column t turned square f)
+      → line_place total rs f ≡ pos (line_column t is_reversed square f)
   place_is total wide b rs right zero h = refl
   place_is total wide b rs right (suc zero) h = wide
   place_is total wide b rs right (suc (suc k)) h = right.each k (omega arith)
 
   -- the signed side leads from the left edge to the right one
-  pub side_leads : (q : ℕ) → pos (left_edge t turned q) +ℤ signed_side t turned q ≡ pos (right_edge t turned q)
-  side_leads q = cases (turned q)
+  pub side_leads : (q : ℕ) → pos (left_edge t is_reversed q) +ℤ signed_side t is_reversed q ≡ pos (right_edge t is_reversed q)
+  side_leads q = cases (is_reversed q)
     where
       cases : (b : Bool) → pos (cond b ((square_of t q).x + (square_of t q).s) (square_of t q).x) +ℤ cond b (neg_ℤ (pos (square_of t q).s))
           (pos (square_of t q).s) ≡ pos (cond b (square_of t q).x ((square_of t q).x + (square_of t q).s))
@@ -53,28 +53,29 @@ module _ (t : Tiling) (turned : ℕ → Bool) (square : ℕ → ℕ) where
 
   -- from square to square the right edges are those of the tiling's squares
   pub edges_are : (total : ℤ) → total ≡ pos t.width → (b : ℕ) (sides : List (ℕ × ℕ)) (rs : List ℤ) → StandRight b rs
-      → ((j : ℕ) (p : ℕ × ℕ) → slice_get sides j ≡ Some p → (left_edge t turned (square (b + j)) ≡ line_column t turned square p.0) × (p.0 < b + j + 2))
-      → StandRight (b + length sides) (right_edges_from total rs sides (map (λ k. signed_side t turned (square k)) (numbers_from b (length sides))))
+      → ((j : ℕ) (p : ℕ × ℕ) → slice_get sides j ≡ Some p
+      → (left_edge t is_reversed (square (b + j)) ≡ line_column t is_reversed square p.0) × (p.0 < b + j + 2))
+      → StandRight (b + length sides) (right_edges_from total rs sides (map (λ k. signed_side t is_reversed (square k)) (numbers_from b (length sides))))
   edges_are total wide b [] rs right lines = record { many = omega (arith, right.many); each = λ k h. right.each k (omega arith) }
   edges_are total wide b (p ∷ sides) rs right lines = from
-      (edges_are total wide (b + 1) sides (rs ++ (line_place total rs p.0 +ℤ signed_side t turned (square b)) ∷ [])
-      (grow b rs (line_place total rs p.0 +ℤ signed_side t turned (square b)) right edge)
-      (λ j q e. (ap (λ (k : ℕ). left_edge t turned (square k)) (sym (next j)) ∙ (lines (suc j) q e).0, omega (arith, (lines (suc j) q e).1))))
+      (edges_are total wide (b + 1) sides (rs ++ (line_place total rs p.0 +ℤ signed_side t is_reversed (square b)) ∷ [])
+      (grow b rs (line_place total rs p.0 +ℤ signed_side t is_reversed (square b)) right edge)
+      (λ j q e. (ap (λ (k : ℕ). left_edge t is_reversed (square k)) (sym (next j)) ∙ (lines (suc j) q e).0, omega (arith, (lines (suc j) q e).1))))
     where
       at : b + 0 ≡ b
       at = omega arith
 
-      edge : line_place total rs p.0 +ℤ signed_side t turned (square b) ≡ pos (ends_at b)
-      edge = ap (λ (z : ℤ). z +ℤ signed_side t turned (square b)) (place_is total wide b rs right p.0 (omega (arith, (lines 0 p refl).1))
-          ∙ ap pos (sym (lines 0 p refl).0) ∙ ap (λ (k : ℕ). pos (left_edge t turned (square k))) at) ∙ side_leads (square b)
+      edge : line_place total rs p.0 +ℤ signed_side t is_reversed (square b) ≡ pos (ends_at b)
+      edge = ap (λ (z : ℤ). z +ℤ signed_side t is_reversed (square b)) (place_is total wide b rs right p.0 (omega (arith, (lines 0 p refl).1))
+          ∙ ap pos (sym (lines 0 p refl).0) ∙ ap (λ (k : ℕ). pos (left_edge t is_reversed (square k))) at) ∙ side_leads (square b)
 
       next : (j : ℕ) → b + suc j ≡ b + 1 + j
       next j = omega arith
 
       from : StandRight (b + 1 + length sides) (right_edges_from total
-          (rs ++ (line_place total rs p.0 +ℤ signed_side t turned (square b)) ∷ []) sides
-          (map (λ k. signed_side t turned (square k)) (numbers_from (b + 1) (length sides))))
+          (rs ++ (line_place total rs p.0 +ℤ signed_side t is_reversed (square b)) ∷ []) sides
+          (map (λ k. signed_side t is_reversed (square k)) (numbers_from (b + 1) (length sides))))
           → StandRight (b + suc (length sides)) (right_edges_from total
-          (rs ++ (line_place total rs p.0 +ℤ signed_side t turned (square b)) ∷ []) sides
-          (map (λ k. signed_side t turned (square k)) (numbers_from (b + 1) (length sides))))
+          (rs ++ (line_place total rs p.0 +ℤ signed_side t is_reversed (square b)) ∷ []) sides
+          (map (λ k. signed_side t is_reversed (square k)) (numbers_from (b + 1) (length sides))))
       from rest = record { many = omega (arith, rest.many); each = λ k h. rest.each k (omega (arith, h)) }

@@ -35,8 +35,8 @@ module _ (t : Tiling) (tiling : IsTiling t) (primitive : IsPrimitiveTiling t) (w
   signed_flow_is_primitive d total currents = omega (arith, primitive d (all_from (λ q. (m : ℕ) × (q.s ≡ d * m)) t.squares (side_of_other d each)))
     where
       each : (k : ℕ) → k < length t.squares → d ∣ (square_of t (s.square k)).s
-      each k h = subst (λ (n : ℕ). d ∣ n) (abs-signed (s.turned (s.square k)) (square_of t (s.square k)).s)
-          (at_number {A = ℤ} (λ c. d ∣ nat_abs c) (λ k. signed_side t s.turned (s.square k)) 0 (length t.squares) k
+      each k h = subst (λ (n : ℕ). d ∣ n) (abs-signed (s.is_reversed (s.square k)) (square_of t (s.square k)).s)
+          (at_number {A = ℤ} (λ c. d ∣ nat_abs c) (λ k. signed_side t s.is_reversed (s.square k)) 0 (length t.squares) k
           (recursion_from_All (λ c. d ∣ nat_abs c) (signed_flow t w s).currents currents) (omega arith) (omega arith))
 
 -- ---- levels by currents

@@ -33,7 +33,7 @@ module _ (t : Tiling) (sides : List ℕ) (same : IsPermutation (sides_of t) side
       apart w.first w.second w.apart w.below
       (eqb-true (get_or sides w.first 0) side w.one ∙ sym (eqb-true (get_or sides w.second 0) side w.other))
 
-  -- so a test whether any two are one tells it
+  -- a test whether any two sides are one tells whether the tiling is perfect
   pub perfect_told : (differ : Bool) → (differ ≡ true ↔ AllPairs ◌≢◌ sides) → not differ ≡ false ↔ IsPerfect t
   perfect_told true says = (λ no. perfect_from_apart (λ j k before within. says.0 refl j k 0 before within), λ perfect. refl)
   perfect_told false says = (

@@ -65,11 +65,12 @@ pub record IsCandidateOf (t : Tiling) (w : Word) (s : IsSignedWordOf t w) (f : F
   pub height : level_in f (last_node (net_of_word w)) ≡ pos t.height
   pub currents : f.currents ≡ (signed_flow t w s).currents
   pub some : AllByRecursion (λ c. c ≢ pos 0) f.currents
-  pub positive : ((q : ℕ) → s.turned q ≡ false) → AllByRecursion (λ c. pos 1 ≤ℤ c) f.currents
+  pub positive : ((q : ℕ) → s.is_reversed q ≡ false) → AllByRecursion (λ c. pos 1 ≤ℤ c) f.currents
   pub tiles : Tiles (whole t) (candidate_squares w f)
   pub squares : in_code_order (candidate_squares w f) ≡ t.squares
 
--- so it is where the tiling and the flow are in lowest terms
+-- the candidate of a signed word of a tiling in lowest terms, by a flow of the word's net in lowest terms, is the
+-- tiling
 abbrev pub TheCandidateIsTheTiling : Type 0
 TheCandidateIsTheTiling = (t : Tiling) (w : Word) (f : Flow) → IsTiling t → IsPrimitiveTiling t
     → (s : IsSignedWordOf t w)

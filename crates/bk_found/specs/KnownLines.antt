@@ -1,6 +1,7 @@
 -- What the code knows of a candidate before it places its squares.
 -- Example (TiesExamples): so much is known of the lines of 2u.1e with the currents 2, 1, 1 and the levels 0, 1, 2.
-use Rattle.std.specs.Prelude.{List, length, pos, slice_index_or, ℕ, ℤ, ◌*◌, ◌+◌, ◌<◌, ◌^◌, ◌≡◌, ◌≤◌}
+use Rattle.std.specs.Prelude.{List, length, pos, slice_index_or, ℕ, ℤ, ◌*◌, ◌+◌, ◌<◌, ◌≡◌, ◌≤◌}
+use Rattle.bk_flow.specs.declared.TheConstants.{LARGEST_SMALL_CURRENT}
 use Rattle.bk_found.specs.Placing.{AreKnownLines, AreSmallNumbers, EndWithin, IsSmallNumber}
 use Rattle.bk_found.specs.ToldCorners.{Lines}
 use Rattle.bk_word.specs.declared.TheConstants.{INLINE_ORDER}
@@ -15,7 +16,8 @@ pub record IsCandidate (l : Lines) (levels : List ℤ) : Type 0 where
   pub rights : length l.rights ≡ length l.lefts
   pub lines : AreKnownLines l.lefts
   pub ends : EndWithin NODES l.wires
-  pub small_currents : AreSmallNumbers (2 ^ 34) l.currents
-  pub small_rights : AreSmallNumbers ((INLINE_ORDER + 1) * 2 ^ 34) l.rights
-  pub small_levels : (v : ℕ) → v < NODES → IsSmallNumber (INLINE_ORDER * 2 ^ 34) (slice_index_or levels v (pos 0))
-  pub small_total : IsSmallNumber (2 ^ 34) l.total
+  pub small_currents : AreSmallNumbers LARGEST_SMALL_CURRENT l.currents
+  pub small_rights : AreSmallNumbers ((INLINE_ORDER + 1) * LARGEST_SMALL_CURRENT) l.rights
+  pub small_levels : (v : ℕ) → v < NODES
+      → IsSmallNumber (INLINE_ORDER * LARGEST_SMALL_CURRENT) (slice_index_or levels v (pos 0))
+  pub small_total : IsSmallNumber LARGEST_SMALL_CURRENT l.total

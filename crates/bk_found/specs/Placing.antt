@@ -36,7 +36,7 @@ pub record AreLevels (wires : List (ℕ × ℕ)) (currents : List ℤ) (at : ℕ
   pub begun : (k : ℕ) → k < length wires → ((slice_index_or wires k (0, 0)).0 ≡ 0)
       ⊎ ((j : ℕ) × (j < k) × ((slice_index_or wires j (0, 0)).1 ≡ (slice_index_or wires k (0, 0)).0))
 
--- these are the levels at both ends of each wire
+-- the levels are those that a function gives at both ends of each wire
 abbrev pub HasLevels : List (ℕ × ℕ) → (ℕ → ℤ) → List ℤ → Type 0
 HasLevels wires at levels = (k : ℕ) → k < length wires
     → (slice_index_or levels (slice_index_or wires k (0, 0)).0 (pos 0) ≡ at (slice_index_or wires k (0, 0)).0)

@@ -12,7 +12,7 @@ use Rattle.bk_found.specs.declared.corners.Contact.{Contact}
 use Rattle.bk_found.specs.declared.corners.Longest.{Longest}
 use Rattle.bk_found.specs.Candidate.{line_place}
 
--- what touches two sides that meet lies in a corner at both
+-- what touches two sides of a rectangle that meet lies in a corner at both
 abbrev pub in_top_corner : Contact → Bool
 in_top_corner c = c.top && (c.left || c.right)
 
@@ -44,7 +44,7 @@ contact_at l k = record {
   right = nat_abs (slice_index_or l.rights k (pos 0)) == nat_abs l.total;
 }
 
--- its side, where it lies in such a corner
+-- the side of the square at a place, where it lies in a corner by what it touches, and else 0
 abbrev pub side_in : (Contact → Bool) → Lines → ℕ → ℕ
 side_in corner l k = cond (corner (contact_at l k)) (nat_abs (slice_index_or l.currents k (pos 0))) 0
 

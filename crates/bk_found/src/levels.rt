@@ -1,6 +1,7 @@
 //! The levels of nodes and the right edges of squares, from the currents of a flow.
 
-ghost use Rattle.std.specs.Prelude.{length, pos, slice_index_or, ℕ, ℤ, ◌*◌, ◌+◌, ◌<◌, ◌^◌, ◌≡◌, ◌≤◌};
+ghost use Rattle.std.specs.Prelude.{length, pos, slice_index_or, ℕ, ℤ, ◌*◌, ◌+◌, ◌<◌, ◌≡◌, ◌≤◌};
+ghost use Rattle.bk_flow.specs.declared.TheConstants.{LARGEST_SMALL_CURRENT};
 ghost use Rattle.bk_found.specs.Candidate.{line_place};
 ghost use Rattle.bk_found.specs.Placing.{AreKnownLines, AreLevels, AreSmallNumbers, EndWithin, HasLevels};
 ghost use Rattle.bk_found.specs.Placing.{IsSmallNumber, edges_by_lefts};
@@ -19,8 +20,9 @@ pub(crate) fn levels_of(wires: &[(u16, u16)], currents: &[i64]) -> [i64; NODES]
     requires ends { EndWithin NODES wires.now }
     requires many { length currents.now ≡ length wires.now }
     requires few { length wires.now ≤ INLINE_ORDER }
-    requires small { AreSmallNumbers (2 ^ 34) currents.now }
-    ensures small { (v : ℕ) → v < NODES → IsSmallNumber (INLINE_ORDER * 2 ^ 34) (slice_index_or result v (pos 0)) }
+    requires small { AreSmallNumbers LARGEST_SMALL_CURRENT currents.now }
+    ensures small { (v : ℕ) → v < NODES
+        → IsSmallNumber (INLINE_ORDER * LARGEST_SMALL_CURRENT) (slice_index_or result v (pos 0)) }
     ensures right { (at : ℕ → ℤ) → AreLevels wires.now currents.now at → HasLevels wires.now at result }
 {
     let mut levels = [0i64; NODES];
@@ -36,11 +38,11 @@ pub(crate) fn rights_of(lefts: &[u8], currents: &[i64], total: i64) -> ArrayVec<
     requires many { length currents.now ≡ length lefts.now }
     requires few { length lefts.now ≤ INLINE_ORDER }
     requires known { AreKnownLines lefts.now }
-    requires small { AreSmallNumbers (2 ^ 34) currents.now }
-    requires total { IsSmallNumber (2 ^ 34) total }
+    requires small { AreSmallNumbers LARGEST_SMALL_CURRENT currents.now }
+    requires total { IsSmallNumber LARGEST_SMALL_CURRENT total }
     ensures value { result.items ≡ edges_by_lefts total lefts.now currents.now }
     ensures many { length result.items ≡ length lefts.now }
-    ensures small { AreSmallNumbers ((INLINE_ORDER + 1) * 2 ^ 34) result.items }
+    ensures small { AreSmallNumbers ((INLINE_ORDER + 1) * LARGEST_SMALL_CURRENT) result.items }
 {
     let mut rights = ArrayVec::new();
     for (i, line) in lefts.iter().enumerate() {

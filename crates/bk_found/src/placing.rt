@@ -104,12 +104,7 @@ fn loses_by_corners(candidate: &Candidate, width: u64, height: u64, ties: Ties) 
 fn has_zero(currents: &[i64]) -> bool
     ensures { IsTrue result → (k : ℕ) × (k < length currents.now) × (slice_index_or currents.now k (pos 1) ≡ pos 0) }
 {
-    for current in currents {
-        if *current == 0 {
-            return true;
-        }
-    }
-    false
+    currents.iter().any(|current| *current == 0)
 }
 
 // The squares between their lines and between the levels of their nodes.

@@ -6,7 +6,7 @@ ghost use Rattle.bk_sym.specs.declared.Turn.{Turn as Turned};
 
 use crate::placing::Placed;
 use arrayvec::ArrayVec;
-use bk_sym::Turn;
+use bk_sym::{Turn, image_square};
 use bk_tiling::Square;
 use bk_word::INLINE_ORDER;
 
@@ -88,26 +88,7 @@ pub fn turned_squares(placed: &Placed, which: Turn) -> ArrayVec<Square, INLINE_O
     let (width, height) = (placed.width, placed.height);
     let mut squares = ArrayVec::new();
     'squares: for q in placed.squares.as_slice() {
-        squares.push(turned(*q, which, width, height));
+        squares.push(image_square(*q, which, width, height));
     }
     squares
-}
-
-// Where a square of a rectangle of this size stands in the image.
-fn turned(q: Square, which: Turn, width: u64, height: u64) -> Square
-    ensures { result ≡ image_square which width height q }
-{
-    let right = width.saturating_sub(q.x).saturating_sub(q.s);
-    let bottom = height.saturating_sub(q.y).saturating_sub(q.s);
-    let (x, y) = match which {
-        Turn::Same => (q.x, q.y),
-        Turn::FlipX => (right, q.y),
-        Turn::FlipY => (q.x, bottom),
-        Turn::Half => (right, bottom),
-        Turn::Swap => (q.y, q.x),
-        Turn::SwapFlipX => (bottom, q.x),
-        Turn::SwapFlipY => (q.y, right),
-        Turn::SwapHalf => (bottom, right),
-    };
-    Square { x, y, s: q.s }
 }

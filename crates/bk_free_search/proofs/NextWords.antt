@@ -2,11 +2,11 @@
 pub mod AheadMoves
 pub mod AllUnderExamples
 pub mod Cutting
+pub mod HandedOn
 pub mod LastSquare
 pub mod LastSquareExamples
 pub mod NextMoves
 pub mod SignPhases
 pub mod SoughtExamples
-pub mod TurnsTaken
 pub mod UnderSigns
 pub mod WordsMet

@@ -1,8 +1,8 @@
 -- What stands after a next move, by numbers that are known before it is played.
 -- Example (AllUnderExamples): 2u, the first move of a word, leaves two squares at the top, one at each wall, and one
--- sign, which is under. In a word of four squares two moves are left at most, no more than segments. So the right one
--- would be closed by one square, and then one segment is left of two, with a square to come: no word of four squares
--- begins with 2u.
+-- sign, which is under. A normal word of four squares has two moves at most, so one is left. It would close the right
+-- segment by one square, and then one segment would be left, with a square to come: no word of four squares begins with
+-- 2u.
 use Rattle.std.specs.Prelude.{[], length, ◌++◌, ◌∷◌, ◌≡◌}
 use Rattle.bk_word.specs.Play.{outline_of}
 use Rattle.bk_word.specs.Word.{Move, Word}

@@ -51,7 +51,8 @@ behind_signs o = drop (valley_place o.signs + 1) o.signs
 abbrev pub behind_sizes : Outline → List ℕ
 behind_sizes o = cond (has_right_wall o) (1 ∷ []) (map length (drop (valley_place o.signs + 1) o.segments))
 
--- their marks, and those where a square more joins the first of them
+-- the marks of segments where a square more joins the first of them; then those of the segments behind the leftmost
+-- valley, as they stand and where the last new square joins the first of them
 abbrev pub wide_first : ℕ → List (List ℕ) → List Bool → List Bool
 wide_first top [] marks = marks
 wide_first top (segment ∷ segments) [] = []

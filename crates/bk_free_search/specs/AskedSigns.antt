@@ -27,7 +27,7 @@ use Rattle.bk_free_search.specs.declared.state.Search.{Search}
 use Rattle.bk_free_search.specs.declared.strong.Passed.{Passed}
 use Rattle.bk_word.specs.declared.TheConstants.{LARGEST_LISTED_ORDER}
 
--- these are places of marked segments
+-- all places in the set are places of marked segments of the word
 abbrev pub AreMarks : Word → LineSet → Type 0
 AreMarks w marks = (i : ℕ) → Has marks i → slice_index_or (marks_of_word w) i false ≡ true
 
@@ -46,7 +46,7 @@ pub record AreAskedBefore (front : Word) (b : Before) : Type 0 where
   pub even : has_left_wall (outline_of front) ≡ false → IsAsked front (Even ∷ []) b.even
   pub under : has_left_wall (outline_of front) ≡ false → IsAsked front (Under ∷ []) b.under
 
--- their numbers are small
+-- the numbers of what is asked for before the valley are small
 pub record AreFewBefore (b : Before) : Type 0 where
   pub none : IsFewPassed b.none.passed (FEW + 1)
   pub even : IsFewPassed b.even.passed (FEW + 1)
@@ -74,7 +74,7 @@ pub record AreMovesLeft (n : ℕ) (front : Word) (left : ℕ) : Type 0 where
   pub most_is : AreMostMovesThen n front most
   pub left_is : left ≡ most - (length front + 1)
 
--- so many signs at least of each next move are even
+-- no word of a normal layout goes on by a move of which fewer signs than so many are even
 abbrev pub AreEvensNeeded : ℕ → Word → ℕ → Type 0
 AreEvensNeeded n front evens = (m : Move) → count_by is_even m.signs < evens → IsNormalBarren n (front ++ m ∷ [])
 
@@ -83,12 +83,13 @@ abbrev pub IsOver : Passed → Asks → ℕ → ℕ → Type 0
 IsOver passed asks moves left = (moves < max (passed.most + asks.add) (passed.aboves + asks.most))
     ⊎ (left < max (passed.most + asks.add) (passed.aboves + asks.most) + passed.more + asks.more)
 
--- they are where fewer squares are left than this number, and no more than there ever are
+-- with fewer squares left than this number, and no more than there ever are, more moves or squares are asked for than
+-- are left
 abbrev pub NeedsLeft : Passed → Asks → ℕ → ℕ → Type 0
 NeedsLeft passed asks moves need = (left : ℕ) → left < need → left < MANY → IsOver passed asks moves left
 
--- such numbers of what is asked for before a next move's first sign, and with the sign even or under at a left
--- neighbour
+-- how many squares must be left, by what is asked for before a next move's first sign, and with the sign even or under
+-- at a left neighbour
 pub record AreNeeds (before : Before) (behind : Behind) (moves : ℕ) (needs : Needs) : Type 0 where
   pub none : NeedsLeft before.none.passed behind.even moves needs.none
   pub even : NeedsLeft before.even.passed behind.even moves needs.even
@@ -129,15 +130,16 @@ pub record IsMoveBegun (s : Search) (b : Begun) (around : Beside) : Type 0 where
   pub next_is : IsNextCount s.order s.board b.m.count b.next
   pub around_is : StandBeside s.order s.board around
 
--- its signs so far are followed by those between its own squares, or by one at a right neighbour, and this is asked for
--- with them
+-- the signs so far of a begun move are followed by those between its own squares, or by one at a right neighbour, and
+-- this is asked for with them
 pub record IsWithOwn (s : Search) (b : Begun) (around : Beside) (asked : Asked) : Type 0 where
   pub begun : IsMoveBegun s b around
   pub asked_is : IsAsked s.board b.m.signs asked
   pub from : open_side (has_left_wall (outline_of s.board)) ≤ length b.m.signs
   pub own : length b.m.signs ≤ b.next.own
 
--- this may be its next sign: behind it stands one of its own squares, and this is asked for with it
+-- this may be the next sign of a begun move: behind it stands one of the move's own squares, and this is asked for with
+-- it
 pub record IsOwnSign (s : Search) (b : Begun) (around : Beside) (asked : Asked) (sign : Sign) : Type 0 where
   pub begun : IsMoveBegun s b around
   pub asked_is : IsAsked s.board (b.m.signs ++ sign ∷ []) asked
@@ -148,6 +150,6 @@ pub record BarsSigns (n : ℕ) (front : Word) (count : ℕ) (signs : List Sign) 
   pub barren : (other : Move) (more : List Sign) → other.count ≡ count → other.signs ≡ signs ++ more
       → IsNormalBarren n (front ++ other ∷ [])
 
--- none does by the move that is begun with this sign next
+-- no word of a normal layout goes on by the move that is begun with this sign next
 abbrev pub BarsNext : Search → Begun → Sign → Type 0
 BarsNext s b sign = BarsSigns s.order s.board b.m.count (b.m.signs ++ sign ∷ [])

@@ -7,8 +7,8 @@ use Rattle.bk_play.specs.SmallSkeleton.{IsOutlineOf}
 use Rattle.bk_layout.specs.WordNumbers.{first_count, left_squares, right_squares}
 use Rattle.bk_free_search.specs.declared.board.BoardOutline.{BoardOutline}
 
--- the outline of its skeleton, how many squares the first move hangs, and how many lie at the left wall and at the
--- right one
+-- what is kept of a board: the outline of its skeleton, how many squares the first move hangs, and how many lie at the
+-- left wall and at the right one
 pub record IsBoardOutline (w : Word) (o : BoardOutline) : Type 0 where
   pub skel : IsOutlineOf w o.skel
   pub first_is : o.first ≡ first_count w

@@ -20,7 +20,7 @@ pub record BoardLists : Type 0 where
   pub left : ℕ
   pub right : ℕ
 
--- they are those of the word
+-- the lists and numbers of a board are those of the word
 pub record IsBoardOf (w : Word) (b : BoardLists) : Type 0 where
   pub left_word : IsLeftWord w b.lefts
   pub rights_are : b.rights ≡ rights_of w

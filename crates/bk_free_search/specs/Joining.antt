@@ -19,7 +19,8 @@ JoinsLeft o m squares = (squares ≡ [])
     ⊎ ((0 < valley_place o.signs) × (slice_get o.segments (valley_place o.signs - 1) ≡ Some squares)
     × (slice_get m.signs 0 ≡ Some Even))
 
--- these are those of the segment at its right, and the last sign is even; or there are none of them
+-- these are the squares of the segment at the right of the valley, and the move's last sign is even; or there are none
+-- of them
 abbrev pub JoinsRight : Outline → Move → List ℕ → Type 0
 JoinsRight o m squares = (squares ≡ [])
     ⊎ ((slice_get o.segments (valley_place o.signs + 1) ≡ Some squares)
@@ -32,7 +33,7 @@ pub record TouchOneNode (w : Word) (left right : ℕ) : Type 0 where
   pub at_right : TouchesClosed (outline_of w) (square_lines w) right node
   pub not_walls : left ≡ 0 → right ≡ 1 → ⊥
 
--- so do a line of one set and one of another
+-- a line of one set and one of another touch one closed node, and are not the two walls
 pub record TouchOneOf (w : Word) (lefts rights : LineSet) : Type 0 where
   pub left : ℕ
   pub right : ℕ
@@ -40,14 +41,15 @@ pub record TouchOneOf (w : Word) (lefts rights : LineSet) : Type 0 where
   pub in_rights : Has rights right
   pub touch : TouchOneNode w left right
 
--- so do the line at the left of one of these squares and this line
+-- the line at the left of one of these squares and this line touch one closed node, and are not the two walls
 pub record ShareBefore (w : Word) (squares : List ℕ) (right : ℕ) : Type 0 where
   pub place : ℕ
   pub number : ℕ
   pub at : slice_get squares place ≡ Some number
   pub touch : TouchOneNode w (sides_at (square_lines w) number).0 right
 
--- so do the line at the right of one of the later squares, and this line or that at the left of one of the earlier ones
+-- the line at the right of one of the later squares touches one closed node with this line, or with the line at the
+-- left of one of the earlier squares, and they are not the two walls
 pub record ShareBehind (w : Word) (left : ℕ) (earlier later : List ℕ) : Type 0 where
   pub place : ℕ
   pub number : ℕ

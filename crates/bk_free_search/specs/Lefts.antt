@@ -9,7 +9,7 @@ abbrev pub first_left : List ℕ → List ℕ → ℕ
 first_left lefts [] = 0
 first_left lefts (number ∷ numbers) = slice_index_or lefts (number - 1) 0
 
--- these are the lines of the word's squares
+-- the word is legal, and these are the lines at the left of its squares
 pub record IsLeftWord (w : Word) (lefts : List ℕ) : Type 0 where
   pub legal : IsLegal w
   pub lefts_are : lefts ≡ lefts_of w

@@ -60,20 +60,20 @@ abbrev pub IsAtSquare : List ℕ → List ℕ → ℕ → ℕ → Type 0
 IsAtSquare lefts rights number line = (slice_index_or lefts (number - 1) 0 ≡ line)
     ⊎ (slice_index_or rights (number - 1) 1 ≡ line)
 
--- or of one of these squares
+-- the line lies at a side of one of these squares
 pub record IsBesideOneOf (lefts rights squares : List ℕ) (line : ℕ) : Type 0 where
   pub place : ℕ
   pub number : ℕ
   pub at : slice_get squares place ≡ Some number
   pub beside : IsAtSquare lefts rights number line
 
--- or of one of so many squares that are hung after so many
+-- the line lies at a side of one of so many new squares, where so many were hung before
 pub record IsBesideNew (lefts rights : List ℕ) (hung count line : ℕ) : Type 0 where
   pub k : ℕ
   pub low : k < count
   pub beside : IsAtSquare lefts rights (hung + k + 1) line
 
--- new squares stand between their two lines, and each two of them at a line of their own
+-- new squares stand between a first and a last line, and each two of them at a line of their own
 pub record StandBetween (lefts rights : List ℕ) (new : NewSquares) : Type 0 where
   pub first_is : slice_index_or lefts new.hung 0 ≡ new.first
   pub last_is : slice_index_or rights (new.hung + new.count - 1) 1 ≡ new.last

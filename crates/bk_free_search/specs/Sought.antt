@@ -14,7 +14,7 @@ pub record GoesOn (front w : Word) : Type 0 where
   pub rest : Word
   pub is : w ≡ front ++ rest
 
--- it goes on from them by a move of this count whose signs begin with these
+-- the word goes on from these moves by a move of this count whose signs begin with these
 pub record GoesOnBy (front : Word) (count : ℕ) (signs : List Sign) (w : Word) : Type 0 where
   pub move : Move
   pub rest : Word
@@ -32,7 +32,7 @@ pub record IsNextMove (n : ℕ) (front : Word) (m : Move) : Type 0 where
 
 -- a move of two squares or more whose one sign so far is even, and the next one above: no word that keeps rule R has
 -- such a move
-pub record BeginsTurned (m : Move) (sign : Sign) : Type 0 where
+pub record BeginsEvenThenAbove (m : Move) (sign : Sign) : Type 0 where
   pub two : 1 < m.count
   pub one : length m.signs ≡ 1
   pub even : slice_get m.signs 0 ≡ Some Even

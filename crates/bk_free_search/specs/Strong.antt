@@ -11,7 +11,7 @@ use Rattle.bk_free_search.specs.declared.strong.Passed.{Passed}
 abbrev pub seen_passed : Passed → SeenPassed
 seen_passed p = record { most = p.most; aboves = p.aboves; more = p.more; low = p.low }
 
--- the mark of the segment in front of which it is counted
+-- what a pass has counted in front of a segment, with the mark of that segment
 abbrev pub with_mark : SeenPassed → SeenPassed
 with_mark p = record { most = max p.most (p.aboves + 1); aboves = p.aboves; more = p.more; low = p.low }
 

@@ -10,7 +10,8 @@ use Rattle.bk_free_search.specs.declared.line_set.LineSet.{LineSet}
 abbrev pub is_top_line : ℕ → ℕ → Bool
 is_top_line first line = nat_le 2 line && nat_le line first
 
--- of each square whether its left edge lies on such a line, by the left lines of all squares
+-- of each square whether its left edge lies on a line that begins between two squares of the first move, by the left
+-- lines of all squares
 abbrev pub on_top_lines : ℕ → List ℕ → List Bool
 on_top_lines first lefts = map (is_top_line first) lefts
 

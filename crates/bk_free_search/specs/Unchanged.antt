@@ -18,18 +18,29 @@ pub record IsUnchanged (s : Search) (a : Begun) (t : Search) (b : Begun) : Type 
   pub search : t ≡ s
   pub begun : b ≡ a
 
+-- the state at a call of the search: the search, and the leaves that meet words
+pub record CallState (Leaves : Type 0) : Type 0 where
+  pub search : Search
+  pub leaves : Leaves
+
+-- the state at a call with a move that is begun: the search and the move, and the leaves that meet words
+pub record BegunState (Leaves : Type 0) : Type 0 where
+  pub search : Search
+  pub begun : Begun
+  pub leaves : Leaves
+
 -- all words that are sought and go on from these moves are met, and the search is as it was
 pub record MeetsAllFrom {Leaves Fixed : Type 0} (has_met : Leaves → Word → Type 0) (fixed : Leaves → Fixed)
-    (front : Word) (s : Search) (before : Leaves) (t : Search) (after : Leaves) : Type 0 where
-  pub all : (w : Word) → IsNormalSought s.order w → GoesOn front w → has_met after w
-  pub kept : KeepsMet has_met fixed before after
-  pub same : t ≡ s
+    (front : Word) (before after : CallState Leaves) : Type 0 where
+  pub all : (w : Word) → IsNormalSought before.search.order w → GoesOn front w → has_met after.leaves w
+  pub kept : KeepsMet has_met fixed before.leaves after.leaves
+  pub same : after.search ≡ before.search
 
--- all are met that go on by a move of the count that is begun whose signs begin with these, and the search and the move
--- are as they were
+-- all words that are sought and go on by a move of the count that is begun, whose signs begin with these, are met, and
+-- the search and the move are as they were
 pub record MeetsAllBy {Leaves Fixed : Type 0} (has_met : Leaves → Word → Type 0) (fixed : Leaves → Fixed)
-    (signs : List Sign) (s : Search) (a : Begun) (before : Leaves) (t : Search) (b : Begun)
-    (after : Leaves) : Type 0 where
-  pub all : (w : Word) → IsNormalSought s.order w → GoesOnBy s.board a.m.count signs w → has_met after w
-  pub kept : KeepsMet has_met fixed before after
-  pub same : IsUnchanged s a t b
+    (signs : List Sign) (before after : BegunState Leaves) : Type 0 where
+  pub all : (w : Word) → IsNormalSought before.search.order w
+      → GoesOnBy before.search.board before.begun.m.count signs w → has_met after.leaves w
+  pub kept : KeepsMet has_met fixed before.leaves after.leaves
+  pub same : IsUnchanged before.search before.begun after.search after.begun

@@ -55,21 +55,20 @@ pub(crate) fn most_moves(order: u8, top: u8, wall: usize) -> usize
     }
 }
 
-/// Whether a word of the order that has so many moves has as many as any: half of one square more, so that its nodes,
-/// one more than its moves, are half of three squares more.
+/// Whether a word of the order that has so many moves has as many as any: half of one square more.
 #[inline(always)]
 pub(crate) fn are_most_moves(order: u8, moves: usize) -> bool
     requires { moves ≤ MANY }
     ensures { IsTrue result → 2 * moves ≡ order + 1 }
 {
-    2 * (moves + 1) == usize::from(order) + 3
+    2 * moves == usize::from(order) + 1
 }
 
 // The most moves of one that goes on from so many moves so that then so many squares lie at a wall.
 fn most_then(order: u8, moves: u8, top: u8, wall: usize) -> usize
     ensures none { moves ≡ 0 → result ≡ (order + 1) / 2 }
     ensures some { 0 < moves → result ≡ cond (nat_lt top wall) (order / 2) ((order + 1) / 2) }
-    ensures few { result ≤ 128 }
+    ensures few { 2 * result ≤ order + 1 }
 {
     if moves == 0 {
         return (usize::from(order) + 1) / 2;

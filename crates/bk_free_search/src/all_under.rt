@@ -12,7 +12,7 @@ ghost use Rattle.bk_word.specs.declared.Sign.TheVariants.{Under};
 ghost use Rattle.bk_layout.specs.NormalCuts.{IsNormalBarren};
 ghost use Rattle.bk_free_search.specs.AllUnder.{StandsAfter};
 ghost use Rattle.bk_free_search.specs.Sought.{IsNextMove};
-ghost use Rattle.bk_free_search.specs.declared.counts.TheConstants.{FEW};
+ghost use Rattle.bk_free_search.specs.declared.counts.TheConstants.{FEW, LARGEST_COUNT};
 ghost use Rattle.bk_word.specs.declared.TheConstants.{INLINE_ORDER};
 
 use crate::ahead::{are_most_moves, most_moves};
@@ -70,7 +70,7 @@ fn look_after(board: &Board, m: &SmallMove) -> After
     requires few { order_of board.now + m.now.count ≤ INLINE_ORDER }
     requires legal { IsLegalMove (outline_of board.now) m.now }
     ensures stands { StandsAfter board.now m.now result }
-    ensures few { (result.left ≤ 256) × (result.right ≤ 256) × (result.signs ≤ FEW) }
+    ensures few { (result.left ≤ LARGEST_COUNT + 1) × (result.right ≤ LARGEST_COUNT + 1) × (result.signs ≤ FEW) }
 {
     let counts = board.counts();
     let (left_wall, right_wall) = board.skel().walls();

@@ -13,6 +13,7 @@ ghost use Rattle.bk_layout.specs.WordNumbers.{counts_of_word, first_count};
 ghost use Rattle.bk_free_search.specs.Rights.{rights_of};
 ghost use Rattle.bk_free_search.specs.SeenCounts.{seen_counts};
 ghost use Rattle.bk_free_search.specs.TopLines.{AreSquares};
+ghost use Rattle.bk_free_search.specs.declared.counts.TheConstants.{LARGEST_COUNT};
 ghost use Rattle.bk_free_search.specs.declared.line_set.TheConstants.{MOST_LINES};
 ghost use Rattle.bk_word.specs.declared.TheConstants.{INLINE_ORDER};
 
@@ -226,7 +227,7 @@ fn first_after(first: u8, hung: u8, count: u8) -> u8
 
 // How many squares lie at a wall, which is this line, after a move whose square nearest to it lies at a line.
 fn at_wall_after(hung: u8, line: u8, wall: u8) -> u8
-    requires { hung < 255 }
+    requires { hung < LARGEST_COUNT }
     ensures { result ≡ hung + cond (nat_eq line wall) 1 0 }
 {
     if line == wall { hung + 1 } else { hung }

@@ -14,6 +14,9 @@ pub struct Counts {
     pub right: u8,
 }
 
+/// The largest of the counts of a word, which are bytes.
+pub(crate) const LARGEST_COUNT: usize = 255;
+
 /// A bound of each number that is counted over the segments of a board of at most 16 squares.
 pub(crate) const FEW: usize = 100;
 

@@ -6,9 +6,9 @@ ghost use Rattle.std.specs.Prelude.{IfNone, IfSome, IsTrue, replicate, ◌+◌, 
 ghost use Rattle.bk_word.specs.Play.{outline_of};
 ghost use Rattle.bk_word.specs.Word.{order_of};
 ghost use Rattle.bk_word.specs.declared.Sign.TheVariants.{Even};
+ghost use Rattle.bk_catalogue.specs.NextMove.{open_sides};
 ghost use Rattle.bk_layout.specs.LastMoves.{even_square};
 ghost use Rattle.bk_layout.specs.NormalCuts.{IsNormalBarren};
-ghost use Rattle.bk_free_search.specs.LastSquare.{neighbours};
 
 use crate::ahead::are_most_moves;
 use crate::board::Board;
@@ -32,7 +32,7 @@ pub(crate) fn last_move(board: &Board, order: u8) -> Option<SmallMove>
     if bars_counts(board, order) {
         return None;
     }
-    let last = even_square(neighbours(board.skel()));
+    let last = even_square(open_sides(board.skel()));
     if joins_parted(board, &board.skel().valley_place(), &last) {
         return None;
     }
@@ -49,7 +49,7 @@ fn stays_open(board: &Board, order: u8) -> bool
     if skel.valley_squares().len() == 1 {
         return true;
     }
-    skel.signs().len() != neighbours(skel)
+    skel.signs().len() != open_sides(skel)
 }
 
 // Whether the whole word has more squares at the bottom than at the top, or at the left wall than at the right, or at
@@ -73,9 +73,9 @@ fn bars_counts(board: &Board, order: u8) -> bool
     are_most_moves(order, usize::from(counts.moves) + 1) && usize::from(counts.top) < right
 }
 
-// How many segments stand beside the leftmost valley.
-fn neighbours(skel: &SmallSkel) -> usize
-    ensures is { result ≡ neighbours (outline_of skel.now) }
+// How many sides of the leftmost valley are no walls: so many segments stand beside it.
+fn open_sides(skel: &SmallSkel) -> usize
+    ensures is { result ≡ open_sides (outline_of skel.now) }
     ensures few { result ≤ 2 }
 {
     let (left_wall, right_wall) = skel.walls();

@@ -31,10 +31,10 @@ pub trait Leaves {
     /// What holds once a word was met.
     ghost has_met: { Self → Moves → Type 0 };
 
-    /// What no meeting changes.
+    /// The type of what no meeting changes.
     ghost Fixed: { Type 0 };
 
-    /// That of these leaves.
+    /// What no meeting changes of these leaves.
     ghost fixed: { Self → Self.Fixed };
 
     /// Meets the complete word of a board, of at most 16 squares.
@@ -69,7 +69,9 @@ impl Search {
         requires least { 3 ≤ self.old.order }
         requires most { self.old.order ≤ LARGEST_LISTED_ORDER }
         requires few { order_of self.old.board ≤ self.old.order }
-        ensures { MeetsAllFrom S.has_met S.fixed self.old.board self.old leaves.old self.new leaves.new }
+        ensures { MeetsAllFrom S.has_met S.fixed self.old.board
+            (record { search = self.old; leaves = leaves.old })
+            (record { search = self.new; leaves = leaves.new }) }
     {
         let hung = self.board.skel().order();
         if hung == usize::from(self.order) {
@@ -90,7 +92,9 @@ impl Search {
         requires least { 3 ≤ self.old.order }
         requires most { self.old.order ≤ LARGEST_LISTED_ORDER }
         requires few { order_of self.old.board + 1 < self.old.order }
-        ensures { MeetsAllFrom S.has_met S.fixed self.old.board self.old leaves.old self.new leaves.new }
+        ensures { MeetsAllFrom S.has_met S.fixed self.old.board
+            (record { search = self.old; leaves = leaves.old })
+            (record { search = self.new; leaves = leaves.new }) }
     {
         let around = stand_beside(&self.board, self.order);
         if self.lacks_next(&around) {
@@ -112,8 +116,9 @@ impl Search {
     fn with_left<S: Leaves>(&mut self, begun: &mut Begun, around: &Beside, leaves: &mut S)
         requires begun { IsMoveBegun self.old begun.old around.now }
         requires none { begun.old.m.signs ≡ [] }
-        ensures { MeetsAllBy S.has_met S.fixed begun.old.m.signs self.old begun.old leaves.old self.new begun.new
-            leaves.new }
+        ensures { MeetsAllBy S.has_met S.fixed begun.old.m.signs
+            (record { search = self.old; begun = begun.old; leaves = leaves.old })
+            (record { search = self.new; begun = begun.new; leaves = leaves.new }) }
     {
         if around.left_wall {
             if bars_none(begun, around) {
@@ -146,8 +151,9 @@ impl Search {
         leaves: &mut S,
     )
         requires { IsWithOwn self.old begun.old around.now asked.now }
-        ensures { MeetsAllBy S.has_met S.fixed begun.old.m.signs self.old begun.old leaves.old self.new begun.new
-            leaves.new }
+        ensures { MeetsAllBy S.has_met S.fixed begun.old.m.signs
+            (record { search = self.old; begun = begun.old; leaves = leaves.old })
+            (record { search = self.new; begun = begun.new; leaves = leaves.new }) }
     {
         if begun.m.signs.len() == begun.next.own {
             self.with_right(begun, around, asked, leaves);
@@ -175,8 +181,9 @@ impl Search {
     )
         requires with_own { IsWithOwn self.old begun.old around.now asked.now }
         requires own { length begun.old.m.signs < begun.old.next.own }
-        ensures { MeetsAllBy S.has_met S.fixed (begun.old.m.signs ++ Above ∷ []) self.old begun.old leaves.old
-            self.new begun.new leaves.new }
+        ensures { MeetsAllBy S.has_met S.fixed (begun.old.m.signs ++ Above ∷ [])
+            (record { search = self.old; begun = begun.old; leaves = leaves.old })
+            (record { search = self.new; begun = begun.new; leaves = leaves.new }) }
     {
         if bars_own_above(begun, asked) {
             return;
@@ -203,8 +210,9 @@ impl Search {
     )
         requires own { IsOwnSign self.old begun.old around.now asked.now next.sign }
         requires barred { IsTrue next.barred → BarsNext self.old begun.old next.sign }
-        ensures { MeetsAllBy S.has_met S.fixed (begun.old.m.signs ++ next.sign ∷ []) self.old begun.old leaves.old
-            self.new begun.new leaves.new }
+        ensures { MeetsAllBy S.has_met S.fixed (begun.old.m.signs ++ next.sign ∷ [])
+            (record { search = self.old; begun = begun.old; leaves = leaves.old })
+            (record { search = self.new; begun = begun.new; leaves = leaves.new }) }
     {
         if next.barred {
             return;
@@ -227,8 +235,9 @@ impl Search {
     )
         requires with_own { IsWithOwn self.old begun.old around.now asked.now }
         requires own { length begun.old.m.signs ≡ begun.old.next.own }
-        ensures { MeetsAllBy S.has_met S.fixed begun.old.m.signs self.old begun.old leaves.old self.new begun.new
-            leaves.new }
+        ensures { MeetsAllBy S.has_met S.fixed begun.old.m.signs
+            (record { search = self.old; begun = begun.old; leaves = leaves.old })
+            (record { search = self.new; begun = begun.new; leaves = leaves.new }) }
     {
         if around.right_wall {
             if asks_too_much_then(begun, around, asked) {
@@ -267,8 +276,9 @@ impl Search {
         requires begun { IsMoveBegun self.old begun.old around.now }
         requires last { length begun.old.m.signs + 1 ≡ begun.old.next.wanted }
         requires barred { IsTrue next.barred → BarsNext self.old begun.old next.sign }
-        ensures { MeetsAllBy S.has_met S.fixed (begun.old.m.signs ++ next.sign ∷ []) self.old begun.old leaves.old
-            self.new begun.new leaves.new }
+        ensures { MeetsAllBy S.has_met S.fixed (begun.old.m.signs ++ next.sign ∷ [])
+            (record { search = self.old; begun = begun.old; leaves = leaves.old })
+            (record { search = self.new; begun = begun.new; leaves = leaves.new }) }
     {
         if next.barred {
             return;
@@ -283,8 +293,9 @@ impl Search {
     fn with_move<S: Leaves>(&mut self, begun: &Begun, valley: &ValleyPlace, leaves: &mut S)
         requires next { IsNextMove self.old.order self.old.board begun.now.m }
         requires valley { IsValleyPlace self.old.board valley.now }
-        ensures { MeetsAllFrom S.has_met S.fixed (self.old.board ++ begun.now.m ∷ []) self.old leaves.old self.new
-            leaves.new }
+        ensures { MeetsAllFrom S.has_met S.fixed (self.old.board ++ begun.now.m ∷ [])
+            (record { search = self.old; leaves = leaves.old })
+            (record { search = self.new; leaves = leaves.new }) }
     {
         if self.bars_move(begun, valley) {
             return;

@@ -25,11 +25,11 @@ use Rattle.bk_gen.specs.Growing.{IsGrowing}
 pub kept_in_order : (t : Tiling) → IsGrowing t → IsKept (record t { squares = in_code_order t.squares })
 kept_in_order t g = kept_from t.width t.height t.squares (in_code_order t.squares) g.width_fits g.height_fits g.accepted refl
 
--- its squares have sides that squares may have
+-- the squares of a growing rectangle have sides that squares may have
 pub growing_sides : (t : Tiling) → IsGrowing t → HaveSides t.squares
 growing_sides t g = All-from_recursion (λ (q : Square). IsSide q.s) t.squares (g.accepted).sides
 
--- its squares share no cell
+-- the squares of a growing rectangle share no cell
 pub growing_apart : (t : Tiling) → IsGrowing t → ShareNoCell t.squares
 growing_apart t g = tiles_apart t.width t.height t.squares (g.accepted).tiles
 
@@ -76,7 +76,7 @@ module _ (t : Tiling) (g : IsGrowing t) (few : length t.squares < 200) where
     height_fits = g.height_fits;
   }
 
-  -- so it does with one below, where its width is
+  -- with a square attached below it a rectangle grows on, where its width is a side that a square may have
   pub grows_below : t.width ≤ 999_999_999_999_999 → IsGrowing (with_below t)
   grows_below side = record {
     accepted = record {
@@ -190,7 +190,7 @@ next_length v i t = cases (goes_up_or_down v i) (is_odd (v / 2 ^ (i % 64)))
     )
     cases false false = omega (arith, length-append t.squares (square_at t.width 0 t.height ∷ []))
 
--- a rectangle can grow with as many squares as are attached turn by turn, up to 200
+-- a rectangle can grow with as many squares as are attached step by step, up to 200
 pub grows_on : (n v i : ℕ) (t : Tiling) → IsGrowing t → length t.squares + n ≤ 200 → IsGrowing (attached n v i t)
 grows_on zero v i t g few = g
 grows_on (suc n) v i t g few = cases (cases_lt 999_999_999_999_999 (next_side v i t))

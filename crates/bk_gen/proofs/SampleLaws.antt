@@ -35,7 +35,7 @@ growing_from_test t few wide high sides tiles = record {
 pub growing_33x32 : IsGrowing rectangle_33x32
 growing_33x32 = growing_from_test rectangle_33x32 (omega arith) (omega arith) (omega arith) refl refl
 
--- so can the second
+-- the second rectangle that a trial code begins with can grow
 pub growing_69x61 : IsGrowing rectangle_69x61
 growing_69x61 = growing_from_test rectangle_69x61 (omega arith) (omega arith) (omega arith) refl refl
 
@@ -49,7 +49,7 @@ one_of_three (suc zero) = growing_69x61
 one_of_three (suc (suc zero)) = growing_65x47
 one_of_three (suc (suc (suc m))) = growing_33x32
 
--- so the rectangle that a trial code begins with can grow
+-- each rectangle that a trial code begins with can grow
 pub first_growing : (v : ℕ) → IsGrowing (first_rectangle v)
 first_growing v = one_of_three (v % 3)
 
@@ -59,7 +59,7 @@ all_attached v =
     let few : length (first_rectangle v).squares ≤ 200 = ((first_growing v).accepted).few in
     grows_on (200 - length (first_rectangle v).squares) v 0 (first_rectangle v) (first_growing v) (omega arith)
 
--- so the tiling of a trial code can be a `Tiling`
+-- the tiling of a trial code can be a `Tiling`
 pub trial_kept : (v : ℕ) → IsKept (trial_tiling v)
 trial_kept v = kept_in_order (attached (200 - length (first_rectangle v).squares) v 0 (first_rectangle v)) (all_attached v)
 

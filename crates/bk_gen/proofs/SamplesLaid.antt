@@ -3,7 +3,7 @@ use Rattle.std.proofs.Common.{refl, ℕ}
 use Rattle.bk_code.proofs.CodeOfTiling.{code_some}
 use Rattle.bk_gen.proofs.SampleLaws.{sample_kept}
 use Rattle.bk_gen.specs.TrialCodes.{sample}
-use Rattle.bk_profile.proofs.Turns.{refused_has_none}
+use Rattle.bk_profile.proofs.LayingSteps.{refused_has_none}
 use Rattle.bk_profile.specs.Refused.{HasCode}
 use Rattle.bk_gen.specs.TrialLine.{tiling_at}
 use Rattle.bk_gen.specs.TrialLineLaws.{ASampleIsLaid}

@@ -1,8 +1,9 @@
--- Squares attached to a rectangle at its four sides, turn by turn as the bits of a number say.
+-- Squares attached to a rectangle at its four sides, step by step as the bits of a number say.
 -- Example (TrialExamples): attaching to the first rectangle by the bits of 0 gives one 6,145 wide.
 use Rattle.std.specs.Prelude.{Bool, [], cond, map, nat_eq, nat_le, suc, zero, ℕ, ◌%◌, ◌&&◌, ◌++◌, ◌+◌, ◌/◌, ◌^◌, ◌∷◌}
 use Rattle.bk_tiling.specs.Scale.{moved_square}
 use Rattle.bk_tiling.specs.Tiling.{Tiling}
+use Rattle.bk_tiling.specs.declared.TheConstants.{LONGEST_SIDE}
 
 -- whether a number is odd
 abbrev pub is_odd : ℕ → Bool
@@ -40,22 +41,22 @@ with_above t = record {
   squares = map (moved_square 0 t.width) t.squares ++ record { x = 0; y = 0; s = t.width } ∷ [];
 }
 
--- at turn i the next square goes below or above: v and i are odd
+-- at step i the next square goes below or above: v and i are odd
 abbrev pub goes_up_or_down : ℕ → ℕ → Bool
 goes_up_or_down v i = is_odd v && is_odd i
 
--- the side of the square of turn i
+-- the side of the square of step i
 abbrev pub next_side : ℕ → ℕ → Tiling → ℕ
 next_side v i t = cond (goes_up_or_down v i) t.width t.height
 
--- the tiling after turn i: the bit at place i modulo 64 says on which of the two sides the square goes
+-- the tiling after step i: the bit at place i modulo 64 says on which of the two sides the square goes
 abbrev pub with_next : ℕ → ℕ → Tiling → Tiling
 with_next v i t =
     let b = is_odd (v / 2 ^ (i % 64)) in
     cond (goes_up_or_down v i) (cond b (with_above t) (with_below t)) (cond b (with_left t) (with_right t))
 
--- at most n more squares attached, from turn i on, as long as the next side is not too great
+-- at most n more squares attached, from step i on, as long as the next side is not too great
 abbrev pub attached : ℕ → ℕ → ℕ → Tiling → Tiling
 attached zero v i t = t
 attached (suc n) v i t =
-    cond (nat_le (next_side v i t) 999_999_999_999_999) (attached n v (i + 1) (with_next v i t)) t
+    cond (nat_le (next_side v i t) LONGEST_SIDE) (attached n v (i + 1) (with_next v i t)) t

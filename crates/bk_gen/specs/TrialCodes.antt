@@ -5,6 +5,7 @@ use Rattle.bk_tiling.specs.CodeOrder.{in_code_order}
 use Rattle.bk_tiling.specs.Tiling.{Tiling}
 use Rattle.bk_code.specs.Code.{Code, code_of}
 use Rattle.bk_tiling.specs.SquareGroups.{laid_group}
+use Rattle.bk_tiling.specs.declared.TheConstants.{MOST_SQUARES}
 use Rattle.bk_gen.specs.Attaching.{attached}
 
 -- the first rectangle to start with, of nine squares
@@ -17,7 +18,7 @@ rectangle_33x32 = record {
       ++ laid_group 14 22 (10 ∷ 1 ∷ []) ++ laid_group 24 23 (9 ∷ []);
 }
 
--- the second, of nine squares
+-- the second rectangle to start with, of nine squares
 abbrev pub rectangle_69x61 : Tiling
 rectangle_69x61 = record {
   width = 69;
@@ -27,7 +28,7 @@ rectangle_69x61 = record {
       ++ laid_group 34 38 (7 ∷ []) ++ laid_group 25 45 (16 ∷ []);
 }
 
--- the third, of ten squares
+-- the third rectangle to start with, of ten squares
 abbrev pub rectangle_65x47 : Tiling
 rectangle_65x47 = record {
   width = 65;
@@ -49,7 +50,7 @@ mixed seed k = ((seed + k) * 0x9E3779B97F4A7C15) % 2 ^ 64
 abbrev pub trial_tiling : ℕ → Tiling
 trial_tiling v =
     let first = first_rectangle v in
-    let t = attached (200 - length first.squares) v 0 first in
+    let t = attached (MOST_SQUARES - length first.squares) v 0 first in
     record t { squares = in_code_order t.squares }
 
 -- the trial code of a seed and a place

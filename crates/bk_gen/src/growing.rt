@@ -57,26 +57,26 @@ impl Growing {
         self.squares.len()
     }
 
-    // The side of the square that is attached at this turn.
-    pub(crate) fn next_side(&self, v: u64, turn: usize) -> u64
-        ensures { result ≡ next_side v turn self.now }
+    // The side of the square that is attached at this step.
+    pub(crate) fn next_side(&self, v: u64, step: usize) -> u64
+        ensures { result ≡ next_side v step self.now }
     {
-        if goes_up_or_down(v, turn) {
+        if goes_up_or_down(v, step) {
             self.width
         } else {
             self.height
         }
     }
 
-    // Attaches the square of this turn.
-    pub(crate) fn attach(&mut self, v: u64, turn: usize)
+    // Attaches the square of this step.
+    pub(crate) fn attach(&mut self, v: u64, step: usize)
         requires few { length self.old.squares < MOST_SQUARES }
-        requires side { next_side v turn self.old ≤ LONGEST_SIDE }
-        ensures { self.new ≡ with_next v turn self.old }
+        requires side { next_side v step self.old ≤ LONGEST_SIDE }
+        ensures { self.new ≡ with_next v step self.old }
     {
         let (width, height) = (self.width, self.height);
         let (wide, high) = (width + height, height + width);
-        match (goes_up_or_down(v, turn), is_set(v, turn % 64)) {
+        match (goes_up_or_down(v, step), is_set(v, step % 64)) {
             (false, false) => self.put_behind(width, 0, height, wide, height),
             (false, true) => self.put_in_front(height, height, 0, wide, height),
             (true, false) => self.put_behind(0, height, width, width, high),
@@ -138,11 +138,11 @@ fn move_all(squares: &mut [Square], right: u64, down: u64)
     }
 }
 
-// Whether the next square goes below or above: the number and the turn are odd.
-fn goes_up_or_down(v: u64, turn: usize) -> bool
-    ensures { result ≡ goes_up_or_down v turn }
+// Whether the next square goes below or above: the number and the step are odd.
+fn goes_up_or_down(v: u64, step: usize) -> bool
+    ensures { result ≡ goes_up_or_down v step }
 {
-    v % 2 == 1 && turn % 2 == 1
+    v % 2 == 1 && step % 2 == 1
 }
 
 // Whether a bit of the number is 1, the lowest being bit 0.

@@ -25,8 +25,8 @@ pub use trial_line::trial;
 /// Let v be (seed + k) times 0x9E3779B97F4A7C15, both modulo 2^64.
 ///
 /// The rectangle to start with is, by v modulo 3, `[18,15][7,8][14,4][10,1][9]`, `[36,33][5,28][25,9,2][7][16]` or
-/// `[25,17,23][11,6][5,24][22,3][19]`. Then squares are attached, turn by turn from 0. Where v and the turn are odd,
-/// the square has the width as its side, and is put below where bit `turn` modulo 64 of v is 0, and above where it is
+/// `[25,17,23][11,6][5,24][22,3][19]`. Then squares are attached, step by step from 0. Where v and the step are odd,
+/// the square has the width as its side, and is put below where bit `step` modulo 64 of v is 0, and above where it is
 /// 1. Else it has the height as its side, and is put at the right where that bit is 0, and at the left where it is 1.
 /// This ends where there are 200 squares, or where the next side would be above 999,999,999,999,999. The trial codes
 /// are our own.
@@ -56,11 +56,11 @@ fn grown(v: u64) -> Growing
     ensures { result ≡ attached (MOST_SQUARES - length (first_rectangle v).squares) v 0 (first_rectangle v) }
 {
     let mut growing = first_rectangle(v);
-    for turn in 0..MOST_SQUARES - growing.order() {
-        if growing.next_side(v, turn) > LONGEST_SIDE {
+    for step in 0..MOST_SQUARES - growing.order() {
+        if growing.next_side(v, step) > LONGEST_SIDE {
             return growing;
         }
-        growing.attach(v, turn);
+        growing.attach(v, step);
     }
     growing
 }

@@ -43,10 +43,10 @@ dvd_abs-left_of_difference d u v current other = subst (λ (z : ℤ). d ∣ nat_
 
 -- what divides a difference and the number taken from divides the other
 pub dvd_abs-right_of_difference : (d : ℕ) (u v : ℤ) → d ∣ nat_abs (v -ℤ u) → d ∣ nat_abs v → d ∣ nat_abs u
-dvd_abs-right_of_difference d u v current other = dvd_abs-left_of_difference d u v (subst (λ (n : ℕ). d ∣ n) turned current) other
+dvd_abs-right_of_difference d u v current other = dvd_abs-left_of_difference d u v (subst (λ (n : ℕ). d ∣ n) exchanged current) other
   where
-    turned : nat_abs (v -ℤ u) ≡ nat_abs (u -ℤ v)
-    turned = omega (arith, ints)
+    exchanged : nat_abs (v -ℤ u) ≡ nat_abs (u -ℤ v)
+    exchanged = omega (arith, ints)
 
 -- what is added at one end of a wire and taken away at the other, of a number at one of its ends
 pub cond-moved_along_wire : (p q : Bool) (x y z a b c : ℤ) → a ≡ y +ℤ c → b ≡ z -ℤ c → (p ≡ true → y ≡ x) → (q ≡ true → z ≡ (if p then a else x))
@@ -85,7 +85,7 @@ abs_successor-below_pow_63 (negsuc zero) h = omega (arith, ints)
 abs_successor-below_pow_63 (negsuc (suc n)) h = omega (arith, ints)
 
 -- a positive number with either sign isn't 0
-pub signed-nonzero : (turned : Bool) (n : ℕ) → 0 < n → cond {A = ℤ} turned (neg_ℤ (pos n)) (pos n) ≡ pos 0 → ⊥
+pub signed-nonzero : (negative : Bool) (n : ℕ) → 0 < n → cond {A = ℤ} negative (neg_ℤ (pos n)) (pos n) ≡ pos 0 → ⊥
 signed-nonzero true n h e = omega (arith, ints, h, e)
 signed-nonzero false n h e = omega (arith, ints, h, e)
 
@@ -115,7 +115,7 @@ abs_product-quotient_le n d g a b hn hd = abs_product-le n (pos (d / g)) a b hn 
 pub abs_difference-le : (x y : ℤ) (a b : ℕ) → nat_abs x ≤ a → nat_abs y ≤ b → nat_abs (x -ℤ y) ≤ a + b
 abs_difference-le x y a b hx hy = omega (arith, ints)
 
--- a product with the sign of its first factor turned to positive is its magnitude
+-- a product, negated where its first factor is negative, is its magnitude
 pub absolute_product-by_sign : (n : ℤ) (d : ℕ) → (if int_lt n (pos 0) then neg_ℤ (n *ℤ pos d) else n *ℤ pos d) ≡ pos (nat_abs n * d)
 absolute_product-by_sign (pos n) d = ap (λ (t : Bool). if t then neg_ℤ (pos n *ℤ pos d) else pos n *ℤ pos d) (not_below n)
   where
@@ -263,12 +263,12 @@ signed_terms-wire false false s m n r e = omega (arith, ints)
 pub one_is_not_zero : pos 1 ≡ pos 0 → ⊥
 one_is_not_zero e = omega (arith, ints, e)
 
--- z, with its sign turned where w is negative
+-- z, negated where w is negative
 abbrev pub signed : ℤ → ℤ → ℤ
 signed z (pos m) = z
 signed z (negsuc m) = neg_ℤ z
 
--- a number whose sign is turned, or not, keeps its magnitude
+-- a number, negated or not, keeps its magnitude
 pub signed_magnitude : (z w : ℤ) → nat_abs (signed z w) ≡ nat_abs z
 signed_magnitude z (pos m) = refl
 signed_magnitude z (negsuc m) = abs-neg z

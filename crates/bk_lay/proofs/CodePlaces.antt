@@ -11,7 +11,7 @@ use Rattle.bk_tiling.specs.CodeOrder.{InCodeOrder, comes_before}
 use Rattle.bk_tiling.specs.Tiling.{IsOneOf}
 use Rattle.bk_tiling.specs.declared.Square.{Square}
 use Rattle.bk_lay.specs.LevelRuns.{begins_under, corner}
-use Rattle.bk_lay.specs.declared.outline.Run.{Run}
+use Rattle.bk_lay.specs.declared.outline.LevelRun.{LevelRun}
 
 -- where the first i pass a test and the others fail it, i pass it
 pub count_of_front : (p : Square → Bool) (squares : List Square) (i : ℕ) → i ≤ length squares → AllWithin (λ q. p q ≡ true) squares 0 i
@@ -99,7 +99,7 @@ range_none squares i j e f = ap (λ (k : ℕ). take k (drop i squares)) less
     less : j - i ≡ 0
     less = omega arith
 
-module _ (r : Run) (order : r.x ≤ r.end) where
+module _ (r : LevelRun) (order : r.x ≤ r.end) where
   hangs_not : (q : Square) → comes_before q (corner r.x r.level) ≡ true → begins_under r q ≡ false
   hangs_not q e = grind (arith, nat_tests)
 

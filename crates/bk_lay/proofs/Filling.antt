@@ -100,7 +100,7 @@ module _ (t : Tiling) (laid : List Square) (v : Segment) (tiling : IsTiling t) (
       both q (inl h) = laid_in t laid v tiling fills found low q h
       both q (inr h) = in_tiling q h
 
--- so they fill the valley's columns, and what is laid with them fills the tiling from the top
+-- the squares under the leftmost valley fill its columns, and what is laid with them fills the tiling from the top
 pub valley_is_filled : ValleyIsFilled
 valley_is_filled t laid v tiling fills found low =
     (some_under t laid v tiling fills found low (squares_under t v) there.0 there.1, goes_on t laid v tiling fills found low)

@@ -21,7 +21,7 @@ use Rattle.bk_lay.specs.LevelRuns.{FallingRuns, IsOutline, Meet, RunsFromRight, 
 use Rattle.bk_lay.specs.TilingWord.{IsWordOf, MovesFollow, bottoms, move_under, signs_between, squares_under}
 use Rattle.bk_lay.specs.LaidMoves.{IsLaidMove, IsLaidTo}
 use Rattle.bk_lay.specs.declared.outline.Outline.{Outline}
-use Rattle.bk_lay.specs.declared.outline.Run.{Run}
+use Rattle.bk_lay.specs.declared.outline.LevelRun.{LevelRun}
 
 module _ (t : Tiling) (kept : IsKept t) where
   -- before the first move no move is known and nothing is laid
@@ -159,24 +159,24 @@ pub outline_of_nothing : (width : ℕ) (o : Outline) → 0 < width → o.left.it
     → o.valley ≡ record { x = 0; end = width; level = 0 } → IsOutline width [] o
 outline_of_nothing width o some left right valley = record {
   runs = record {
-    falls = subst (λ (l : List Run). FallingRuns [] 0 l o.valley.x) (sym left) (sym first);
+    falls = subst (λ (l : List LevelRun). FallingRuns [] 0 l o.valley.x) (sym left) (sym first);
     run = record {
       run = record { some = omega (arith, first, last, some); level = λ c lo hi. sym top };
       wall = λ c e. absurd (omega (arith, e, first));
     };
-    rest = subst (λ (l : List Run). RunsFromRight [] o.valley.end l width) (sym right) last;
+    rest = subst (λ (l : List LevelRun). RunsFromRight [] o.valley.end l width) (sym right) last;
   };
   rises = λ h. absurd (omega (arith, h, last));
 }
   where
     first : o.valley.x ≡ 0
-    first = ap (λ (r : Run). r.x) valley
+    first = ap (λ (r : LevelRun). r.x) valley
 
     last : o.valley.end ≡ width
-    last = ap (λ (r : Run). r.end) valley
+    last = ap (λ (r : LevelRun). r.end) valley
 
     top : o.valley.level ≡ 0
-    top = ap (λ (r : Run). r.level) valley
+    top = ap (λ (r : LevelRun). r.level) valley
 
 -- each move comes nearer to the tiling's order
 pub move_comes_nearer : (t : Tiling) (w v : Word) (o : Outline) (m : Move) → IsLaidMove t w o m → v ≡ w ++ m ∷ []

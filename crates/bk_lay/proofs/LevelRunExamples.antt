@@ -7,12 +7,12 @@ use Rattle.bk_tiling.specs.Column.{depth}
 use Rattle.bk_tiling.specs.declared.Square.{Square}
 use Rattle.bk_lay.specs.LevelRuns.{IsOutline, IsRun, last_level, runs_under}
 use Rattle.bk_lay.specs.declared.outline.Outline.{Outline}
-use Rattle.bk_lay.specs.declared.outline.Run.{Run}
+use Rattle.bk_lay.specs.declared.outline.LevelRun.{LevelRun}
 
 abbrev square : ℕ → ℕ → ℕ → Square
 square x y s = record { x = x; y = y; s = s }
 
-abbrev run : ℕ → ℕ → ℕ → Run
+abbrev run : ℕ → ℕ → ℕ → LevelRun
 run x end level = record { x = x; end = end; level = level }
 
 -- the squares 25, 17 and 23 side by side
@@ -23,7 +23,7 @@ three_squares = square 0 0 25 ∷ square 25 0 17 ∷ square 42 0 23 ∷ []
 abbrev pub the_outline : Outline
 the_outline = record { left = record { items = run 0 25 25 ∷ [] }; valley = run 25 42 17; right = record { items = run 42 65 23 ∷ [] } }
 
-run_by_test : (laid : List Square) (r : Run) → r.x < r.end → all_below (λ k. nat_eq (depth laid (r.x + k)) r.level) (r.end - r.x) ≡ true → IsRun laid r
+run_by_test : (laid : List Square) (r : LevelRun) → r.x < r.end → all_below (λ k. nat_eq (depth laid (r.x + k)) r.level) (r.end - r.x) ≡ true → IsRun laid r
 run_by_test laid r some e = record {
   some = some;
   level = λ c lo hi. let at : r.x + (c - r.x) ≡ c = omega arith in
@@ -32,7 +32,7 @@ run_by_test laid r some e = record {
       (omega arith));
 }
 
--- it is their outline in a rectangle of width 65
+-- the outline of three squares in a rectangle of width 65
 pub outline_of_three : IsOutline 65 three_squares the_outline
 outline_of_three = record {
   runs = record {

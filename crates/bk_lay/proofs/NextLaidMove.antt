@@ -21,25 +21,25 @@ use Rattle.bk_lay.specs.LevelRuns.{FallingRuns, IsFallingRun, IsOutline, IsRun, 
 use Rattle.bk_lay.specs.LevelRuns.{runs_under}
 use Rattle.bk_lay.specs.TilingWord.{IsLeftmostValley, bottoms, depth_before, depth_from, hangs_under, squares_under}
 use Rattle.bk_lay.specs.declared.outline.Outline.{Outline}
-use Rattle.bk_lay.specs.declared.outline.Run.{Run}
+use Rattle.bk_lay.specs.declared.outline.LevelRun.{LevelRun}
 
-last_level_is : (front : List Run) (r : Run) → last_level (front ++ r ∷ []) ≡ r.level ∷ []
+last_level_is : (front : List LevelRun) (r : LevelRun) → last_level (front ++ r ∷ []) ≡ r.level ∷ []
 last_level_is [] r = refl
 last_level_is (s ∷ []) r = refl
 last_level_is (s ∷ u ∷ front) r = last_level_is (u ∷ front) r
 
 -- there is at most one last level
-pub few_levels : (runs : List Run) → length (last_level runs) ≤ 1
+pub few_levels : (runs : List LevelRun) → length (last_level runs) ≤ 1
 few_levels [] = omega arith
 few_levels (r ∷ []) = omega arith
 few_levels (r ∷ s ∷ runs) = few_levels (s ∷ runs)
 
 -- runs whose columns keep their depths stay
 module _ (laid more : List Square) where
-  run_stays : (r : Run) → ((c : ℕ) → r.x ≤ c → c < r.end → depth more c ≡ depth laid c) → IsRun laid r → IsRun more r
+  run_stays : (r : LevelRun) → ((c : ℕ) → r.x ≤ c → c < r.end → depth more c ≡ depth laid c) → IsRun laid r → IsRun more r
   run_stays r same is = record { some = is.some; level = λ c lo hi. same c lo hi ∙ is.level c lo hi }
 
-  falls_stay : (x : ℕ) (runs : List Run) (end : ℕ) → ((c : ℕ) → c < end → depth more c ≡ depth laid c) → FallingRuns laid x runs end
+  falls_stay : (x : ℕ) (runs : List LevelRun) (end : ℕ) → ((c : ℕ) → c < end → depth more c ≡ depth laid c) → FallingRuns laid x runs end
       → FallingRuns more x runs end
   falls_stay x [] end same f = f
   falls_stay x (r ∷ runs) end same f = (
@@ -52,28 +52,28 @@ module _ (laid more : List Square) where
     falls_stay r.end runs end same f.2,
   )
     where
-      order : (runs : List Run) (x : ℕ) → FallingRuns laid x runs end → x ≤ end
+      order : (runs : List LevelRun) (x : ℕ) → FallingRuns laid x runs end → x ≤ end
       order [] x f = omega (arith, f)
       order (s ∷ runs) x f = let some = ((f.1).run).some in omega (arith, f.0, order runs s.end f.2)
 
-  right_stays : (x : ℕ) (runs : List Run) (end : ℕ) → ((c : ℕ) → x ≤ c → depth more c ≡ depth laid c) → RunsFromRight laid x runs end
+  right_stays : (x : ℕ) (runs : List LevelRun) (end : ℕ) → ((c : ℕ) → x ≤ c → depth more c ≡ depth laid c) → RunsFromRight laid x runs end
       → RunsFromRight more x runs end
   right_stays x [] end same f = f
   right_stays x (r ∷ runs) end same f = (f.0, run_stays r (λ c lo hi. same c (omega (arith, order runs r.x f.2))) f.1, right_stays x runs r.x same f.2)
     where
-      order : (runs : List Run) (end : ℕ) → RunsFromRight laid x runs end → x ≤ end
+      order : (runs : List LevelRun) (end : ℕ) → RunsFromRight laid x runs end → x ≤ end
       order [] end f = omega (arith, f)
       order (s ∷ runs) end f = let some = (f.1).some in omega (arith, f.0, order runs s.x f.2)
 
 -- runs under squares that stand side by side go on from runs further right
-under_meets : (laid : List Square) (squares : List Square) (x end : ℕ) (right : List Run) (width : ℕ) → Chain x squares end
+under_meets : (laid : List Square) (squares : List Square) (x end : ℕ) (right : List LevelRun) (width : ℕ) → Chain x squares end
     → ((q : Square) → IsOneOf q squares → IsRun laid (run_under q)) → RunsFromRight laid end right width
     → RunsFromRight laid x (right ++ runs_under squares) width
 under_meets laid [] x end right width c is f = let one : RunsFromRight laid x right width =
     subst (λ (y : ℕ). RunsFromRight laid y right width) (sym c) f in
-    subst (λ (l : List Run). RunsFromRight laid x l width) (sym (append-nil right)) one
+    subst (λ (l : List LevelRun). RunsFromRight laid x l width) (sym (append-nil right)) one
 under_meets laid (q ∷ squares) x end right width c is f = subst (λ (y : ℕ). RunsFromRight laid y (right ++ runs_under (q ∷ squares)) width) c.0
-    (subst (λ (l : List Run). RunsFromRight laid q.x l width) (append_assoc right (runs_under squares) (run_under q ∷ []))
+    (subst (λ (l : List LevelRun). RunsFromRight laid q.x l width) (append_assoc right (runs_under squares) (run_under q ∷ []))
     (right_more laid (right ++ runs_under squares) (run_under q) width
     (subst (λ (y : ℕ). RunsFromRight laid y (right ++ runs_under squares) width) (omega (arith, c.0))
     (under_meets laid squares (x + q.s) end right width c.1 (λ p k. is p (inr k)) f))
@@ -130,7 +130,8 @@ module _ (t : Tiling) (laid : List Square) (o : Outline) (tiling : IsTiling t) (
   ends = omega arith
 
   -- the runs beside the valley meet the runs under its squares
-  pub runs_meet : Meet t.width (laid ++ squares_under t (segment_of o.valley)) o.left.items (o.right.items ++ runs_under (squares_under t (segment_of o.valley)))
+  pub runs_meet : Meet t.width (laid ++ squares_under t (segment_of o.valley)) o.left.items
+      (o.right.items ++ runs_under (squares_under t (segment_of o.valley)))
   runs_meet = record {
     column = o.valley.x;
     falls = falls_stay laid (laid ++ squares_under t (segment_of o.valley)) 0 o.left.items o.valley.x
@@ -153,18 +154,19 @@ module _ (t : Tiling) (laid : List Square) (o : Outline) (tiling : IsTiling t) (
   left_level : depth_before laid o.valley.x ≡ last_level o.left.items
   left_level = cases (last_of o.left.items)
     where
-      cases : (o.left.items ≡ []) ⊎ ((front : List Run) × (r : Run) × (o.left.items ≡ front ++ r ∷ [])) → depth_before laid o.valley.x ≡ last_level o.left.items
+      cases : (o.left.items ≡ []) ⊎ ((front : List LevelRun) × (r : LevelRun) × (o.left.items ≡ front ++ r ∷ []))
+          → depth_before laid o.valley.x ≡ last_level o.left.items
       cases (inl e) = ap (depth_before laid) (sym wall) ∙ ap last_level (sym e)
         where
           wall : 0 ≡ o.valley.x
-          wall = subst (λ (l : List Run). FallingRuns laid 0 l o.valley.x) e (is.runs).falls
+          wall = subst (λ (l : List LevelRun). FallingRuns laid 0 l o.valley.x) e (is.runs).falls
       cases (inr (front, r, e)) = depth_before_at laid o.valley.x (o.valley.x - 1) (omega (arith, last.2, ((last.1).run).some))
           ∙ ap (λ (k : ℕ). k ∷ []) (((last.1).run).level (o.valley.x - 1) (omega (arith, last.2, ((last.1).run).some))
           (omega (arith, last.2, ((last.1).run).some)))
           ∙ sym (last_level_is front r) ∙ ap last_level (sym e)
         where
           last : FallingRuns laid 0 front r.x × IsFallingRun laid r × (r.end ≡ o.valley.x)
-          last = falls_at_end laid 0 front r o.valley.x (subst (λ (l : List Run). FallingRuns laid 0 l o.valley.x) e (is.runs).falls)
+          last = falls_at_end laid 0 front r o.valley.x (subst (λ (l : List LevelRun). FallingRuns laid 0 l o.valley.x) e (is.runs).falls)
 
   right_level : depth_from t.width laid (o.valley.x + (o.valley.end - o.valley.x)) ≡ last_level o.right.items
   right_level = ap (depth_from t.width laid) ends ∙ cases (last_of o.right.items)
@@ -172,20 +174,20 @@ module _ (t : Tiling) (laid : List Square) (o : Outline) (tiling : IsTiling t) (
       test : (a b : ℕ) → a ≡ b → nat_lt a b ≡ false
       test a b e = grind (arith, nat_tests)
 
-      cases : (o.right.items ≡ []) ⊎ ((front : List Run) × (r : Run) × (o.right.items ≡ front ++ r ∷ []))
+      cases : (o.right.items ≡ []) ⊎ ((front : List LevelRun) × (r : LevelRun) × (o.right.items ≡ front ++ r ∷ []))
           → depth_from t.width laid o.valley.end ≡ last_level o.right.items
       cases (inl e) = ap (λ (b : Bool). cond b (depth laid o.valley.end ∷ []) []) (test o.valley.end t.width wall) ∙ ap last_level (sym e)
         where
           wall : o.valley.end ≡ t.width
-          wall = subst (λ (l : List Run). RunsFromRight laid o.valley.end l t.width) e (is.runs).rest
+          wall = subst (λ (l : List LevelRun). RunsFromRight laid o.valley.end l t.width) e (is.runs).rest
       cases (inr (front, r, e)) = depth_from_at t.width laid o.valley.end (omega (arith, next.0, (next.1).some, order front t.width next.2))
           ∙ ap (λ (k : ℕ). k ∷ []) ((next.1).level o.valley.end (omega (arith, next.0)) (omega (arith, next.0, (next.1).some)))
           ∙ sym (last_level_is front r) ∙ ap last_level (sym e)
         where
           next : (r.x ≡ o.valley.end) × IsRun laid r × RunsFromRight laid r.end front t.width
-          next = right_at_end laid o.valley.end front r t.width (subst (λ (l : List Run). RunsFromRight laid o.valley.end l t.width) e (is.runs).rest)
+          next = right_at_end laid o.valley.end front r t.width (subst (λ (l : List LevelRun). RunsFromRight laid o.valley.end l t.width) e (is.runs).rest)
 
-          order : (runs : List Run) (end : ℕ) → RunsFromRight laid r.end runs end → r.end ≤ end
+          order : (runs : List LevelRun) (end : ℕ) → RunsFromRight laid r.end runs end → r.end ≤ end
           order [] end f = omega (arith, f)
           order (s ∷ runs) end f = let some = (f.1).some in omega (arith, f.0, order runs s.x f.2)
 

@@ -172,7 +172,7 @@ pub record Stands (width : ℕ) (laid : List Square) (runs : List Segment) (v : 
   pub left : ((before ≡ []) × (v.x ≡ 0)) ⊎ HasLast laid v.x before
   pub right : ((after ≡ []) × (v.x + v.width ≡ width)) ⊎ HasFirst width laid (v.x + v.width) after
 
--- so it is where the leftmost valley is given
+-- where the leftmost valley of what is laid is given, it stands among the runs as theirs
 pub stands : (width : ℕ) (laid : List Square) (runs : List Segment) (v : Segment) → Placed width laid 0 runs → IsLeftmostValley width laid v
     → Stands width laid runs v
 stands width laid runs v p found = record {

@@ -47,7 +47,7 @@ module _ (t : Tiling) (laid : List Square) (v : Segment) (tiling : IsTiling t) (
       same : q ≡ there.0
       same = no_two (covers c j) t.squares (omega (arith, cell c j wide in_rectangle)) q there.0 h e (laid_in there.0 there.1) there.2
 
-  -- so a laid square over a column ends at its depth or above
+  -- a laid square over a column ends at its depth or above
   pub not_laid : (c : ℕ) (q : Square) → IsOneOf q laid → q.x ≤ c → c < q.x + q.s → q.y + q.s ≤ depth laid c
   not_laid c q h a b = depth_reaches laid c q h (column_from c q a b)
 

@@ -91,7 +91,7 @@ abbrev pub all_pass : Tiling → List Square → List Segment → Bool
 all_pass t laid [] = all_below (λ c. nat_eq (depth laid c) t.height) t.width
 all_pass t laid (v ∷ valleys) = passes t.width laid v && (nat_lt v.level t.height && all_pass t (laid ++ squares_under t v) valleys)
 
--- then they do
+-- all valleys pass when they come, if the test says so
 pub passing_by_test : (t : Tiling) (laid : List Square) (valleys : List Segment) → all_pass t laid valleys ≡ true → ArePassing t laid valleys
 passing_by_test t laid [] e = e
 passing_by_test t laid (v ∷ valleys) e =

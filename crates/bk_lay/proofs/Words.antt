@@ -225,6 +225,6 @@ module _ (t : Tiling) (tiling : IsTiling t) where
   pub nothing_laid : FillsFromTop t []
   nothing_laid = record { squares = tt; filled = λ c j a b. absurd (omega arith) }
 
--- from there move by move each tiling has a word
+-- each tiling has a word, move by move from where nothing is laid
 pub every_tiling_has_a_word : EveryTilingHasAWord
 every_tiling_has_a_word t tiling = moves_from t tiling (t.width * t.height) [] (nothing_laid t tiling) (omega arith)

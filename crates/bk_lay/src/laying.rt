@@ -10,7 +10,7 @@ ghost use Rattle.bk_word.specs.Word.{Word as Moves};
 ghost use Rattle.bk_lay.specs.TilingWord.{IsWordOf};
 ghost use Rattle.bk_lay.specs.LaidMoves.{IsLaidMove, IsLaidSoFar, IsLaidTo};
 
-use crate::outline::{Outline, Run};
+use crate::outline::{LevelRun, Outline};
 use bk_tiling::{Square, Tiling};
 use bk_word::{INLINE_ORDER, Move, NoMemory, Word};
 use std::alloc::Global;
@@ -96,7 +96,7 @@ fn lay_next(outline: &mut Outline, tiling: &Tiling, m: &mut Move)
 }
 
 // The squares, in code order, whose tops lie on a run.
-fn squares_under(squares: &[Square], run: Run) -> &[Square]
+fn squares_under(squares: &[Square], run: LevelRun) -> &[Square]
     requires ordered { InCodeOrder squares.now }
     requires order { run.x ≤ run.end }
     ensures { result.now ≡ filter (begins_under run) squares.now }

@@ -14,7 +14,7 @@ use bk_word::Move;
 
 /// A level run of columns: its first column, the column after its last, and their depth.
 #[derive(Clone, Copy, Default)]
-pub(crate) struct Run {
+pub(crate) struct LevelRun {
     pub(crate) x: u64,
     pub(crate) end: u64,
     pub(crate) level: u64,
@@ -24,9 +24,9 @@ pub(crate) struct Run {
 /// right, each less deep than the one before it; those at its right stand from right to left.
 #[derive(Drop)]
 pub(crate) struct Outline {
-    pub(crate) left: ArrayVec<Run, MOST_SQUARES>,
-    pub(crate) valley: Run,
-    pub(crate) right: ArrayVec<Run, MOST_SQUARES>,
+    pub(crate) left: ArrayVec<LevelRun, MOST_SQUARES>,
+    pub(crate) valley: LevelRun,
+    pub(crate) right: ArrayVec<LevelRun, MOST_SQUARES>,
 }
 
 impl Outline {
@@ -36,7 +36,7 @@ impl Outline {
     {
         Outline {
             left: ArrayVec::new(),
-            valley: Run {
+            valley: LevelRun {
                 x: 0,
                 end: 1,
                 level: 0,
@@ -53,7 +53,7 @@ impl Outline {
     {
         self.left.clear();
         self.right.clear();
-        self.valley = Run {
+        self.valley = LevelRun {
             x: 0,
             end: width,
             level: 0,
@@ -93,7 +93,7 @@ impl Outline {
 }
 
 // The level of the last of the runs.
-fn level_of_last(runs: &[Run]) -> Option<u64>
+fn level_of_last(runs: &[LevelRun]) -> Option<u64>
     ensures { option_to_list result ≡ last_level runs.now }
 {
     match runs {
@@ -103,7 +103,7 @@ fn level_of_last(runs: &[Run]) -> Option<u64>
 }
 
 // Appends the runs under squares that stand from left to right, the last one first.
-fn push_runs(right: &mut ArrayVec<Run, MOST_SQUARES>, squares: &[Square])
+fn push_runs(right: &mut ArrayVec<LevelRun, MOST_SQUARES>, squares: &[Square])
     requires room { length right.old.items + length squares.now ≤ MOST_SQUARES }
     requires right { AllByRecursion (λ q. q.x + q.s < 2 ^ 64) squares.now }
     requires fit { AllByRecursion (λ q. q.y + q.s < 2 ^ 64) squares.now }
@@ -111,7 +111,7 @@ fn push_runs(right: &mut ArrayVec<Run, MOST_SQUARES>, squares: &[Square])
 {
     for i in (0..squares.len()).rev() {
         let q = squares[i];
-        right.push(Run {
+        right.push(LevelRun {
             x: q.x,
             end: q.x + q.s,
             level: q.y + q.s,
@@ -121,9 +121,9 @@ fn push_runs(right: &mut ArrayVec<Run, MOST_SQUARES>, squares: &[Square])
 
 // Takes the run of the leftmost valley out, where the runs at both sides meet.
 fn take_valley(
-    left: &mut ArrayVec<Run, MOST_SQUARES>,
-    right: &mut ArrayVec<Run, MOST_SQUARES>,
-) -> Run
+    left: &mut ArrayVec<LevelRun, MOST_SQUARES>,
+    right: &mut ArrayVec<LevelRun, MOST_SQUARES>,
+) -> LevelRun
     requires some { 0 < length left.old.items + length right.old.items }
     requires room { length left.old.items + length right.old.items ≤ MOST_SQUARES }
     ensures beside { (width : ℕ) (laid : List Placed) → Meet width laid left.old.items right.old.items
@@ -144,7 +144,10 @@ fn take_valley(
 }
 
 // Takes the last run at the left out, or where there is none that at the right.
-fn take_last(left: &mut ArrayVec<Run, MOST_SQUARES>, right: &mut ArrayVec<Run, MOST_SQUARES>) -> Run
+fn take_last(
+    left: &mut ArrayVec<LevelRun, MOST_SQUARES>,
+    right: &mut ArrayVec<LevelRun, MOST_SQUARES>,
+) -> LevelRun
     requires { 0 < length left.old.items + length right.old.items }
     ensures beside { (width : ℕ) (laid : List Placed) → Meet width laid left.old.items right.old.items
         → AreBeside width laid left.new.items result right.new.items }
@@ -158,7 +161,7 @@ fn take_last(left: &mut ArrayVec<Run, MOST_SQUARES>, right: &mut ArrayVec<Run, M
 }
 
 // Takes the last of the runs out where it is no deeper than a level.
-fn pop_no_deeper(runs: &mut ArrayVec<Run, MOST_SQUARES>, level: u64) -> Option<Run>
+fn pop_no_deeper(runs: &mut ArrayVec<LevelRun, MOST_SQUARES>, level: u64) -> Option<LevelRun>
     ensures taken { IfSome result (λ r. (runs.old.items ≡ runs.new.items ++ r ∷ []) × (r.level ≤ level)) }
     ensures kept { IfNone result ((runs.new ≡ runs.old) × IsDeeperAtEnd level runs.old.items) }
 {

@@ -13,6 +13,6 @@ pub mod SweepEnd
 pub mod SweepSteps
 pub mod SweepStart
 pub mod Trace
-pub mod Turning
+pub mod ValleySides
 pub mod WholeRuns
 pub mod WordOfLayoutExamples

@@ -17,7 +17,8 @@ left_squares_then front = left_squares front + cond {A = ℕ} (has_left_wall (ou
 abbrev pub right_squares_then : Word → ℕ
 right_squares_then front = right_squares front + cond {A = ℕ} (has_right_wall (outline_of front)) 1 0
 
--- a word that goes on from these moves has at most so many, since of these and the next one it does
+-- a word of a normal layout that goes on from these moves has at most so many, by what is known of the next one before
+-- it is chosen: the walls at which it hangs a square
 abbrev pub AreMostMovesThen : ℕ → Word → ℕ → Type 0
 AreMostMovesThen n front most =
     (n ≤ 2 * most) ⊎ ((n ≤ 2 * most + 1) × (0 < length front)

@@ -34,12 +34,12 @@ pub record IsSound (n : ℕ) (l : Layout) : Type 0 where
   pub walls : AreOuterWalls l
   pub lines : AreLinesApart l
 
--- a simple tiling of at least 3 squares has one, and it has a free word
+-- a simple tiling of at least 3 squares has a sound layout, and that has a free word
 abbrev pub ASimpleTilingHasASoundLayout : Type 0
 ASimpleTilingHasASoundLayout = (t : Tiling) → IsTiling t → IsSimple t → 3 ≤ order t
     → IsSound (order t) (layout_of t) × ((w : Word) × IsWordOfLayout (layout_of t) w)
 
--- no word of such a layout begins with these moves
+-- free barren: no word of a sound layout of so many squares begins with these moves
 abbrev pub IsFreeBarren : ℕ → Word → Type 0
 IsFreeBarren n front = (l : Layout) (w rest : Word) → IsSound n l → IsWordOfLayout l w → w ≡ front ++ rest → ⊥
 

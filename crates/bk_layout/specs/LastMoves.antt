@@ -28,18 +28,21 @@ pub record AreAllUnder (n most : ℕ) (front : Word) : Type 0 where
   pub few : most ≤ length front + length (outline_of front).segments
   pub under : AllByRecursion (λ s. s ≡ Under) (outline_of front).signs
 
--- so just as many squares are left as signs
+-- moves after which all signs are under, and at most as many moves are left as segments, where the squares that are
+-- left are not as many as the signs
 abbrev pub AllUnderIsNormalBarren : Type 0
 AllUnderIsNormalBarren = (n most : ℕ) (front : Word) → AreAllUnder n most front
     → (order_of front + length (outline_of front).signs ≡ n → ⊥)
     → IsNormalBarren n front
 
--- moves after which all signs are under, with more squares at the left wall than squares at the right wall and signs
+-- moves after which all signs are under, and at most as many moves are left as segments, with more squares at the left
+-- wall than squares at the right wall and signs together
 abbrev pub AllUnderAtLeftIsNormalBarren : Type 0
 AllUnderAtLeftIsNormalBarren = (n most : ℕ) (front : Word) → AreAllUnder n most front
     → right_squares front + length (outline_of front).signs < left_squares front → IsNormalBarren n front
 
--- nor are they too many there, where the word has just half of n + 1 moves
+-- moves after which all signs are under, and at most as many moves are left as segments, with more squares at the right
+-- wall and signs together than squares at the top, where the word gets just half of n + 1 moves
 abbrev pub AllUnderAtRightIsNormalBarren : Type 0
 AllUnderAtRightIsNormalBarren = (n most : ℕ) (front : Word) → AreAllUnder n most front
     → 2 * (length front + length (outline_of front).signs + 1) ≡ n + 3
@@ -69,7 +72,8 @@ abbrev pub TooManyAtLeftIsNormalBarren : Type 0
 TooManyAtLeftIsNormalBarren = (n : ℕ) (w : Word) → order_of w ≡ n → right_squares w < left_squares w
     → IsNormalBarren n w
 
--- and, where the nodes, one more than the moves, are half of n + 3, with more squares at the right wall than at the top
+-- whole words whose nodes, one more than the moves, are half of n + 3, with more squares at the right wall than at the
+-- top
 abbrev pub TooManyAtRightIsNormalBarren : Type 0
 TooManyAtRightIsNormalBarren = (n : ℕ) (w : Word) → order_of w ≡ n → 2 * (length w + 1) ≡ n + 3
     → first_count w < right_squares w → IsNormalBarren n w

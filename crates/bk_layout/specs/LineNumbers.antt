@@ -42,7 +42,7 @@ sides_along o sides (m ∷ moves) = sides_along (after_move o m) (sides_after o 
 abbrev pub square_lines : Word → List (ℕ × ℕ)
 square_lines w = sides_along start [] w
 
--- the lines at the left of its squares
+-- the lines at the left of the word's squares
 abbrev pub lefts_of : Word → List ℕ
 lefts_of w = map (λ s. s.0) (square_lines w)
 

@@ -14,12 +14,12 @@ use Rattle.bk_layout.specs.FreeCuts.{IsFreeBarren, IsSound}
 use Rattle.bk_layout.specs.RuleR.{BeginsNoEvenAbove}
 use Rattle.bk_layout.specs.SignedWord.{IsSignedWordOf}
 
--- no word of a sound layout of so many squares that keeps rule R begins with these moves
+-- net barren: no word of a sound layout of so many squares that keeps rule R begins with these moves
 abbrev pub IsNetBarren : ℕ → Word → Type 0
 IsNetBarren n front = (l : Layout) (w rest : Word) → IsSound n l → IsWordOfLayout l w
     → AllByRecursion BeginsNoEvenAbove w → w ≡ front ++ rest → ⊥
 
--- so each cut on free words is one
+-- free barren moves are net barren, so each cut on free words is one on net words
 abbrev pub AFreeBarrenWordIsNetBarren : Type 0
 AFreeBarrenWordIsNetBarren = (n : ℕ) (front : Word) → IsFreeBarren n front → IsNetBarren n front
 

@@ -28,7 +28,8 @@ pub record AreCornersApart (l : Layout) : Type 0 where
 abbrev pub DoEndsMeet : Layout → Type 0
 DoEndsMeet l = (v x y : ℕ) → AreNeighbours (l.ending v) x y → l.right x ≡ l.left y
 
--- a sound layout of so many squares with this
+-- a sound layout of so many squares, where around a node no line stands before two squares or after two, and squares
+-- that end side by side on one node share a line
 pub record IsSoundAround (n : ℕ) (l : Layout) : Type 0 where
   pub sound : IsSound n l
   pub corners : AreCornersApart l
@@ -41,12 +42,12 @@ AReversedLayoutIsSound = (n : ℕ) (l : Layout) (q p r : ℕ) → IsSoundAround 
 -- a layout that is l up to reversed squares, with a word by rule R, and it is sound
 pub record HasSoundWordByRuleR (n : ℕ) (l : Layout) : Type 0 where
   pub by_rule : HasWordByRuleR l
-  pub around : IsSoundAround n by_rule.turned
+  pub around : IsSoundAround n by_rule.layout
 
 abbrev pub ASoundLayoutHasASoundWordByRuleR : Type 0
 ASoundLayoutHasASoundWordByRuleR = (n : ℕ) (l : Layout) → IsSoundAround n l → HasSoundWordByRuleR n l
 
--- the layout of a simple tiling of at least 3 squares
+-- the layout of a simple tiling of at least 3 squares is sound, also around its nodes
 abbrev pub ASimpleTilingIsSoundAround : Type 0
 ASimpleTilingIsSoundAround = (t : Tiling) → IsTiling t → IsSimple t → 3 ≤ order t
     → IsSoundAround (order t) (layout_of t)

@@ -23,15 +23,15 @@ pub record Counts : Type 0 where
 abbrev pub is_at_top : Square → Bool
 is_at_top q = q.y == 0
 
--- at the bottom of one of this height
+-- the square lies at the bottom of a rectangle of this height
 abbrev pub is_at_bottom : ℕ → Square → Bool
 is_at_bottom height q = q.y + q.s == height
 
--- at the left
+-- the square lies at the left of the rectangle
 abbrev pub is_at_left : Square → Bool
 is_at_left q = q.x == 0
 
--- at the right of one of this width
+-- the square lies at the right of a rectangle of this width
 abbrev pub is_at_right : ℕ → Square → Bool
 is_at_right width q = q.x + q.s == width
 
@@ -50,8 +50,8 @@ counts_of t = record {
 abbrev pub IsHalf : Counts → Type 0
 IsHalf c = 2 * (c.moves + 1) ≡ c.squares + 3
 
--- the nodes are at most so many; where they are just so many, no more squares lie at the right than at the top; and no
--- more lie at the bottom than at the top, and at the left than at the right
+-- normal counts: the nodes are at most half of three more than the squares; where they are just half, no more squares
+-- lie at the right than at the top; and no more lie at the bottom than at the top, and at the left than at the right
 pub record AreNormal (c : Counts) : Type 0 where
   pub few : 2 * (c.moves + 1) ≤ c.squares + 3
   pub half : IsHalf c → c.right ≤ c.top
@@ -66,15 +66,15 @@ IsNormal t = AreNormal (counts_of t)
 abbrev pub is_in_top_corner : ℕ → Square → Bool
 is_in_top_corner width q = is_at_top q && (is_at_left q || is_at_right width q)
 
--- in a corner at the bottom
+-- the square lies in a corner at the bottom
 abbrev pub is_in_bottom_corner : ℕ → ℕ → Square → Bool
 is_in_bottom_corner width height q = is_at_bottom height q && (is_at_left q || is_at_right width q)
 
--- in a corner at the left
+-- the square lies in a corner at the left
 abbrev pub is_in_left_corner : ℕ → Square → Bool
 is_in_left_corner height q = is_at_left q && (is_at_top q || is_at_bottom height q)
 
--- in a corner at the right
+-- the square lies in a corner at the right
 abbrev pub is_in_right_corner : ℕ → ℕ → Square → Bool
 is_in_right_corner width height q = is_at_right width q && (is_at_top q || is_at_bottom height q)
 
@@ -83,10 +83,11 @@ abbrev pub longest : (Square → Bool) → List Square → ℕ
 longest test [] = 0
 longest test (q ∷ squares) = max (cond (test q) q.s 0) (longest test squares)
 
--- where such counts tie, others decide. With just so many nodes and as many squares at the right as at the top, no more
--- lie at the left than at the bottom, and where these are as many too, the rectangle is at least as wide as high; with
--- as many squares at the bottom as at the top the longest in a corner is no longer at the bottom than at the top, and
--- with as many at the left as at the right no longer at the right than at the left
+-- where two counts of a normal tiling tie, others decide. With as many nodes as half of three more than the squares,
+-- and as many squares at the right as at the top, no more lie at the left than at the bottom, and where these are as
+-- many too, the rectangle is at least as wide as high; with as many squares at the bottom as at the top the longest in
+-- a corner is no longer at the bottom than at the top, and with as many at the left as at the right no longer at the
+-- right than at the left
 pub record AreTiesSettled (t : Tiling) : Type 0 where
   pub sides : IsHalf (counts_of t) → (counts_of t).right ≡ (counts_of t).top → (counts_of t).left ≤ (counts_of t).bottom
   pub size : IsHalf (counts_of t) → (counts_of t).right ≡ (counts_of t).top → (counts_of t).left ≡ (counts_of t).bottom
@@ -102,6 +103,6 @@ pub record HasNormalImage (t : Tiling) : Type 0 where
   pub normal : IsNormal (image turn t)
   pub ties : AreTiesSettled (image turn t)
 
--- each tiling has one
+-- each tiling has a normal image with its ties settled
 abbrev pub EachTilingHasANormalImage : Type 0
 EachTilingHasANormalImage = (t : Tiling) → IsTiling t → HasNormalImage t

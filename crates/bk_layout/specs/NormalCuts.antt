@@ -19,13 +19,13 @@ use Rattle.bk_layout.specs.NetWord.{IsNetBarren}
 use Rattle.bk_layout.specs.NormalLayout.{IsNormalLayout}
 use Rattle.bk_layout.specs.WordNumbers.{counts_of_word, first_count, left_squares, right_squares}
 
--- no word of a sound and normal layout of so many squares that keeps rule R begins with these moves
+-- normal barren: no word of a sound and normal layout of so many squares that keeps rule R begins with these moves
 abbrev pub IsNormalBarren : ℕ → Word → Type 0
 IsNormalBarren n front = (l : Layout) (w rest : Word) → IsSound n l → IsNormalLayout l → IsWordOfLayout l w
     → AllByRecursion BeginsNoEvenAbove w
     → w ≡ front ++ rest → ⊥
 
--- so each cut on all net words is one
+-- net barren moves are normal barren, so each cut on net words is one on the words of normal layouts
 abbrev pub ANetBarrenWordIsNormalBarren : Type 0
 ANetBarrenWordIsNormalBarren = (n : ℕ) (front : Word) → IsNetBarren n front → IsNormalBarren n front
 
@@ -36,7 +36,7 @@ pub record IsNormalWordOf (t : Tiling) (w : Word) : Type 0 where
   pub counts : counts_of_word w ≡ counts_of t
   pub no_barren : (front rest : Word) → w ≡ front ++ rest → IsNormalBarren (order t) front → ⊥
 
--- a normal and simple tiling of at least 3 squares has one
+-- a normal and simple tiling of at least 3 squares has a normal word
 abbrev pub ANormalTilingHasANormalWord : Type 0
 ANormalTilingHasANormalWord = (t : Tiling) → IsTiling t → IsSimple t → 3 ≤ order t → IsNormal t
     → (w : Word) × IsNormalWordOf t w
@@ -49,7 +49,8 @@ abbrev pub AreMostMoves : ℕ → Word → ℕ → Type 0
 AreMostMoves n front most = (n ≤ 2 * most)
     ⊎ ((n ≤ 2 * most + 1) × (first_count front < max (left_squares front) (right_squares front)))
 
--- the least such number, but for more squares that are still to come at a wall
+-- the least number that bounds the moves of a word of a normal layout which begins with these, but for more squares
+-- that are still to come at a wall
 abbrev pub most_moves_of : ℕ → Word → ℕ
 most_moves_of n front = cond (nat_lt (first_count front) (max (left_squares front) (right_squares front))) (n / 2)
     ((n + 1) / 2)
@@ -57,7 +58,7 @@ most_moves_of n front = cond (nat_lt (first_count front) (max (left_squares fron
 abbrev pub MostMovesAreMost : Type 0
 MostMovesAreMost = (n : ℕ) (front : Word) → AreMostMoves n front (most_moves_of n front)
 
--- where the moves go on, the number stays one
+-- a number that bounds the moves of words that begin with some moves still does where these go on
 abbrev pub MostMovesStay : Type 0
 MostMovesStay = (n most : ℕ) (front more : Word) → IsLegal (front ++ more) → AreMostMoves n front most
     → AreMostMoves n (front ++ more) most

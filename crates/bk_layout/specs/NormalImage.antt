@@ -33,13 +33,13 @@ pub record IsMetByNormalWord (u : Tiling) (w : Word) : Type 0 where
   pub ties : AreTiesSettled u
   pub is_word : IsNormalWordOf u w
 
--- what is asked of the counts of such a word besides: where they are just half and as many squares stand at the right
+-- what is asked of the counts of a normal word besides: where they are just half and as many squares stand at the right
 -- as at the top, no more stand at the left than at the bottom
 pub record AreSettledCounts (c : Counts) : Type 0 where
   pub normal : AreNormal c
   pub sides : IsHalf c → c.right ≡ c.top → c.left ≤ c.bottom
 
--- so a search may pass over whole words with other counts
+-- the counts of a normal word are settled, so a search may pass over whole words with other counts
 abbrev pub ANormalWordHasSettledCounts : Type 0
 ANormalWordHasSettledCounts = (u : Tiling) (w : Word) → IsMetByNormalWord u w → AreSettledCounts (counts_of_word w)
 
@@ -52,23 +52,25 @@ pub record AreCornersSettled (c : Counts) (width height : ℕ) (squares : List S
   pub across : c.left ≡ c.right
       → longest (is_in_right_corner width height) squares ≤ longest (is_in_left_corner height) squares
 
--- so a search may pass over squares that a word places otherwise
+-- the corners of a tiling with a normal word are settled, by its squares in any order, so a search may pass over
+-- squares that a word places otherwise
 abbrev pub ANormalWordHasSettledCorners : Type 0
 ANormalWordHasSettledCorners = (u : Tiling) (w : Word) (squares : List Square) → IsMetByNormalWord u w
     → in_code_order squares ≡ u.squares
     → AreCornersSettled (counts_of_word w) u.width u.height squares
 
--- a turn by which the image is such a tiling, and the word
+-- a turn by which the image is simple and normal, with its ties settled, and a normal word of this image
 pub record HasNormalWord (t : Tiling) : Type 0 where
   pub turn : Turn
   pub word : Word
   pub met : IsMetByNormalWord (image turn t) word
 
--- each simple tiling of at least 3 squares has one
+-- each simple tiling of at least 3 squares has an image with a normal word
 abbrev pub EachSimpleTilingHasANormalWord : Type 0
 EachSimpleTilingHasANormalWord = (t : Tiling) → IsTiling t → IsSimple t → 3 ≤ order t → HasNormalWord t
 
--- what a search for them looks for: a complete word of the order, of which no beginning is barren; so it keeps rule R
+-- what a search for normal words looks for: a complete word of the order, of which no beginning is barren; so it keeps
+-- rule R
 pub record IsNormalSought (n : ℕ) (w : Word) : Type 0 where
   pub complete : IsComplete w
   pub order : order_of w ≡ n
@@ -78,7 +80,7 @@ pub record IsNormalSought (n : ℕ) (w : Word) : Type 0 where
 abbrev pub ANormalWordIsSought : Type 0
 ANormalWordIsSought = (t : Tiling) (w : Word) → IsNormalWordOf t w → IsNormalSought (order t) w
 
--- what is said of each image u of a member t
+-- each image u of a member t is a primitive and simple tiling of the order and the class, and its canonical tiling is t
 pub record IsMembersImage (n : ℕ) (class : Class) (t u : Tiling) : Type 0 where
   pub tiling : IsTiling u
   pub order_is : order u ≡ n
@@ -91,14 +93,14 @@ abbrev pub EachImageIsAMembers : Type 0
 EachImageIsAMembers = (n : ℕ) (class : Class) (t : Tiling) (turn : Turn) → IsMember n class t
     → IsMembersImage n class t (image turn t)
 
--- a member's turn and word, which is sought
+-- a turn of a member, and a normal word of the image by it, which is sought
 pub record IsMemberMet (n : ℕ) (class : Class) (t : Tiling) : Type 0 where
   pub turn : Turn
   pub word : Word
   pub met : IsMetByNormalWord (image turn t) word
   pub sought : IsNormalSought n word
 
--- so a search that finds of each sought word the tilings of which it is a signed one, and takes their canonical
--- tilings, misses no member
+-- each member of at least 3 squares is met: a search that finds of each sought word the tilings of which it is a signed
+-- one, and takes their canonical tilings, misses no member
 abbrev pub EachMemberIsMet : Type 0
 EachMemberIsMet = (n : ℕ) (class : Class) (t : Tiling) → 3 ≤ n → IsMember n class t → IsMemberMet n class t

@@ -15,7 +15,8 @@ pub record EndsTogether (l : Layout) (square : ℕ → ℕ) (numbers : List ℕ)
   pub stands : (k number : ℕ) → slice_get numbers k ≡ Some number
       → slice_get (l.ending node) (from + k) ≡ Some (square number)
 
--- so does each segment that is open after the first moves of a word of a layout
+-- the squares of each segment that is open after the first moves of a word of a layout stand side by side among those
+-- that end on one node
 abbrev pub OpenSegmentsEndTogether : Type 0
 OpenSegmentsEndTogether = (l : Layout) (w front rest : Word) (word : IsWordOfLayout l w) → w ≡ front ++ rest
     → (i : ℕ) (s : List ℕ) → slice_get (outline_of front).segments i ≡ Some s

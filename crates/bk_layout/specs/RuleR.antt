@@ -16,8 +16,9 @@ use Rattle.bk_layout.specs.Reversal.{IsUpToReversals}
 abbrev pub BeginsNoEvenAbove : Move → Type 0
 BeginsNoEvenAbove m = 1 < m.count → slice_get m.signs 0 ≡ Some Even → slice_get m.signs 1 ≡ Some Above → ⊥
 
--- beside a left neighbour the move begins not so. At the left wall its first sign stands between two of its own
--- squares, which are twins where it is even: so in a word of a layout without twins no move at all begins so
+-- beside a left neighbour no move of two squares or more begins with even and above. At the left wall a move's first
+-- sign stands between two of its own squares, which are twins where it is even: so in a word of a layout without twins
+-- no move at all begins with even and above
 abbrev pub KeepsRuleR : Outline → Move → Type 0
 KeepsRuleR o m = has_left_wall o ≡ false → BeginsNoEvenAbove m
 
@@ -25,19 +26,19 @@ abbrev pub KeepRuleRFrom : Outline → Word → Type 0
 KeepRuleRFrom o [] = ⊤
 KeepRuleRFrom o (m ∷ moves) = KeepsRuleR o m × KeepRuleRFrom (after_move o m) moves
 
--- the first valley stands at the left wall, so the rule says nothing of the first move
+-- the word keeps rule R. The first valley stands at the left wall, so the rule says nothing of the first move
 abbrev pub DoesKeepRuleR : Word → Type 0
 DoesKeepRuleR w = KeepRuleRFrom start w
 
 -- a layout that is l up to reversals, and a free word of it that keeps the rule
 pub record HasWordByRuleR (l : Layout) : Type 0 where
-  pub turned : Layout
-  pub fits : Fits turned
-  pub same : IsUpToReversals l turned
+  pub layout : Layout
+  pub fits : Fits layout
+  pub same : IsUpToReversals l layout
   pub word : Word
-  pub is_word : IsWordOfLayout turned word
+  pub is_word : IsWordOfLayout layout word
   pub keeps : DoesKeepRuleR word
-  pub no_twins : HasNoTwins l → HasNoTwins turned
+  pub no_twins : HasNoTwins l → HasNoTwins layout
   pub none : HasNoTwins l → AllByRecursion BeginsNoEvenAbove word
 
 abbrev pub ALayoutHasAWordByRuleR : Type 0

@@ -10,9 +10,9 @@ use Rattle.bk_word.specs.Word.{Word}
 use Rattle.bk_word_net.specs.WordNet.{net_of_word}
 use Rattle.bk_layout.specs.SignedWord.{IsSignedWordOf}
 
--- the side, negative where the square is turned
+-- the side, negative where the square is reversed
 abbrev pub signed_side : Tiling → (ℕ → Bool) → ℕ → ℤ
-signed_side t turned q = cond (turned q) (neg_ℤ (pos (square_of t q).s)) (pos (square_of t q).s)
+signed_side t is_reversed q = cond (is_reversed q) (neg_ℤ (pos (square_of t q).s)) (pos (square_of t q).s)
 
 -- the width as the total, the height left under the level of each node, and the signed side of each square
 abbrev pub signed_flow : (t : Tiling) (w : Word) → IsSignedWordOf t w → Flow
@@ -20,7 +20,7 @@ signed_flow t w s = record {
   total = pos t.width;
   potentials = map (λ v. pos t.height -ℤ pos (slice_index_or (node_levels t) (s.node v) 0))
       (numbers_from 0 (net_of_word w).nodes);
-  currents = map (λ k. signed_side t s.turned (s.square k)) (numbers_from 0 (order t));
+  currents = map (λ k. signed_side t s.is_reversed (s.square k)) (numbers_from 0 (order t));
 }
 
 abbrev pub SignedSidesAreTheOneFlow : Type 0
@@ -30,5 +30,5 @@ SignedSidesAreTheOneFlow = (t : Tiling) (w : Word) → IsTiling t → (s : IsSig
 -- the node of the word from which the tiling's square hangs: of a reversed square it is that at which the word's square
 -- ends
 abbrev pub upper_end : Word → Bool → ℕ → ℕ
-upper_end w turned k = cond turned (slice_index_or (net_of_word w).wires k (0, 0)).1
+upper_end w is_reversed k = cond is_reversed (slice_index_or (net_of_word w).wires k (0, 0)).1
     (slice_index_or (net_of_word w).wires k (0, 0)).0

@@ -25,7 +25,7 @@ pub record HasOneBetween (l : Layout) (f g u v : ℕ) : Type 0 where
   pub above : (l.above square ≡ u) ⊎ (l.above square ≡ v)
   pub under : (l.below square ≡ u) ⊎ (l.below square ≡ v)
 
--- they are the walls, the top and the bottom
+-- the lines are the two walls, and the nodes the top and the bottom
 pub record AreOutermost (l : Layout) (f g u v : ℕ) : Type 0 where
   pub lines : ((f ≡ 0) × (g ≡ 1)) ⊎ ((f ≡ 1) × (g ≡ 0))
   pub nodes : ((u ≡ 0) × (v ≡ l.bottom)) ⊎ ((u ≡ l.bottom) × (v ≡ 0))

@@ -19,11 +19,11 @@ pub record Passed : Type 0 where
   pub more : ℕ
   pub low : Bool
 
--- at the first segment
+-- what is counted at the first segment
 abbrev pub none_passed : Passed
 none_passed = record { most = 0; aboves = 0; more = 0; low = true }
 
--- behind a segment of so many squares, which may be marked, with this sign behind it
+-- what is counted behind a segment of so many squares, which may be marked, with this sign behind it
 abbrev pub pass : Passed → Sign → ℕ → Bool → Passed
 pass p Above size mark = record {
   most = max (p.most + single_valley p.low size) (p.aboves + max (2 * single_valley p.low size) (cond mark 1 0));
@@ -44,7 +44,7 @@ pass p Under size mark = record {
   low = true;
 }
 
--- behind the last one
+-- what is counted behind the last segment
 abbrev pub pass_last : Passed → ℕ → Bool → Passed
 pass_last p size mark = record {
   most = max (p.most + 2 * single_valley p.low size) (p.aboves + max (3 * single_valley p.low size) (cond mark 1 0));
@@ -53,7 +53,7 @@ pass_last p size mark = record {
   low = p.low;
 }
 
--- over segments
+-- what is counted over some segments, up to the last one
 abbrev pub pass_along : Passed → List Sign → List ℕ → List Bool → Passed
 pass_along p signs [] marks = p
 pass_along p signs (size ∷ sizes) [] = p
@@ -67,13 +67,13 @@ pub record IsCounted (p : Passed) (signs : List Sign) (sizes : List ℕ) (marks 
       (p.aboves + strong_from p.low signs sizes marks)
   pub more : (pass_along p signs sizes marks).more ≡ p.more + weight_from p.low signs sizes
 
--- whatever was passed before
+-- whatever was passed before, a pass over the segments that are left counts their strong bound and their weight
 abbrev pub ThePassIsStrong : Type 0
 ThePassIsStrong = (p : Passed) (signs : List Sign) (sizes : List ℕ) (marks : List Bool)
     → length sizes ≡ length signs + 1 → length marks ≡ length sizes
     → IsCounted p signs sizes marks
 
--- so from the first segment on it counts the strong bound and the weight
+-- from the first segment on a pass counts the strong bound and the weight
 pub record IsBoundCounted (signs : List Sign) (sizes : List ℕ) (marks : List Bool) : Type 0 where
   pub bound : (pass_along none_passed signs sizes marks).most ≡ strong_from true signs sizes marks
   pub weight : (pass_along none_passed signs sizes marks).more ≡ weight_from true signs sizes
@@ -95,7 +95,7 @@ pub record IsNoMore (p q : Passed) : Type 0 where
   pub most : p.most ≤ q.most
   pub more : p.more ≤ q.more
 
--- over segments with a sign behind each
+-- what is counted over some segments with a sign behind each
 abbrev pub pass_each : Passed → List Sign → List ℕ → List Bool → Passed
 pass_each p [] sizes marks = p
 pass_each p (sign ∷ signs) [] marks = p

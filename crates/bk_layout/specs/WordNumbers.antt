@@ -18,7 +18,7 @@ use Rattle.bk_layout.specs.LayoutCounts.{counts_of_layout}
 abbrev pub left_squares : Word → ℕ
 left_squares w = count_by (λ s. nat_eq s.0 0) (square_lines w)
 
--- how many have line 1, the right wall, at their right
+-- how many squares of the word have line 1, the right wall, at their right
 abbrev pub right_squares : Word → ℕ
 right_squares w = count_by (λ s. nat_eq s.1 1) (square_lines w)
 
@@ -64,7 +64,7 @@ left_moves w = left_moves_from start w
 abbrev pub right_moves : Word → ℕ
 right_moves w = right_moves_from start w
 
--- one square for each move at the wall
+-- the word has at each wall one square for each move that closes a valley there
 pub record HasOneForEachWallMove (w : Word) : Type 0 where
   pub left : left_squares w ≡ left_moves w
   pub right : right_squares w ≡ right_moves w

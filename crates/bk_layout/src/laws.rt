@@ -160,23 +160,24 @@ pub fn moves_of_normal_words()
     // A move leaves as many segments as there were and squares hang, less one and one for each even sign.
     ensures a_move_leaves_segments { AMoveLeavesSegments }
 
-    // So many moves a word of a normal layout has at most: half of one more than the squares, and one less than just
+    // A word of a normal layout has at most so many moves: half of one more than the squares, and one less than just
     // half where more squares stand at a wall than at the top.
     ensures most_moves_are_most { MostMovesAreMost }
 
-    // The number stays one as the moves go on.
+    // A number that bounds the moves of words that begin with some moves still does where these go on.
     ensures most_moves_stay { MostMovesStay }
 
-    // The most moves that are known once the next valley is.
+    // A number that bounds the moves of a word, once its next valley is known, still does when the next move is played.
     ensures most_moves_hold_then { MostMovesHoldThen }
 {}
 
 /// The strong bound, and how it is counted.
 pub fn strong_bound()
-    // One pass over the segments from left to right counts the strong bound and the weight.
+    // Whatever it passed before, a pass over the segments from left to right counts the strong bound and the weight of
+    // those that are left.
     ensures the_pass_is_strong { ThePassIsStrong }
 
-    // So from the first segment on the pass counts the strong bound and the weight.
+    // From the first segment on a pass counts the strong bound and the weight.
     ensures the_pass_counts_the_bound { ThePassCountsTheBound }
 
     // Where fewer segments are marked the strong bound is no greater.
@@ -186,7 +187,7 @@ pub fn strong_bound()
     ensures even_asks_least { EvenAsksLeast }
 {}
 
-/// With what no such word begins, and how it goes on.
+/// With what no word of a normal layout begins, and how one goes on.
 pub fn what_is_normal_barren()
     // No word of a normal layout begins with what no net word begins with.
     ensures a_net_barren_word_is_normal_barren { ANetBarrenWordIsNormalBarren }
@@ -210,7 +211,8 @@ pub fn what_is_normal_barren()
     // segments, but where just as many squares are left as signs.
     ensures all_under_is_normal_barren { AllUnderIsNormalBarren }
 
-    // Nor where these, at the right wall, are too few for the squares at the left wall.
+    // No word of a normal layout goes on from moves after which all signs are under and no more moves are left than
+    // segments, with more squares at the left wall than squares at the right wall and signs together.
     ensures all_under_at_left_is_normal_barren { AllUnderAtLeftIsNormalBarren }
 
     // No word of a normal layout is one with more squares in the last segment than at the top.
@@ -219,7 +221,7 @@ pub fn what_is_normal_barren()
     // No word of a normal layout is one with more squares at the left wall than at the right.
     ensures too_many_at_left_is_normal_barren { TooManyAtLeftIsNormalBarren }
 
-    // Where one square is left, it goes on by that, even with the segments at both its sides.
+    // Where one square is left, a word of a normal layout goes on by that, even with the segments at both its sides.
     ensures one_square_goes_on_even { OneSquareGoesOnEven }
 
     // Where all signs are under, no word of a normal layout of just half of one more than its squares moves goes on so
@@ -248,13 +250,13 @@ pub fn words_to_meet()
     // a word by rule R of which no beginning is barren.
     ensures each_simple_tiling_has_a_normal_word { EachSimpleTilingHasANormalWord }
 
-    // A search for complete words of which no beginning is barren meets each such word.
+    // A search for complete words of which no beginning is barren meets each normal word of a tiling.
     ensures a_normal_word_is_sought { ANormalWordIsSought }
 
-    // The counts of such a word are normal, and the tie of its sides is settled.
+    // The counts of a normal word are normal, and the tie of its sides is settled.
     ensures a_normal_word_has_settled_counts { ANormalWordHasSettledCounts }
 
-    // The corner ties of such a word are settled by the squares that it places.
+    // The corner ties of a tiling are settled by the squares that a normal word of it places.
     ensures a_normal_word_has_settled_corners { ANormalWordHasSettledCorners }
 
     // Each image of a member is a primitive and simple tiling of the order and the class, and its canonical tiling is

@@ -32,7 +32,7 @@ pub whole_listing : IsListing (all_after (of_order_2 Imperfect) []) End
 unfolding digits
 whole_listing = record { entries = row_entry ∷ []; first = one_listed; ends = (tt, λ e is h. only e is); text = refl }
 
--- so these are the lines of the whole catalogue
+-- the lines of the whole catalogue of order 2 and the class imperfect
 pub whole_catalogue : WritesCatalogue (of_order_2 Imperfect) (codes "2 2x1 [1,1] ; 2e" ++ 10 ∷ codes "; end order 2 class imperfect listed 1" ++ 10 ∷ [])
 whole_catalogue = a_whole_listing_is_the_catalogue (of_order_2 Imperfect) _ whole_listing
 

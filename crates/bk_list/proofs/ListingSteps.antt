@@ -118,7 +118,7 @@ module _ (l : Listing) (cursor : Word) (listed : ℕ) (a b : Option (List ℕ)) 
   first_then e t = first_more l.catalogue l.cursor s.entries e s.first t.is
       (subst (Follows e.word) s.at t.after) (λ f is h. t.least f is (subst (Follows f.word) (sym s.at) h))
 
-  -- and within the limit
+  -- with the next member the entries are still within the limit
   pub within_then : (e : Entry) → IsWithinLimit l.limit (s.entries ++ e ∷ [])
   within_then e = limit_more l.limit s.entries e (below l.limit s.entries listed s.count not s.within)
 
@@ -194,7 +194,7 @@ unnamed_line l entries Wide listed word ends = absurd ends
 -- the last line is written
 module _ (l : Listing) (last : Last) (listed : ℕ) (word : Word) (a b c : Option (List ℕ)) (h : HasEntries l last listed a b) (piece : List ℕ)
     (is : piece ≡ last_line last l.catalogue.order l.catalogue.class listed word) where
-  -- it counts the entries
+  -- the last line counts the entries
   pub last_line_is : piece ≡ last_line last l.catalogue.order l.catalogue.class (length h.entries) []
   last_line_is = is ∙ ap (λ k. last_line last l.catalogue.order l.catalogue.class k word) h.count
       ∙ unnamed_line l h.entries last (length h.entries) word h.ends
@@ -210,7 +210,7 @@ module _ (l : Listing) (last : Last) (listed : ℕ) (word : Word) (a b c : Optio
     appends = Appends-trans a b c (flat_map line_of h.entries) piece h.appends p;
   }
 
-  -- or a beginning of it
+  -- a beginning of the whole listing was written
   pub begun_whole : AppendsPrefix b c piece → BeginsListing l a c
   begun_whole p = record {
     bytes = flat_map line_of h.entries ++ piece;

@@ -52,6 +52,6 @@ one_after_another = (
   (record { first = first_none (of_order_2 Imperfect) row_entry.word; ends = (tt, none_left) }, refl),
 )
 
--- they have together what list --order 2 --class imperfect has
+-- list --order 2 --class imperfect --limit 1 and the run that goes on from 2e have together what list --order 2 --class imperfect has
 pub cut_and_continued : AreFirst (of_order_2 Imperfect) [] (row_entry ∷ []) × EndsAs (all_after (of_order_2 Imperfect) []) (row_entry ∷ []) AtEnd
 cut_and_continued = nothing_is_missing (of_order_2 Imperfect) [] row_entry.word (cut ∷ rest ∷ []) (omega arith) one_after_another refl

@@ -38,7 +38,7 @@ none_asked catalogue cursor = record { catalogue = catalogue; cursor = cursor; l
 pub no_step : (catalogue : Catalogue) (cursor : Word) (steps : ℕ) → TakesSteps (none_asked catalogue cursor) Limit steps → steps ≡ 0
 no_step catalogue cursor steps t = no_entries catalogue.order cursor steps t.entries t.ends t.few
 
--- and neither does one whose last line could not be written: with the limit 0 no entry is found
+-- a listing with the limit 0 takes no steps, also where its last line could not be written
 pub stopped_at_once : (catalogue : Catalogue) (cursor reached : Word) (a b : Option (List ℕ)) (steps : ℕ)
     → TookSteps (none_asked catalogue cursor) a b reached steps → steps ≡ 0
 stopped_at_once catalogue cursor reached a b steps (inl t) = by t.within

@@ -21,7 +21,7 @@ pub record Run : Type 0 where
 abbrev pub listing_of_run : Catalogue → Word → Run → Listing
 listing_of_run c cursor run = record { catalogue = c; cursor = cursor; limit = run.limit }
 
--- it is a listing from the cursor
+-- a run is a listing from the cursor
 pub record IsListingRun (c : Catalogue) (cursor : Word) (run : Run) : Type 0 where
   pub first : AreFirst c cursor run.entries
   pub ends : EndsAs (listing_of_run c cursor run) run.entries run.ending
@@ -75,8 +75,8 @@ OnlyNamedOnesAreMissing = (c : Catalogue) (cursor last : Word) (runs : List Run)
     → (e : Entry) → IsEntry c.order c.class e → Follows e.word cursor
     → Contains (run_entries runs) e ⊎ IsNamed e.word runs
 
--- and of an order of at most 16 nothing is missing: the runs have together the entries of one listing without a limit,
--- which ends because there are no more members
+-- over all runs, up to one that ended because there were no more members, nothing of an order of at most 16 is missing:
+-- the runs have together the entries of one listing without a limit, which ends because there are no more members
 abbrev pub NothingIsMissing : Type 0
 NothingIsMissing = (c : Catalogue) (cursor last : Word) (runs : List Run) → c.order ≤ LARGEST_LISTED_ORDER
     → AreListingRuns c cursor runs last → EndsAtEnd runs

@@ -8,6 +8,6 @@ use Rattle.bk_list.specs.Listing.{Catalogue, Listing}
 abbrev pub catalogue_of : WalkState → Catalogue
 catalogue_of members = record { order = members.order; class = members.class }
 
--- those after their cursor, up to a limit
+-- the listing of these members after their cursor, up to a limit
 abbrev pub listing_of : WalkState → Option ℕ → Listing
 listing_of members limit = record { catalogue = catalogue_of members; cursor = members.cursor; limit = limit }

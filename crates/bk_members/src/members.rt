@@ -51,12 +51,12 @@ pub struct WideAt {
 /// The members of a catalogue of an order and a class, in ascending order of their words, from a word on. No call takes
 /// memory. Words and their order are our own.
 pub trait Members: Drop {
-    /// What is seen of them: the order, the class, the cursor (the word after which they go on), whether they have
-    /// ended, and how many moves were pushed.
+    /// What is seen of the members: the order, the class, the cursor (the word after which they go on), whether they
+    /// have ended, and how many moves were pushed.
     ghost at: { Self → WalkState };
 
-    /// Those after the given word, or after the word of no moves. The order is 2 to 16, and that of the word at most
-    /// 16; the word need not be legal, complete or of the catalogue's order.
+    /// The members after the given word, or after the word of no moves. The order is 2 to 16, and that of the word at
+    /// most 16; the word need not be legal, complete or of the catalogue's order.
     fn after(alloc: Global, order: u8, class: Class, from: Option<Word>) -> Self
         requires least { 2 ≤ order }
         requires most { order ≤ LARGEST_LISTED_ORDER }

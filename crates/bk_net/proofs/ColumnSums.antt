@@ -65,7 +65,7 @@ cols_from (suc n) a j q top low lo mid hi = cases (cases_lt a (q.x + q.s)) (cols
       cols_none n (a + 1) j q (λ c l k e. omega (arith, (over_from c j q e).right)),
     )
 
--- and one that lies within them at the level counts for its side
+-- a square that lies within the columns at the level counts for its side
 pub cols_all : (n a j : ℕ) (q : Square) → q.y ≤ j → j < q.y + q.s → a ≤ q.x → q.x + q.s ≤ a + n → cols n a j q ≡ q.s
 cols_all zero a j q top low lo hi = omega arith
 cols_all (suc n) a j q top low lo hi = cases (cases_lt a q.x) (cols_all n (a + 1) j q top low)
@@ -80,7 +80,7 @@ pub in_is_cols : (below : Square → ℕ) (v n a j : ℕ) (squares : List Square
 in_is_cols below v n a j [] each = refl
 in_is_cols below v n a j (q ∷ squares) each = omega (arith, each q (inl refl), in_is_cols below v n a j squares (λ r h. each r (inr h)))
 
--- and where none counts there, they are 0
+-- where no square's side counts at a node, the sides there are 0
 pub in_is_none : (below : Square → ℕ) (v : ℕ) (squares : List Square) → ((q : Square) → IsOneOf q squares → cond (nat_eq (below q) v) q.s 0 ≡ 0)
     → in_total below v squares ≡ 0
 in_is_none below v [] each = refl

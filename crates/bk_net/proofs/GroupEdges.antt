@@ -48,12 +48,12 @@ module _ (t : Tiling) (tiling : IsTiling t) (v : ℕ) (g : List Square) (e : sli
           from : (r : Square) × IsOneOf r g × (covers (row.end - 1) row.first.y r ≡ true) → row.end ≤ t.width
           from (r, k, f) = omega (arith, (over_from (row.end - 1) row.first.y r f).right, (within_of t tiling r (in_group t tiling v g e r k)).right)
 
-  -- and has a width
+  -- a group has a width
   pub some_width : (group_of t tiling v g e).0.row.first.x < (group_of t tiling v g e).0.row.end
   some_width = let w = chain_within g row.first.x row.end row.chain row.first (first_in t tiling g row) in
       omega (arith, w.1, side_of t tiling row.first first_one)
 
-  -- its sides are together as long as its columns are many
+  -- the sides of a group are together as long as its columns are many
   pub width_is : total (laid_sides g) ≡ (group_of t tiling v g e).0.row.end - (group_of t tiling v g e).0.row.first.x
   width_is = omega (arith, chain_total g row.first.x row.end row.chain)
 

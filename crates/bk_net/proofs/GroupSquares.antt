@@ -45,18 +45,18 @@ module _ (t : Tiling) (tiling : IsTiling t) where
   pub group_of : (v : ℕ) (g : List Square) → slice_get (square_groups t.squares) v ≡ Some g → IsGroup t.squares g × AllIn t.squares g
   group_of v g e = all-slice_get (λ g. IsGroup t.squares g × AllIn t.squares g) (square_groups t.squares) v g (known_groups t tiling).all e
 
-  -- so its squares are squares of the tiling
+  -- the squares of a group are squares of the tiling
   pub in_group : (v : ℕ) (g : List Square) → slice_get (square_groups t.squares) v ≡ Some g → (q : Square) → IsOneOf q g → IsOneOf q t.squares
   in_group v g e q h = in_all (λ q. IsOneOf q t.squares) g (group_of v g e).1 q h
 
-  -- its first square is in it
+  -- the first square of a group is in it
   pub first_in : (g : List Square) (k : IsRow t.squares g) → IsOneOf k.first g
   first_in g k = subst (IsOneOf k.first) (sym k.is) (inl refl)
 
-  -- its level is that of its first square's top
+  -- the level of a group is that of its first square's top
   pub level_is : (g : List Square) (k : IsRow t.squares g) → group_level g ≡ k.first.y
   level_is g k = ap group_level k.is
 
-  -- and that of the top of each of its squares
+  -- the level of a group is that of the top of each of its squares
   pub top_of : (g : List Square) (k : IsRow t.squares g) (q : Square) → IsOneOf q g → q.y ≡ k.first.y
   top_of g k q h = in_all (λ q. q.y ≡ k.first.y) g k.tops q h

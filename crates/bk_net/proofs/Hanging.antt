@@ -134,7 +134,7 @@ numbers_onto n (g ∷ h ∷ groups) q some =
     ∙ ap (λ (k : ℕ). numbers_from (n + 1) (h ∷ groups) ++ k ∷ []) (omega arith))
     ∙ sym (append_assoc (map (λ p. n) g) (numbers_from (n + 1) (h ∷ groups)) ((n + length (g ∷ h ∷ groups) - 1) ∷ []))
 
--- and its number is that of the last group
+-- the numbers of groups with one square more are those before, and that of the last group
 pub numbers_next : (b : Bool) (groups : List (List Square)) (q : Square) → (b ≡ false → 0 < length groups)
     → numbers_from 0 (with_next b groups q) ≡ numbers_from 0 groups ++ (length (with_next b groups q) - 1) ∷ []
 numbers_next true groups q some = numbers_new 0 groups q ∙ ap (λ (k : ℕ). numbers_from 0 groups ++ k ∷ []) (omega (arith, length_next true groups q))
@@ -188,14 +188,14 @@ groups_few (q ∷ r ∷ squares) = put (stands_beside q r) (square_groups (r ∷
     put true (g ∷ groups) few some = omega arith
     put false groups few some = omega arith
 
--- the same, with how many there are of each
+-- the levels and the nodes of the first squares are those of their groups, and it is known how many there are of each
 pub record AreKnown (squares : List Square) (i : ℕ) (levels nodes : List ℕ) (groups : ℕ) : Type 0 where
   pub are : AreGroups (take i squares) levels nodes groups
   pub few : groups ≤ i
   pub levels_many : length levels ≡ groups
   pub nodes_many : length nodes ≡ i
 
--- the same with how many there are
+-- what is known of the groups of the first squares, with one square more
 pub known_more : (squares : List Square) (i : ℕ) (d : Square) (levels nodes : List ℕ) (groups : ℕ) (b : Bool) → i < length squares
     → b ≡ begins_group squares i → AreKnown squares i levels nodes groups
     → AreKnown squares (i + 1) (more_levels b levels (get_or squares i d).y) (nodes ++ (cond b (groups + 1) groups - 1) ∷ []) (cond b (groups + 1) groups)

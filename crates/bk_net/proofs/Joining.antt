@@ -14,7 +14,7 @@ joined_on wires here b = b
 joined_on wires (along c a) b = along c (joined_on wires a b)
 joined_on wires (against c a) b = against c (joined_on wires a b)
 
--- and being joined goes both ways
+-- being joined goes both ways
 pub joined_back : (wires : List (ℕ × ℕ)) {u v : ℕ} → IsJoined wires u v → IsJoined wires v u
 joined_back wires here = here
 joined_back wires (along c a) = joined_on wires (joined_back wires a) (against c here)
@@ -93,7 +93,7 @@ module _ (net : Net) (labels : List ℕ) (are : AreLabels net.nodes net.wires la
   one_label (against {u} {v} {w} c j) = sym (subst (λ (e : ℕ × ℕ). slice_index labels e.0 ≡ slice_index labels e.1) c.2 (are.closed c.0 (v, u) c.1))
       ∙ one_label j
 
-  -- and nodes with one label are joined
+  -- nodes with one label are joined
   pub one_joined : (u v : ℕ) → u < net.nodes → v < net.nodes → slice_index labels u ≡ slice_index labels v → IsJoined net.wires u v
   one_joined u v a b e = joined_on net.wires (subst (IsJoined net.wires u) e (are.joined u a)) (joined_back net.wires (are.joined v b))
 

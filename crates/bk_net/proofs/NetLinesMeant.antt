@@ -9,9 +9,9 @@ use Rattle.bk_grammar.specs.Grammar.{Blanks, IsBlank, LineEnd, ◌then◌}
 use Rattle.bk_net.specs.GatheredWires.{and_wire}
 use Rattle.bk_net.specs.NetLine.{IsNetLine, Item, NetLine, NodeNumber, Skip, Wire, Wires}
 use Rattle.bk_net.specs.NetReading.{ended_wire, last_wire, net_ending_at, net_kind_of, next_net_place, with_digit}
-use Rattle.bk_net.specs.declared.reader.Ending.TheVariants.{Empty, Nodes}
-use Rattle.bk_net.specs.declared.reader.Kind.{Kind}
-use Rattle.bk_net.specs.declared.reader.Kind.TheVariants.{Blank, Dash, Digit, Other, Semicolon}
+use Rattle.bk_net.specs.declared.reader.NetEnding.TheVariants.{Empty, Nodes}
+use Rattle.bk_net.specs.declared.reader.ByteKind.{ByteKind}
+use Rattle.bk_net.specs.declared.reader.ByteKind.TheVariants.{Blank, Dash, Digit, Other, Semicolon}
 use Rattle.bk_net.specs.declared.reader.Place.{Place}
 use Rattle.bk_net.specs.declared.reader.Place.TheVariants.{BehindDash, Between, Comment as InComment, Count, First, Second, Start}
 use Rattle.bk_net.proofs.NodeDigits.{Goes_on, number_of}
@@ -21,7 +21,7 @@ use Rattle.bk_net.proofs.ReadingAll.{Means, line_at, kind_means, net_read_from}
 abbrev pub WiresRest : ℕ → List (ℕ × ℕ) → NetLine → List ℕ → Type 0
 WiresRest n ws l bs = (more : List (ℕ × ℕ)) × (Wires more then LineEnd) bs × (l ≡ Item n (ws ++ more))
 
--- the same behind a blank
+-- further wires and the end of the line, behind a blank
 abbrev pub AfterBlank : List (ℕ × ℕ) → List ℕ → Type 0
 AfterBlank [] = LineEnd
 AfterBlank (w ∷ more) = Blanks then Wire w then Wires more then LineEnd
@@ -143,7 +143,7 @@ start_comment : (ws : List (ℕ × ℕ)) (l : NetLine) (b : ℕ) (bs : List ℕ)
 start_comment ws l b bs e is none = subst (λ (k : NetLine). IsNetLine k (b ∷ bs)) (sym is) ([], b ∷ bs, refl, tt, inr (bs, ap (λ (c : ℕ). c ∷ bs) e))
 
 -- what completes a line from the next place completes it from this one, with the byte between them
-step : (p : Place) (k : Kind) (ws : List (ℕ × ℕ)) (l : NetLine) (b : ℕ) (bs : List ℕ) → Means k b
+step : (p : Place) (k : ByteKind) (ws : List (ℕ × ℕ)) (l : NetLine) (b : ℕ) (bs : List ℕ) → Means k b
     → NextRest (next_net_place p k) (and_wire (ended_wire p k) ws) l bs → RestOf p ws l (b ∷ bs)
 step Start Blank ws l b bs m h = start_blank ws l b bs m h
 step Start (Digit d) ws l b bs m h = start_digit d ws l b bs m.0 m.1 h
@@ -209,6 +209,6 @@ read_is_rest (b ∷ bs) p ws l e =
     next None f rest = absurd (cc)
     next (Some q) f rest = rest q f
 
--- so what is read from the start is a network line
+-- what is read from the start is a network line
 pub read_is_line : (bs : List ℕ) (l : NetLine) → net_read_from bs Start [] ≡ Some l → IsNetLine l bs
 read_is_line bs l e = read_is_rest bs Start [] l e refl

@@ -9,9 +9,9 @@ use Rattle.bk_grammar.specs.Grammar.{Blanks, Comment, Is, LineEnd, Nothing, Some
 use Rattle.bk_net.specs.GatheredWires.{and_wire}
 use Rattle.bk_net.specs.NetLine.{IsNetLine, Item, NetLine, NodeNumber, Skip, Wire, Wires}
 use Rattle.bk_net.specs.NetReading.{ended_wire, last_wire, net_ending_at, next_net_place, with_digit}
-use Rattle.bk_net.specs.declared.reader.Ending.{Ending}
-use Rattle.bk_net.specs.declared.reader.Ending.TheVariants.{Empty, Nodes}
-use Rattle.bk_net.specs.declared.reader.Kind.TheVariants.{Blank, Dash, Digit, Semicolon}
+use Rattle.bk_net.specs.declared.reader.NetEnding.{NetEnding}
+use Rattle.bk_net.specs.declared.reader.NetEnding.TheVariants.{Empty, Nodes}
+use Rattle.bk_net.specs.declared.reader.ByteKind.TheVariants.{Blank, Dash, Digit, Semicolon}
 use Rattle.bk_net.specs.declared.reader.Place.{Place}
 use Rattle.bk_net.specs.declared.reader.Place.TheVariants.{BehindDash, Between, Comment as InComment, Count, First, Second, Start}
 use Rattle.bk_net.proofs.NodeDigits.{Goes_on, number_from}
@@ -36,7 +36,8 @@ in_first n = record { goes = λ v d. refl; keeps = λ v d. refl }
 in_second : (n a : ℕ) → HasNumber (Second n a)
 in_second n a = record { goes = λ v d. refl; keeps = λ v d. refl }
 
-digits_read : (at : ℕ → Place) → HasNumber at → (ws : List (ℕ × ℕ)) (v n : ℕ) (ds x : List ℕ) → Goes_on v n ds → net_read_from (ds ++ x) (at v) ws ≡ net_read_from x (at n) ws
+digits_read : (at : ℕ → Place) → HasNumber at → (ws : List (ℕ × ℕ)) (v n : ℕ) (ds x : List ℕ) → Goes_on v n ds
+    → net_read_from (ds ++ x) (at v) ws ≡ net_read_from x (at n) ws
 digits_read at has ws v n [] x h = ap (λ (k : ℕ). net_read_from x (at k) ws) (sym h)
 digits_read at has ws v n (c ∷ ds) x h =
     read_next (at v) (at (v * 10 + digit_value c)) (Digit (digit_value c)) ws ws c (ds ++ x) (kind_digit c h.0)
@@ -72,7 +73,7 @@ blanks_read p ws text x next none (a, h, e) = ap (λ (z : List ℕ). net_read_fr
 
 -- ---- the end of a line
 
-comment_read : (text : List ℕ) (ending : Ending) (ws : List (ℕ × ℕ)) → net_read_from text (InComment ending) ws ≡ Some (line_of ending ws)
+comment_read : (text : List ℕ) (ending : NetEnding) (ws : List (ℕ × ℕ)) → net_read_from text (InComment ending) ws ≡ Some (line_of ending ws)
 comment_read [] ending ws = refl
 comment_read (b ∷ bs) ending ws = comment_read bs ending ws
 
@@ -108,7 +109,8 @@ end_read p n ws vs bs c (b ∷ a, x, e, blanks, h) =
     ∙ skipped (Between n) vs a x refl refl blanks.1
     ∙ bare_end (Between n) n vs vs x (between_closes n vs) h
 
-gap_read : (p : Place) (n : ℕ) (ws vs : List (ℕ × ℕ)) (text x : List ℕ) → Closes p n ws vs → Reads SomeBlanks text x → net_read_from text p ws ≡ net_read_from x (Between n) vs
+gap_read : (p : Place) (n : ℕ) (ws vs : List (ℕ × ℕ)) (text x : List ℕ) → Closes p n ws vs → Reads SomeBlanks text x
+    → net_read_from text p ws ≡ net_read_from x (Between n) vs
 gap_read p n ws vs text x c ([], h, e) = absurd (omega (arith, h.0))
 gap_read p n ws vs text x c (b ∷ a, h, e) =
     ap (λ (z : List ℕ). net_read_from z p ws) e
@@ -117,7 +119,8 @@ gap_read p n ws vs text x c (b ∷ a, h, e) =
 
 -- ---- wires
 
-wire_read : (n a b : ℕ) (ws : List (ℕ × ℕ)) (text x : List ℕ) → Reads (Wire (a, b)) text x → net_read_from text (Between n) ws ≡ net_read_from x (Second n a b) ws
+wire_read : (n a b : ℕ) (ws : List (ℕ × ℕ)) (text x : List ℕ) → Reads (Wire (a, b)) text x
+    → net_read_from text (Between n) ws ≡ net_read_from x (Second n a b) ws
 wire_read n a b ws text x r =
     let first = reads_parts (NodeNumber a) (Is (codes "-") then NodeNumber b) text x r in
     let dash = reads_parts (Is (codes "-")) (NodeNumber b) first.0 x first.2 in

@@ -10,8 +10,8 @@ use Rattle.bk_net.specs.NetReading.{ended_wire, last_wire, net_ending_at, net_ki
 use Rattle.bk_net.specs.declared.NetFault.{NetFault}
 use Rattle.bk_net.specs.declared.NetFault.TheVariants.{Many, Nodes as NodesFault, Text, Wire}
 use Rattle.bk_net.specs.declared.NetLine.{NetLine as NetLineRead}
-use Rattle.bk_net.specs.declared.reader.Ending.{Ending}
-use Rattle.bk_net.specs.declared.reader.Ending.TheVariants.{Empty, Nodes}
+use Rattle.bk_net.specs.declared.reader.NetEnding.{NetEnding}
+use Rattle.bk_net.specs.declared.reader.NetEnding.TheVariants.{Empty, Nodes}
 use Rattle.bk_net.specs.declared.reader.Place.{Place}
 use Rattle.bk_net.specs.declared.reader.Place.TheVariants.{Start}
 use Rattle.bk_net.proofs.NetLinesMeant.{read_is_line}
@@ -60,7 +60,7 @@ pub progress_all : (bs : List ℕ) (i : ℕ) (p : Place) (kept : List (ℕ × �
 progress_all bs i p kept many all progress = subst (λ (z : List ℕ). Progress z p kept many) (take_all i bs all) progress
 
 -- at an end the bytes are a line
-whole_line : (bs : List ℕ) (p : Place) (ws : List (ℕ × ℕ)) (ending : Ending) → Leads bs p ws → net_ending_at p ≡ Some ending
+whole_line : (bs : List ℕ) (p : Place) (ws : List (ℕ × ℕ)) (ending : NetEnding) → Leads bs p ws → net_ending_at p ≡ Some ending
     → IsNetLine (line_of ending (and_wire (last_wire p) ws)) bs
 whole_line bs p ws ending leads e =
     read_is_line bs (line_of ending (and_wire (last_wire p) ws)) (read_whole bs p ws leads ∙ ap (λ o. line_at o (and_wire (last_wire p) ws)) e)
@@ -109,7 +109,7 @@ one_fault (NodesFault count) bs nodes kept many h few none = (
 )
 one_fault (Wire place) bs nodes kept many h few none = (nodes, kept, all_kept bs nodes kept many h none.0, few, none.1, none.2)
 
--- and a line that is refused has the fault that is told
+-- a network line that is refused has the fault that is told
 pub fault_is : (r : Result NetLineRead NetFault) (bs : List ℕ) (nodes : ℕ) (kept : List (ℕ × ℕ)) (many : Bool) → HasWires bs nodes kept many
     → length kept ≤ 200 → IfErr r (IsNoNet nodes many kept) → IfErr r (λ fault. IsNetFaultOf fault bs)
 fault_is (Ok l) bs nodes kept many h few none = tt

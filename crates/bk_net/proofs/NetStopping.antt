@@ -47,7 +47,8 @@ no_more : (front : List ℕ) (p : Place) (ws : List (ℕ × ℕ)) (b : ℕ) (x :
     → ¬ (SomeNetLine (front ++ b ∷ x))
 no_more front p ws b x leads none (l, line) =
     let read' : net_read_from (b ∷ x) p ws ≡ Some l = sym (leads (b ∷ x)) ∙ line_is_read l (front ++ b ∷ x) line in
-    let stopped : net_read_from (b ∷ x) p ws ≡ None = ap (λ next. option_and_then (λ q. net_read_from x q (and_wire (ended_wire p (net_kind_of b)) ws)) next) none in
+    let stopped : net_read_from (b ∷ x) p ws ≡ None =
+    ap (λ next. option_and_then (λ q. net_read_from x q (and_wire (ended_wire p (net_kind_of b)) ws)) next) none in
     absurd (cc)
 
 -- the bytes leave the grammar where the reader has no place for the next one
@@ -57,7 +58,8 @@ stops_at bs at p ws within leads none =
     leaves_before SomeNetLine bs at within (begins (take at bs) p ws leads) (λ x. no_more (take at bs) p ws (get_or bs at 0) x leads none)
 
 -- at the end of the bytes the reader has read what the place and the wires tell
-pub read_whole : (bs : List ℕ) (p : Place) (ws : List (ℕ × ℕ)) → Leads bs p ws → net_read_from bs Start [] ≡ line_at (net_ending_at p) (and_wire (last_wire p) ws)
+pub read_whole : (bs : List ℕ) (p : Place) (ws : List (ℕ × ℕ)) → Leads bs p ws
+    → net_read_from bs Start [] ≡ line_at (net_ending_at p) (and_wire (last_wire p) ws)
 read_whole bs p ws leads = ap (λ z. net_read_from z Start []) (sym (append-nil bs)) ∙ leads []
 
 -- bytes that end where no line may end leave the grammar at their end

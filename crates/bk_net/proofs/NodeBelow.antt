@@ -70,13 +70,13 @@ module _ (t : Tiling) (tiling : IsTiling t) where
         )),
       )
 
-  -- so it finds at most one group, and the place of this group is the node below
+  -- the test finds at most one group, and the place of this group is the node below
   pub has_node_below : (q : Square) → IsOneOf q t.squares
       → HasGroup (λ r. nat_eq r.y (q.y + q.s) && covers_column q.x r) (square_groups t.squares) (node_below (square_groups t.squares) q)
   has_node_below q h = has_group (λ r. nat_eq r.y (q.y + q.s) && covers_column q.x r) (square_groups t.squares)
       (omega (arith, ap (count_by (λ r. nat_eq r.y (q.y + q.s) && covers_column q.x r)) (row_is t tiling), tests_once q h))
 
-  -- it is the bottom, or a group whose level is the square's bottom
+  -- the node below a square is the bottom, or a group whose level is the square's bottom
   pub record StandsOn (q : Square) : Type 0 where
     pub is : ((node_below (square_groups t.squares) q ≡ length (square_groups t.squares)) × (q.y + q.s ≡ t.height))
         ⊎ ((g : List Square) × (slice_get (square_groups t.squares) (node_below (square_groups t.squares) q) ≡ Some g) × (group_level g ≡ q.y + q.s))

@@ -25,7 +25,8 @@ use Rattle.bk_net.proofs.NodeBelow.{below_from, has_node_below}
 use Rattle.bk_net.proofs.SidesFlow.{the_one_flow}
 use Rattle.bk_net.proofs.SmithLists.{HasGroup, count_at}
 use Rattle.bk_net.specs.Diagram.{node_below, smith_diagram}
-use Rattle.bk_net.specs.GroupNumbers.{group_numbers, is_no_later}
+use Rattle.bk_net.specs.CellOrder.{is_no_later}
+use Rattle.bk_net.specs.GroupNumbers.{group_numbers}
 use Rattle.bk_net.proofs.SquareNumbers.{wires_by, wires_by-groups, wires_by-at, wires_by-length, numbers-length, HasNumber}
 use Rattle.bk_net.proofs.SquareNumbers.{has_number, no_later_to, no_later_from}
 
@@ -167,7 +168,7 @@ module _ (t : Tiling) (tiling : IsTiling t) where
   pub numbers_many : length (group_numbers t.squares) ≡ length t.squares
   numbers_many = numbers-length 0 (square_groups t.squares) ∙ ap length (row_is t tiling)
 
-  -- and a wire
+  -- there is a wire for each square
   pub wires_many : length (smith_diagram t).wires ≡ length t.squares
   wires_many = ap length wires_are ∙ wires_by-length (node_below (square_groups t.squares)) (group_numbers t.squares) t.squares numbers_many
 
@@ -180,13 +181,13 @@ module _ (t : Tiling) (tiling : IsTiling t) where
   wire_at i q d h = ap (λ (ws : List (ℕ × ℕ)). slice_index_or ws i d) wires_are
       ∙ wires_by-at (node_below (square_groups t.squares)) (group_numbers t.squares) t.squares i d q (omega (arith, numbers_many)) h
 
-  -- its ends
+  -- two ends of a wire: two different nodes
   pub record HasEnds (from to : ℕ) : Type 0 where
     pub from_node : from < length (square_groups t.squares) + 1
     pub to_node : to < length (square_groups t.squares) + 1
     pub differ : from ≢ to
 
-  -- and its two ends are two nodes
+  -- the ends of the wire of a square are two nodes
   pub ends_at : (i : ℕ) (q : Square) → i < length t.squares
       → HasEnds (slice_index (group_numbers t.squares) i) (node_below (square_groups t.squares) (slice_index_or t.squares i q))
   ends_at i q h = record { from_node = here.0; to_node = here.1; differ = here.2 }

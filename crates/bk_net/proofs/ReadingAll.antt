@@ -12,19 +12,19 @@ use Rattle.bk_grammar.specs.Grammar.{IsBlank}
 use Rattle.bk_net.specs.GatheredWires.{and_wire}
 use Rattle.bk_net.specs.NetLine.{Item, NetLine, Skip}
 use Rattle.bk_net.specs.NetReading.{ended_wire, last_wire, net_ending_at, net_kind_of, next_net_place}
-use Rattle.bk_net.specs.declared.reader.Ending.{Ending}
-use Rattle.bk_net.specs.declared.reader.Ending.TheVariants.{Empty, Nodes}
-use Rattle.bk_net.specs.declared.reader.Kind.{Kind}
-use Rattle.bk_net.specs.declared.reader.Kind.TheVariants.{Blank, Dash, Digit, Other, Semicolon}
+use Rattle.bk_net.specs.declared.reader.NetEnding.{NetEnding}
+use Rattle.bk_net.specs.declared.reader.NetEnding.TheVariants.{Empty, Nodes}
+use Rattle.bk_net.specs.declared.reader.ByteKind.{ByteKind}
+use Rattle.bk_net.specs.declared.reader.ByteKind.TheVariants.{Blank, Dash, Digit, Other, Semicolon}
 use Rattle.bk_net.specs.declared.reader.Place.{Place}
 
 -- what a line stands for
-abbrev pub line_of : Ending → List (ℕ × ℕ) → NetLine
+abbrev pub line_of : NetEnding → List (ℕ × ℕ) → NetLine
 line_of Empty wires = Skip
 line_of (Nodes n) wires = Item n wires
 
--- the same where a line may not end
-abbrev pub line_at : Option Ending → List (ℕ × ℕ) → Option NetLine
+-- what a line stands for, or nothing where a line may not end
+abbrev pub line_at : Option NetEnding → List (ℕ × ℕ) → Option NetLine
 line_at None wires = None
 line_at (Some e) wires = Some (line_of e wires)
 
@@ -34,7 +34,7 @@ net_read_from [] p wires = line_at (net_ending_at p) (and_wire (last_wire p) wir
 net_read_from (b ∷ bs) p wires = option_and_then (λ q. net_read_from bs q (and_wire (ended_wire p (net_kind_of b)) wires)) (next_net_place p (net_kind_of b))
 
 -- a further byte of a known kind
-pub read_next : (p q : Place) (k : Kind) (ws vs : List (ℕ × ℕ)) (b : ℕ) (bs : List ℕ) → net_kind_of b ≡ k → next_net_place p k ≡ Some q
+pub read_next : (p q : Place) (k : ByteKind) (ws vs : List (ℕ × ℕ)) (b : ℕ) (bs : List ℕ) → net_kind_of b ≡ k → next_net_place p k ≡ Some q
     → and_wire (ended_wire p k) ws ≡ vs → net_read_from (b ∷ bs) p ws ≡ net_read_from bs q vs
 read_next p q k ws vs b bs kind next wires =
     ap (λ k. option_and_then (λ q. net_read_from bs q (and_wire (ended_wire p k) ws)) (next_net_place p k)) kind
@@ -42,14 +42,14 @@ read_next p q k ws vs b bs kind next wires =
     ∙ ap (net_read_from bs q) wires
 
 -- what is known of a byte of each kind
-abbrev pub Means : Kind → ℕ → Type 0
+abbrev pub Means : ByteKind → ℕ → Type 0
 Means Blank b = IsBlank b
 Means (Digit d) b = (digit_value b ≡ d) × (digit_value b < 10)
 Means Dash b = b ≡ 45
 Means Semicolon b = b ≡ 59
 Means Other b = Unit {0}
 
-either : (test : Bool) (one two : Kind) (b : ℕ) → (test ≡ true → Means one b) → Means two b → Means (if test then one else two) b
+either : (test : Bool) (one two : ByteKind) (b : ℕ) → (test ≡ true → Means one b) → Means two b → Means (if test then one else two) b
 either true one two b yes' no' = yes' refl
 either false one two b yes' no' = no'
 
@@ -67,7 +67,7 @@ kind_blank b (inl e) = ap net_kind_of e
 kind_blank b (inr (inl e)) = ap net_kind_of e
 kind_blank b (inr (inr e)) = ap net_kind_of e
 
--- and a digit has the kind of digits, with its value
+-- a digit has the kind of digits, with its value
 pub kind_digit : (b : ℕ) → digit_value b < 10 → net_kind_of b ≡ Digit (digit_value b)
 kind_digit b small =
     let range = digit_from_value b small in

@@ -153,6 +153,6 @@ module _ (t : Tiling) (tiling : IsTiling t) where
     one_flow (smith_diagram t) (ends_from_net (smith_diagram t) net) no_loose (smith_flow t) flow (omega (arith, ints, wide_enough t tiling)),
   )
 
--- the same as the statement says it
+-- the sides of a tiling are the one flow of its Smith diagram, as the statement says it
 pub sides_are_the_one_flow : SidesAreTheOneFlow
 sides_are_the_one_flow t tiling = the_one_flow t tiling

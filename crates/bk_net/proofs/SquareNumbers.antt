@@ -14,7 +14,7 @@ use Rattle.bk_tiling.specs.Tiling.{IsOneOf}
 use Rattle.bk_tiling.specs.declared.Square.{Square}
 use Rattle.bk_net.proofs.Hanging.{numbers_from}
 use Rattle.bk_net.proofs.SmithLists.{group_wires}
-use Rattle.bk_net.specs.GroupNumbers.{is_no_later}
+use Rattle.bk_net.specs.CellOrder.{is_no_later}
 
 -- ---- wires by squares
 
@@ -124,7 +124,7 @@ later_from x y q r a b = grind (arith, nat_tests)
 pub no_later_to : (x y : ℕ) (r : Square) → is_no_later x y r ≡ true → (r.y < y) ⊎ ((r.y ≡ y) × (r.x ≤ x))
 no_later_to x y r e = grind (arith, nat_tests)
 
--- and one at its level and no further to the right is no later
+-- a square at the level of a point and no further to the right is no later than it
 pub no_later_from : (x y : ℕ) (r : Square) → r.y ≡ y → r.x ≤ x → is_no_later x y r ≡ true
 no_later_from x y r a b = grind (arith, nat_tests)
 

@@ -80,12 +80,14 @@ module _ (t : Tiling) (tiling : IsTiling t) where
             count_row (covers 0 0) (known_groups t tiling).group (known_groups t tiling).others,
             count_at (covers 0 0) (known_groups t tiling).others v,
             ap (count_by (covers 0 0))
-                (get_index (known_groups t tiling).others v g (subst (λ (gs : List (List Square)). slice_get gs (suc v) ≡ Some g) (known_groups t tiling).is e)),
+                (get_index (known_groups t tiling).others v g
+                (subst (λ (gs : List (List Square)). slice_get gs (suc v) ≡ Some g) (known_groups t tiling).is e)),
             one_counted (covers 0 0) g (group_of t tiling (suc v) g e).0.row.first (first_in t tiling g (group_of t tiling (suc v) g e).0.row)
                 (covers_from 0 0 (group_of t tiling (suc v) g e).0.row.first (omega arith)
                 (omega (arith, side_of t tiling (group_of t tiling (suc v) g e).0.row.first (first_one t tiling (suc v) g e))) (omega arith)
                 (omega (arith, side_of t tiling (group_of t tiling (suc v) g e).0.row.first (first_one t tiling (suc v) g e)))),
-            one_counted (covers 0 0) (known_groups t tiling).group (known_groups t tiling).own.row.first (first_in t tiling (known_groups t tiling).group (known_groups t tiling).own.row)
+            one_counted (covers 0 0) (known_groups t tiling).group (known_groups t tiling).own.row.first
+                (first_in t tiling (known_groups t tiling).group (known_groups t tiling).own.row)
                 (covers_from 0 0 (known_groups t tiling).own.row.first (omega (arith, own_x)) (omega (arith, own_x, own_side)) (omega (arith, own_y))
                 (omega (arith, own_y, own_side))),
           )
@@ -97,5 +99,6 @@ module _ (t : Tiling) (tiling : IsTiling t) where
               own_y = ap (λ (s : Square). s.y) (known_groups t tiling).at_first ∙ (known_groups t tiling).y
 
               own_side : 0 < (known_groups t tiling).own.row.first.s
-              own_side = side_of t tiling (known_groups t tiling).own.row.first (in_group t tiling 0 (known_groups t tiling).group top_group (known_groups t tiling).own.row.first
+              own_side = side_of t tiling (known_groups t tiling).own.row.first
+                  (in_group t tiling 0 (known_groups t tiling).group top_group (known_groups t tiling).own.row.first
                   (first_in t tiling (known_groups t tiling).group (known_groups t tiling).own.row))

@@ -1,7 +1,7 @@
--- The number of each square's group, and the order of squares and cells.
+-- The number of each square's group.
 -- Example (DiagramExamples): of [2,1][1] the squares have the group numbers 0, 0, 1.
 use Rattle.std.specs.List.{enumerate_from, flat_map}
-use Rattle.std.specs.Prelude.{Bool, List, map, nat_eq, nat_le, nat_lt, ℕ, ◌&&◌, ◌||◌}
+use Rattle.std.specs.Prelude.{List, map, ℕ}
 use Rattle.bk_tiling.specs.SquareGroups.{square_groups}
 use Rattle.bk_tiling.specs.declared.Square.{Square}
 
@@ -12,8 +12,3 @@ numbered (node, group) = map (λ q. node) group
 -- the number of the group of each square, in the order of the squares
 abbrev pub group_numbers : List Square → List ℕ
 group_numbers squares = flat_map numbered (enumerate_from 0 (square_groups squares))
-
--- the square's corner is at a higher level than the cell in column x at level y, or at its level and no further to the
--- right
-abbrev pub is_no_later : ℕ → ℕ → Square → Bool
-is_no_later x y r = nat_lt r.y y || (nat_eq r.y y && nat_le r.x x)

@@ -1,4 +1,5 @@
 -- What the crate says.
+pub mod CellOrder
 pub mod Diagram
 pub mod Flow
 pub mod KeptNet

@@ -3,15 +3,15 @@
 -- digit follows the number 0.
 use Rattle.std.specs.Prelude.{None, Option, Some, if◌then◌else◌, nat_le, nat_lt, option_map, ℕ, ◌&&◌, ◌*◌, ◌+◌, ◌-◌}
 use Rattle.std.specs.Prelude.{◌==◌, ◌||◌}
-use Rattle.bk_net.specs.declared.reader.Ending.{Ending}
-use Rattle.bk_net.specs.declared.reader.Ending.TheVariants.{Empty, Nodes}
-use Rattle.bk_net.specs.declared.reader.Kind.{Kind}
-use Rattle.bk_net.specs.declared.reader.Kind.TheVariants.{Blank, Dash, Digit, Other, Semicolon}
+use Rattle.bk_net.specs.declared.reader.NetEnding.{NetEnding}
+use Rattle.bk_net.specs.declared.reader.NetEnding.TheVariants.{Empty, Nodes}
+use Rattle.bk_net.specs.declared.reader.ByteKind.{ByteKind}
+use Rattle.bk_net.specs.declared.reader.ByteKind.TheVariants.{Blank, Dash, Digit, Other, Semicolon}
 use Rattle.bk_net.specs.declared.reader.Place.{Place}
 use Rattle.bk_net.specs.declared.reader.Place.TheVariants.{BehindDash, Between, Comment, Count, First, Second, Start}
 
 -- what a byte is to the grammar
-abbrev pub net_kind_of : ℕ → Kind
+abbrev pub net_kind_of : ℕ → ByteKind
 net_kind_of b =
     if nat_le 48 b && nat_le b 57 then Digit (b - 48)
     else if (b == 32) || ((b == 9) || (b == 13)) then Blank
@@ -23,8 +23,8 @@ net_kind_of b =
 abbrev pub with_digit : ℕ → ℕ → Option ℕ
 with_digit value digit = if nat_lt 0 value && nat_lt value 100 then Some (value * 10 + digit) else None
 
--- behind a further byte, or nothing where no line goes on with it
-abbrev pub next_net_place : Place → Kind → Option Place
+-- where the reader stands behind a further byte, or nothing where no line goes on with it
+abbrev pub next_net_place : Place → ByteKind → Option Place
 next_net_place Start Blank = Some Start
 next_net_place Start (Digit digit) = Some (Count digit)
 next_net_place Start Semicolon = Some (Comment Empty)
@@ -44,7 +44,7 @@ next_net_place (Comment ending) kind = Some (Comment ending)
 next_net_place place kind = None
 
 -- the wire that ends before a further byte
-abbrev pub ended_wire : Place → Kind → Option (ℕ × ℕ)
+abbrev pub ended_wire : Place → ByteKind → Option (ℕ × ℕ)
 ended_wire (Second nodes from to) Blank = Some (from, to)
 ended_wire (Second nodes from to) Semicolon = Some (from, to)
 ended_wire place kind = None
@@ -55,7 +55,7 @@ last_wire (Second nodes from to) = Some (from, to)
 last_wire place = None
 
 -- what a line is that ends here, or nothing where none does
-abbrev pub net_ending_at : Place → Option Ending
+abbrev pub net_ending_at : Place → Option NetEnding
 net_ending_at Start = Some Empty
 net_ending_at (Count nodes) = Some (Nodes nodes)
 net_ending_at (Between nodes) = Some (Nodes nodes)

@@ -31,7 +31,7 @@ pub record IsFirstFault (nodes : ℕ) (wires : List (ℕ × ℕ)) (place : ℕ) 
   pub here : HoldsAt (λ w. ¬ (JoinsNodes nodes w)) wires before
   pub earlier : (k : ℕ) → k < before → HoldsAt (JoinsNodes nodes) wires k
 
--- 2 to 201
+-- a number of nodes that a net may have: 2 to 201
 abbrev pub IsNodeCount : ℕ → Type 0
 IsNodeCount nodes = (2 ≤ nodes) × (nodes ≤ MOST_NODES)
 

@@ -2,9 +2,10 @@
 #![tactic(auto)]
 
 ghost use Rattle.std.specs.Prelude.{length, map, slice_index, ◌+◌, ◌<◌, ◌≡◌, ◌≢◌};
+ghost use Rattle.bk_net.specs.CellOrder.{is_no_later};
 ghost use Rattle.bk_net.specs.Diagram.{group_level, node_below, node_levels, smith_diagram};
 ghost use Rattle.bk_net.specs.Flow.{IsOneFlow};
-ghost use Rattle.bk_net.specs.GroupNumbers.{group_numbers, is_no_later};
+ghost use Rattle.bk_net.specs.GroupNumbers.{group_numbers};
 ghost use Rattle.bk_net.specs.Net.{HasNoLoose};
 ghost use Rattle.bk_net.specs.SmithFlow.{smith_flow};
 ghost use Rattle.bk_tiling.specs.SquareGroups.{square_groups};
@@ -15,9 +16,9 @@ use arrayvec::ArrayVec;
 use bk_tiling::{MOST_SQUARES, Square, Tiling};
 
 /// The Smith diagram of a tiling, and the level of each node (Brooks, Smith, Stone and Tutte 1940). The nodes are the
-/// groups of the code and then the bottom, so squares that touch at one level hang from one node (own). A square's wire
-/// leads from its group to the one on whose segment it stands, or to the bottom; the wires come in code order. No node
-/// is loose, and the sides are the one flow of the diagram.
+/// groups of the code and then the bottom, so squares that touch at one level hang from one node (our own rule). A
+/// square's wire leads from its group to the one on whose segment it stands, or to the bottom; the wires come in code
+/// order. No node is loose, and the sides are the one flow of the diagram.
 pub fn net_of(tiling: &Tiling) -> (Net, ArrayVec<u64, MOST_NODES>)
     ensures diagram { result.0 ≡ smith_diagram tiling.now }
     ensures levels { result.1.items ≡ node_levels tiling.now }
@@ -92,8 +93,9 @@ fn place_below(tiling: &Tiling, q: Square) -> usize
     after - 1
 }
 
-// Whether the square's corner comes no later than the cell, from top to bottom and from left to right.
-fn is_no_later(r: &Square, x: u64, y: u64) -> bool
+/// Whether a square's corner comes no later than the cell in column `x` at level `y`, in the code order: from top to
+/// bottom and from left to right.
+pub fn is_no_later(r: &Square, x: u64, y: u64) -> bool
     ensures { result ≡ is_no_later x y r.now }
 {
     r.y < y || (r.y == y && r.x <= x)

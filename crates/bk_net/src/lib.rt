@@ -12,7 +12,7 @@ mod read;
 mod reader;
 
 use arrayvec::ArrayVec;
-pub use diagram::net_of;
+pub use diagram::{is_no_later, net_of};
 use labels::labels_of;
 pub use laws::{a_joined_net_has_one_flow, a_net_line_has_one_meaning, sides_are_the_one_flow};
 pub use read::read_net;

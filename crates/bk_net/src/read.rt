@@ -6,7 +6,7 @@ ghost use Rattle.bk_net.specs.GatheredWires.{IsNoNet, KeepsWires, and_wire};
 ghost use Rattle.bk_net.specs.NetLine.{IsNetLine, Item};
 ghost use Rattle.bk_net.specs.ReadNet.{IsFirstFault, IsKeptLine, IsNetFaultOf, IsNodeCount, JoinsNodes, net_line_of};
 
-use crate::reader::{Ending, Place, kind_of};
+use crate::reader::{NetEnding, Place, kind_of};
 use crate::{MOST_NODES, MOST_WIRES, Net, NetFault, NetLine};
 use arrayvec::ArrayVec;
 
@@ -36,8 +36,8 @@ pub fn read_net(line: &[u8]) -> Result<NetLine, NetFault>
     };
     many = with_wire(&mut wires, many, place.last_wire());
     match ending {
-        Ending::Empty => Ok(NetLine::Skip),
-        Ending::Nodes(nodes) => net_item(nodes, many, &wires),
+        NetEnding::Empty => Ok(NetLine::Skip),
+        NetEnding::Nodes(nodes) => net_item(nodes, many, &wires),
     }
 }
 

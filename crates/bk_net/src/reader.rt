@@ -7,7 +7,7 @@ ghost use Rattle.bk_net.specs.NetReading.{last_wire as last, next_net_place, wit
 
 /// What a byte is to the grammar of network lines; a digit with its value.
 #[derive(Clone, Copy)]
-pub enum Kind {
+pub enum ByteKind {
     Blank,
     Digit(u8),
     Dash,
@@ -17,7 +17,7 @@ pub enum Kind {
 
 /// What a line is, once it could end: nothing, or a net of so many nodes.
 #[derive(Clone, Copy)]
-pub enum Ending {
+pub enum NetEnding {
     Empty,
     Nodes(u16),
 }
@@ -31,19 +31,19 @@ pub enum Place {
     First(u16, u16),
     BehindDash(u16, u16),
     Second(u16, u16, u16),
-    Comment(Ending),
+    Comment(NetEnding),
 }
 
 // What a byte is to the grammar.
-pub(crate) fn kind_of(byte: u8) -> Kind
+pub(crate) fn kind_of(byte: u8) -> ByteKind
     ensures { result ≡ kind_of_byte byte }
 {
     match byte {
-        b'0'..=b'9' => Kind::Digit(byte - b'0'),
-        b' ' | b'\t' | b'\r' => Kind::Blank,
-        b'-' => Kind::Dash,
-        b';' => Kind::Semicolon,
-        _ => Kind::Other,
+        b'0'..=b'9' => ByteKind::Digit(byte - b'0'),
+        b' ' | b'\t' | b'\r' => ByteKind::Blank,
+        b'-' => ByteKind::Dash,
+        b';' => ByteKind::Semicolon,
+        _ => ByteKind::Other,
     }
 }
 
@@ -60,7 +60,7 @@ fn with_digit(value: u16, digit: u8) -> Option<u16>
 
 impl Place {
     // The place behind a further byte, or `None` where no line goes on with it.
-    pub(crate) fn next(self, kind: Kind) -> Option<Place>
+    pub(crate) fn next(self, kind: ByteKind) -> Option<Place>
         ensures { result ≡ next_net_place self kind }
     {
         match self {
@@ -69,7 +69,7 @@ impl Place {
             Place::Between(nodes) => between(nodes, kind),
             Place::First(nodes, from) => in_first(nodes, from, kind),
             Place::BehindDash(nodes, from) => match kind {
-                Kind::Digit(digit) => Some(Place::Second(nodes, from, u16::from(digit))),
+                ByteKind::Digit(digit) => Some(Place::Second(nodes, from, u16::from(digit))),
                 _ => None,
             },
             Place::Second(nodes, from, to) => in_second(nodes, from, to, kind),
@@ -78,11 +78,11 @@ impl Place {
     }
 
     // The wire that ends before a further byte.
-    pub(crate) fn ended_wire(self, kind: Kind) -> Option<(u16, u16)>
+    pub(crate) fn ended_wire(self, kind: ByteKind) -> Option<(u16, u16)>
         ensures { result ≡ ended_before self kind }
     {
         match (self, kind) {
-            (Place::Second(_, from, to), Kind::Blank | Kind::Semicolon) => Some((from, to)),
+            (Place::Second(_, from, to), ByteKind::Blank | ByteKind::Semicolon) => Some((from, to)),
             _ => None,
         }
     }
@@ -98,13 +98,13 @@ impl Place {
     }
 
     // What a line is that ends here, or `None` where none does.
-    pub(crate) fn ending(self) -> Option<Ending>
+    pub(crate) fn ending(self) -> Option<NetEnding>
         ensures { result ≡ net_ending_at self }
     {
         match self {
-            Place::Start => Some(Ending::Empty),
+            Place::Start => Some(NetEnding::Empty),
             Place::Count(nodes) | Place::Between(nodes) | Place::Second(nodes, _, _) => {
-                Some(Ending::Nodes(nodes))
+                Some(NetEnding::Nodes(nodes))
             }
             Place::Comment(ending) => Some(ending),
             Place::First(_, _) | Place::BehindDash(_, _) => None,
@@ -112,56 +112,56 @@ impl Place {
     }
 }
 
-fn at_start(kind: Kind) -> Option<Place>
+fn at_start(kind: ByteKind) -> Option<Place>
     ensures { result ≡ next_net_place Place.Start kind }
 {
     match kind {
-        Kind::Blank => Some(Place::Start),
-        Kind::Digit(digit) => Some(Place::Count(u16::from(digit))),
-        Kind::Semicolon => Some(Place::Comment(Ending::Empty)),
+        ByteKind::Blank => Some(Place::Start),
+        ByteKind::Digit(digit) => Some(Place::Count(u16::from(digit))),
+        ByteKind::Semicolon => Some(Place::Comment(NetEnding::Empty)),
         _ => None,
     }
 }
 
-fn in_count(nodes: u16, kind: Kind) -> Option<Place>
+fn in_count(nodes: u16, kind: ByteKind) -> Option<Place>
     ensures { result ≡ next_net_place (Place.Count nodes) kind }
 {
     match kind {
-        Kind::Blank => Some(Place::Between(nodes)),
-        Kind::Digit(digit) => with_digit(nodes, digit).map(Place::Count),
-        Kind::Semicolon => Some(Place::Comment(Ending::Nodes(nodes))),
+        ByteKind::Blank => Some(Place::Between(nodes)),
+        ByteKind::Digit(digit) => with_digit(nodes, digit).map(Place::Count),
+        ByteKind::Semicolon => Some(Place::Comment(NetEnding::Nodes(nodes))),
         _ => None,
     }
 }
 
-fn between(nodes: u16, kind: Kind) -> Option<Place>
+fn between(nodes: u16, kind: ByteKind) -> Option<Place>
     ensures { result ≡ next_net_place (Place.Between nodes) kind }
 {
     match kind {
-        Kind::Blank => Some(Place::Between(nodes)),
-        Kind::Digit(digit) => Some(Place::First(nodes, u16::from(digit))),
-        Kind::Semicolon => Some(Place::Comment(Ending::Nodes(nodes))),
+        ByteKind::Blank => Some(Place::Between(nodes)),
+        ByteKind::Digit(digit) => Some(Place::First(nodes, u16::from(digit))),
+        ByteKind::Semicolon => Some(Place::Comment(NetEnding::Nodes(nodes))),
         _ => None,
     }
 }
 
-fn in_first(nodes: u16, from: u16, kind: Kind) -> Option<Place>
+fn in_first(nodes: u16, from: u16, kind: ByteKind) -> Option<Place>
     ensures { result ≡ next_net_place (Place.First nodes from) kind }
 {
     match kind {
-        Kind::Digit(digit) => with_digit(from, digit).map(|from| Place::First(nodes, from)),
-        Kind::Dash => Some(Place::BehindDash(nodes, from)),
+        ByteKind::Digit(digit) => with_digit(from, digit).map(|from| Place::First(nodes, from)),
+        ByteKind::Dash => Some(Place::BehindDash(nodes, from)),
         _ => None,
     }
 }
 
-fn in_second(nodes: u16, from: u16, to: u16, kind: Kind) -> Option<Place>
+fn in_second(nodes: u16, from: u16, to: u16, kind: ByteKind) -> Option<Place>
     ensures { result ≡ next_net_place (Place.Second nodes from to) kind }
 {
     match kind {
-        Kind::Blank => Some(Place::Between(nodes)),
-        Kind::Digit(digit) => with_digit(to, digit).map(|to| Place::Second(nodes, from, to)),
-        Kind::Semicolon => Some(Place::Comment(Ending::Nodes(nodes))),
+        ByteKind::Blank => Some(Place::Between(nodes)),
+        ByteKind::Digit(digit) => with_digit(to, digit).map(|to| Place::Second(nodes, from, to)),
+        ByteKind::Semicolon => Some(Place::Comment(NetEnding::Nodes(nodes))),
         _ => None,
     }
 }

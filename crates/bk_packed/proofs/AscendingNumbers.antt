@@ -95,7 +95,7 @@ pub low_half : (xs : List ℕ) → AreAscendingNumbers xs → All (λ y. y < sli
 low_half [] asc = tt
 low_half (x ∷ xs) asc = less_before (x ∷ xs) (suc (length xs) / 2) asc (omega arith)
 
--- which is less than what is above all
+-- the number in the middle is not above what all numbers are below
 pub least_below : (xs : List ℕ) (bound : ℕ) → All (λ y. y < bound) xs → slice_index xs (length xs / 2) ≤ bound
 least_below [] bound all = omega arith
 least_below (x ∷ xs) bound all =

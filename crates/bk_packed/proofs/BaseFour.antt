@@ -11,7 +11,7 @@ use Rattle.bk_packed.specs.Packed.{AreDigits, begun_by}
 pub begun-cons : (room d : ℕ) (ds : List ℕ) → begun_by (suc room) (d ∷ ds) ≡ d * 4 ^ room + begun_by room ds
 begun-cons room d ds = let e : suc room - 1 ≡ room = omega arith in ap (λ r. d * 4 ^ r + begun_by r ds) e
 
--- so many digits make a number below that power
+-- digits of base 4, at most so many, make a number below that power of 4
 pub digits_small : (room : ℕ) (ds : List ℕ) → AreDigits ds → length ds ≤ room → begun_by room ds < 4 ^ room
 digits_small room [] digits few = omega (arith, one-le-pow room 4 (omega arith))
 digits_small zero (d ∷ ds) digits few = absurd (omega arith)

@@ -51,7 +51,7 @@ module _ (old now : List ℕ) (count i : ℕ) (b : IsBrought old now count i) (u
   below_or_same = all_from (λ y. y ≤ slice_index old i) (take count now) (λ y h. All-contains (λ z. z ≤ slice_index old i) (take i old) y
       (All-from_recursion (λ z. z ≤ slice_index old i) (take i old) (none_greater old i up low)) ((b.same y).0 h))
 
-  -- it is there already
+  -- one number more is looked at that is there already
   pub brought_again : Contains (take count now) (slice_index old i) → IsBrought old now count (i + 1)
   brought_again has = record {
     few = omega (arith, b.few);
@@ -68,7 +68,7 @@ module _ (old now : List ℕ) (count i : ℕ) (b : IsBrought old now count i) (u
       which x (inl h) = (b.same x).1 h
       which x (inr e) = subst (Contains (take count now)) e has
 
-  -- or greater than those that are, and goes behind them
+  -- one number more is looked at that is greater than those that are there, and goes behind them
   pub brought_more : All (λ y. y < slice_index old i) (take count now) → IsBrought old (set now count (slice_index old i)) (count + 1) (i + 1)
   brought_more below = record {
     few = omega (arith, b.few);
@@ -108,7 +108,7 @@ module _ (old now : List ℕ) (count i : ℕ) (b : IsBrought old now count i) (u
       (all_map (λ y. y < slice_index now (count - 1)) (λ y. y < slice_index old i) (take (count - 1) now) (λ y h. omega (arith, h, more))
       (last_greatest (take (count - 1) now) (slice_index now (count - 1)) (subst AreAscendingNumbers (last some) b.ascending))) (more, tt)))
 
-  -- where it isn't, it is the last
+  -- one number more is looked at that isn't greater than those that are there: it is the last of them
   pub brought_equal : 0 < count → slice_index old i ≤ slice_index now (count - 1) → IsBrought old now count (i + 1)
   brought_equal some few = brought_again (subst (λ l. Contains l (slice_index old i)) (sym (last some))
       (subst (Contains (take (count - 1) now ++ slice_index now (count - 1) ∷ [])) same (Contains-push (take (count - 1) now) (slice_index now (count - 1)))))
@@ -161,13 +161,13 @@ pub place_searched : (xs : List ℕ) (x : ℕ) (r : Result ℕ ℕ) → AreAscen
     → MatchResult r (IsPlaceOf xs x) (IsPlaceOf xs x)
 place_searched xs x r asc found = place_known xs x r asc (searched xs x r found (ascending_up xs asc))
 
--- ---- what a turn of the loop leaves
+-- ---- what a step of the loop leaves
 
 -- one of each of the first numbers, and one more behind them
-pub turn_more : (old now then : List ℕ) (count many i number : ℕ) → IsBrought old now count i → IsNonDecreasing old → i < length old
+pub step_more : (old now then : List ℕ) (count many i number : ℕ) → IsBrought old now count i → IsNonDecreasing old → i < length old
     → number ≡ slice_index now i → then ≡ set now count number → many ≡ count + 1 → (count ≡ 0) ⊎ ((0 < count) × (slice_index now (count - 1) < number))
     → IsBrought old then many (i + 1)
-turn_more old now then count many i number b up low is e f cases =
+step_more old now then count many i number b up low is e f cases =
     subst (λ k. IsBrought old then k (i + 1)) (sym f) (subst (λ l. IsBrought old l (count + 1) (i + 1)) (sym (e ∙ ap (set now count) same)) (which cases))
   where
     same : number ≡ slice_index old i
@@ -177,9 +177,9 @@ turn_more old now then count many i number b up low is e f cases =
     which (inl none) = brought_first old now count i b up low none
     which (inr (some, less)) = brought_greater old now count i b up low some (omega (arith, less, same))
 
--- or the same
-pub turn_same : (old now then : List ℕ) (count many i number : ℕ) → IsBrought old now count i → IsNonDecreasing old → i < length old
+-- one number more is looked at that is the same as one before, and is there already
+pub step_same : (old now then : List ℕ) (count many i number : ℕ) → IsBrought old now count i → IsNonDecreasing old → i < length old
     → number ≡ slice_index now i → then ≡ now → many ≡ count → 0 < count → number ≤ slice_index now (count - 1) → IsBrought old then many (i + 1)
-turn_same old now then count many i number b up low is e f some few =
+step_same old now then count many i number b up low is e f some few =
     subst (λ k. IsBrought old then k (i + 1)) (sym f) (subst (λ l. IsBrought old l count (i + 1)) (sym e)
     (brought_equal old now count i b up low some (omega (arith, few, is, b.rest i (omega arith)))))

@@ -77,7 +77,7 @@ put_beyond room t x table from = cases t.limit refl
       holds = record { put = held least e; kept = λ y h. h; only = λ y h. inl h; cut = λ some. inl some };
     }
 
--- where it is there already
+-- a number that is there already is kept
 pub put_again : (room : ℕ) (t u : Numbers) (x : ℕ) → IsKeptTable t → AreSame u.kept t.kept → Contains u.kept x → u.limit ≡ t.limit → IsPut room t u x
 put_again room t u x table same has limit = record {
   kept_table = record { below = λ least e. all_same (λ y. y < least) t.kept u.kept (λ y. ((same y).1, (same y).0)) (table.below least (sym limit ∙ e)) };
@@ -165,7 +165,7 @@ module _ (room : ℕ) (t : Numbers) (x : ℕ) (numbers : List ℕ) (table : IsKe
       some_same : {b : ℕ} → Some least ≡ Some b → least ≡ b
       some_same e = cc
 
-  -- it is kept where it is less than the least that is dropped
+  -- a number less than the least that is dropped is kept
   pub put_low : (u : Numbers) → x < least → u.kept ≡ take half numbers ++ x ∷ [] → u.limit ≡ Some least → IsPut room t u x
   put_low u low kept limit = record {
     kept_table = halved_table u halved;

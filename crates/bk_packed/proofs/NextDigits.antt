@@ -22,7 +22,7 @@ move_at w i = slice_index_or w i (record { count = 0; signs = [] })
 pub there : (w : Word) (i : ℕ) → i < length w → slice_get w i ≡ Some (move_at w i)
 there w i within = slice_get-get_or w i (record { count = 0; signs = [] }) within
 
--- it hangs a square, and its digits stand behind those of the moves before it
+-- the move at a place of a word hangs a square, and its digits stand behind those of the moves before it
 pub record IsMoveAt (w : Word) (i : ℕ) : Type 0 where
   pub at : slice_get w i ≡ Some (move_at w i)
   pub some : 0 < (move_at w i).count
@@ -41,7 +41,7 @@ move_is_at w i legal few within = record {
     here : slice_get w i ≡ Some (move_at w i)
     here = there w i within
 
--- so many digits more
+-- the first moves of a word with one move more have as many digits more as that one
 pub longer : (w : Word) (i place signs : ℕ) → IsMoveAt w i → place ≡ length (word_digits (take i w)) → signs ≡ length (move_at w i).signs
     → place + (2 + signs) ≡ length (word_digits (take (i + 1) w))
 longer w i place signs m e f = omega (

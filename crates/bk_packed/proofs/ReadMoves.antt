@@ -103,7 +103,7 @@ begins_with number place o (m ∷ v) (n ∷ w) legal legal_w few has has_w =
 front_legal : (v : Word) (i : ℕ) → IsLegal v → IsLegal (take i v)
 front_legal v i legal = legal_front start (take i v) (drop i v) (subst IsLegal (sym (take-append-drop i v)) legal)
 
--- so far two words are alike, and no further
+-- how far two words are alike, and no further
 pub shared : (v w : Word) (i : ℕ) → IsLegal v → IsLegal w → order_of v ≤ order_of w → order_of w ≤ 16
     → HasDigits (packed w) 0 (word_digits (take i v)) → (i < length v → HasDigits (packed w) 0 (word_digits (take (i + 1) v)) → ⊥) → IsSharedFront v w i
 shared v w i legal legal_w e few has not = record { rest = begun.0; is = begun.1; most = λ low more is. not low (other low more is) }

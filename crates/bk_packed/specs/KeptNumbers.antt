@@ -15,7 +15,7 @@ pub record Numbers : Type 0 where
 abbrev pub AreAscendingNumbers : List ℕ → Type 0
 AreAscendingNumbers numbers = Ascends (λ (x y : ℕ). x < y) numbers
 
--- dropped, or from there on: so greater than all that are kept
+-- the number isn't below the least that was dropped, and so is greater than all that are kept
 pub record IsBeyond (t : Numbers) (x : ℕ) : Type 0 where
   pub limit : ℕ
   pub cut : t.limit ≡ Some limit
@@ -30,7 +30,7 @@ Holds t x = Contains t.kept x ⊎ IsBeyond t x
 pub record IsKeptTable (t : Numbers) : Type 0 where
   pub below : (limit : ℕ) → t.limit ≡ Some limit → AllByRecursion (λ y. y < limit) t.kept
 
--- of the numbers more different ones than there is room for
+-- among the numbers there are more different ones than there is room for
 pub record HasMoreDifferent (room : ℕ) (numbers : List ℕ) : Type 0 where
   pub different : List ℕ
   pub ascending : AreAscendingNumbers different

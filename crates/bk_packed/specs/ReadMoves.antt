@@ -11,7 +11,7 @@ use Rattle.bk_word.specs.declared.TheConstants.{LARGEST_LISTED_ORDER}
 abbrev pub HasDigits : ℕ → ℕ → List ℕ → Type 0
 HasDigits number place digits = (k : ℕ) → k < length digits → digit_at number (place + k) ≡ slice_index digits k
 
--- it is that of a legal word of at most 16 squares that goes on from these moves
+-- the number is that of a legal word of at most 16 squares that goes on from these moves
 pub record GoesOnByNumber (front : Word) (number : ℕ) : Type 0 where
   pub next : Move
   pub rest : Word

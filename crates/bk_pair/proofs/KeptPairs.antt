@@ -32,7 +32,7 @@ stored_of_tiling a width height squares is = record {
 
 module _ (a b : Tiling) (width height : ℕ) (squares : List Square) (width' height' : ℕ) (squares' : List Square)
     (one : AreStored a width height squares) (other : AreStored b width' height' squares') where
-  -- nor are too many squares
+  -- two tilings with too many squares can't be laid together
   pub too_many : 200 < length squares + length squares' + 2 → false ≡ can_be_laid a b
   too_many many = sym (false-of_refuted (can_be_laid a b) (CanBeLaid a b) (laid_to a b) (λ can. omega (arith, many, can.few, one.many, other.many)))
 

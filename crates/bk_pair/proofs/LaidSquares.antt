@@ -88,11 +88,11 @@ module _ (a b : Tiling) (kept : IsKept a) (turned : IsKept (image Swap b)) (can 
         ),
       )
 
-  -- they tile the square
+  -- the squares of two tilings that are laid together tile the square
   pub squares_tile_square : Tiles (sized (a.width + a.height) (a.width + a.height)) (laid_squares a b)
   squares_tile_square = square_tiles a.width a.height a.squares (image Swap b).squares some_cells.0 some_cells.1 kept.tiling.tiles turned_tiles
 
-  -- so no two of them share a cell
+  -- no two squares of two tilings that are laid together share a cell
   pub squares_stand_apart : ShareNoCell (laid_squares a b)
   squares_stand_apart = tiles_apart (a.width + a.height) (a.width + a.height) (laid_squares a b) squares_tile_square
 

@@ -12,7 +12,7 @@ use Rattle.bk_pair.specs.PairTest.{no_twice}
 abbrev pub own_sides : Tiling → List ℕ
 own_sides t = sides_of t ++ t.width ∷ t.height ∷ []
 
--- none of these stands twice, so the tiling may join with others
+-- no side of a tiling, its width and its height among them, stands twice, so the tiling may join with others
 abbrev pub stands_apart : Tiling → Bool
 stands_apart t = no_twice (own_sides t)
 
@@ -42,6 +42,7 @@ pub record MeetConditions (a b : Tiling) : Type 0 where
   pub few : order a + order b + 2 ≤ MOST_SQUARES
   pub short : max a.width a.height ≤ LONGEST_SIDE
 
--- two tilings join to a perfect square exactly where they meet these: a statement alone, which is proved apart
+-- two tilings join to a perfect square exactly where they meet the conditions of a pair: a statement alone, which is
+-- proved apart
 abbrev pub PairsByConditions : Type 0
 PairsByConditions = (a b : Tiling) → ArePair a b ↔ MeetConditions a b

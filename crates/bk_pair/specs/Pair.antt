@@ -35,8 +35,8 @@ pub record AreOneSize (a b : Tiling) : Type 0 where
   pub width : a.width ≡ b.width
   pub height : a.height ≡ b.height
 
--- the two can be laid so: they are of one size that is no square's, and the order and the sides of what they make keep
--- to the bounds of a tiling
+-- two tilings can be laid together: they are of one size that is no square's, and the order and the sides of what they
+-- make keep to the bounds of a tiling
 pub record CanBeLaid (a b : Tiling) : Type 0 where
   pub size : AreOneSize a b
   pub oblong : a.width ≢ a.height
@@ -44,15 +44,15 @@ pub record CanBeLaid (a b : Tiling) : Type 0 where
   pub wide : a.width ≤ LONGEST_SIDE
   pub high : a.height ≤ LONGEST_SIDE
 
--- all sides of what they make
+-- all sides of what two tilings make, laid together
 abbrev pub pair_sides : Tiling → Tiling → List ℕ
 pair_sides a b = sides_of a ++ (sides_of b ++ a.width ∷ a.height ∷ [])
 
--- a side that occurs at least twice among them
+-- a side that occurs at least twice among those of what two tilings make
 abbrev pub IsSharedSide : Tiling → Tiling → ℕ → Type 0
 IsSharedSide a b side = 2 ≤ count_by (λ s. s == side) (pair_sides a b)
 
--- the least of these
+-- the least side that occurs at least twice among those of what two tilings make
 pub record IsLeastShared (a b : Tiling) (side : ℕ) : Type 0 where
   pub shared : IsSharedSide a b side
   pub least : (other : ℕ) → IsSharedSide a b other → side ≤ other
@@ -68,13 +68,13 @@ IsLayingFault a b (faults.Long side) = AreOneSize a b × (a.width ≢ a.height) 
     × (side ≡ max a.width a.height) × (LONGEST_SIDE < side)
 IsLayingFault a b (faults.Twice side) = ⊥
 
--- why they are not joined to a perfect square: they are not laid together, or a side occurs twice. The first cause
--- counts
+-- why two tilings are not joined to a perfect square: they are not laid together, or a side occurs twice. The first
+-- cause counts
 abbrev pub IsPairFault : Tiling → Tiling → PairFault → Type 0
 IsPairFault a b (faults.Twice side) = CanBeLaid a b × IsLeastShared a b side
 IsPairFault a b fault = IsLayingFault a b fault
 
--- the two join to a perfect square: they can be laid so, and no side occurs twice
+-- two tilings join to a perfect square: they can be laid together, and no side occurs twice
 pub record ArePair (a b : Tiling) : Type 0 where
   pub laid : CanBeLaid a b
   pub differ : (side : ℕ) → ¬ (IsSharedSide a b side)

@@ -105,12 +105,12 @@ fn shared_side(a: &Tiling, b: &Tiling) -> Option<u64>
     ensures none { IfNone result ((side : ℕ) → ¬ (IsSharedSide a.now b.now side)) }
     ensures some { IfSome result (IsLeastShared a.now b.now) }
 {
-    let sides = sorted_sides(a, b);
+    let sides = sorted_pair_sides(a, b);
     first_twice(sides.as_slice())
 }
 
 // All sides of what the two make, in ascending order.
-fn sorted_sides(a: &Tiling, b: &Tiling) -> ArrayVec<u64, MOST_SQUARES>
+fn sorted_pair_sides(a: &Tiling, b: &Tiling) -> ArrayVec<u64, MOST_SQUARES>
     requires { order a.now + order b.now + 2 ≤ MOST_SQUARES }
     ensures same { IsPermutation (pair_sides a.now b.now) result.items }
     ensures sorted { IsNonDecreasing result.items }

@@ -19,7 +19,8 @@ use Rattle.bk_word.proofs.PlayLaws.{after-snoc, few_signs, legal-snoc}
 use Rattle.bk_play.proofs.StoredMoves.{signs-snoc, records-snoc}
 use Rattle.bk_play.proofs.RecordParts.{closed_is, first_is, left_is, right_is, sides_are, start_is}
 use Rattle.bk_word_net.proofs.Outlines.ValleyCut.{AtValley}
-use Rattle.bk_play.specs.Skeleton.{exchange_of, GiveWay, IsStoredSkeleton, Shows, SkeletonLists, first_touched, open_sides_of_record, signs_of, sizes_after, record_of}
+use Rattle.bk_play.specs.Skeleton.{GiveWay, IsStoredSkeleton, Shows, SkeletonLists, exchange_of, first_touched, open_sides_of_record, record_of}
+use Rattle.bk_play.specs.Skeleton.{signs_of, sizes_after}
 use Rattle.bk_play.specs.Valley.{IsKeptSkeleton}
 use Rattle.bk_play.specs.declared.records.MoveRecord.{MoveRecord}
 

@@ -19,7 +19,7 @@ pub record Looked (sizes : List ℕ) (signs : List Sign) (place first : ℕ) : T
   pub few : first ≤ 200
   pub inside : place < length sizes
 
--- it is so among the lists that a small skeleton stores
+-- what is kept of the leftmost valley, where it is looked up among the lists that a small skeleton stores
 pub kept_looked : {w : Word} {lists : SkeletonLists} {place first : ℕ}
     → IsStoredSmall w lists place first
     → (looked : List ℕ) (between : List Sign) (at begin : ℕ) → looked ≡ lists.sizes → between ≡ lists.signs → at ≡ place → begin ≡ first
@@ -35,7 +35,7 @@ kept_looked {w = w} {lists = lists} s looked between at begin e f g h = record {
     c : Counted w lists.ends lists.sizes lists.signs lists.closed
     c = counted_in s.stored
 
--- where it is found among the lists that are read, it stands
+-- the leftmost valley stands where it is found among the lists that are read
 pub stands_read : {sizes : List ℕ} {signs : List Sign} {read : List ℕ} {between : List Sign} {place first : ℕ} → read ≡ sizes → between ≡ signs
     → place ≡ valley_place between → first ≡ sum (take (valley_place between) read) → StandsAt sizes signs place first
 stands_read e f g h = record { place_is = g ∙ ap valley_place f; first_is = h ∙ (λ i. sum (take (valley_place (f i)) (e i))) }
@@ -45,7 +45,7 @@ pub place_kept : {w now : Word} {lists : SkeletonLists} {place first : ℕ}
     → IsStoredSmall w lists place first → w ≡ now → place ≡ valley_place (outline_of now).signs
 place_kept s e = (s.valley).place_is ∙ ap valley_place ((s.stored).shows).signs_are ∙ ap (λ (v : Word). valley_place (outline_of v).signs) e
 
--- so it stands in the word, and ends with as many squares as are read of it
+-- the leftmost valley stands in the word at the place that is kept, and ends with as many squares as are read of it
 pub valley_kept : {w now : Word} {lists : SkeletonLists} {place first : ℕ}
     → IsStoredSmall w lists place first → w ≡ now
     → {read : List ℕ} {at begin size : ℕ} → read ≡ lists.sizes → at ≡ place → begin ≡ first → size ≡ slice_index read at

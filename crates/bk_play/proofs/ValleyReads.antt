@@ -30,7 +30,7 @@ pub record AreOfValley (w : Word) (squares : List ℕ) (first end : ℕ) : Type 
   pub within : end ≤ length squares
   pub are : take (end - first) (drop first squares) ≡ valley_of (outline_of w)
 
--- so are those from where the valley is found to begin, as many as its size says
+-- the squares from where the leftmost valley is found to begin, as many as its size says, are those of the valley
 pub valley_cut : {w : Word} {lists : SkeletonLists}
     → IsStoredSkeleton w lists
     → (looked again squares : List ℕ) (between : List Sign) (place first size : ℕ) → looked ≡ lists.sizes → again ≡ lists.sizes → squares ≡ lists.ends

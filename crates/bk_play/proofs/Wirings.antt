@@ -46,7 +46,7 @@ next_wires records rest node d h = let more : suc node ≡ node + 1 = omega arit
     ∙ (λ i. map (λ e. (node, e)) (take (get_or records node d).count rest)
     ++ move_wires_from (node + 1) (hung_and_closed (drop (more i) records)) (drop (get_or records node d).count rest))
 
--- so many squares hang from a node, and the others from the nodes behind it
+-- the squares that hang from a node and from those behind it are those of the node and those of the others
 pub next_count : (records : List MoveRecord) (node : ℕ) (d : MoveRecord) → node < length records
     → sum (hung_and_closed (drop node records)) ≡ (get_or records node d).count + sum (hung_and_closed (drop (node + 1) records))
 next_count records node d h = let more : suc node ≡ node + 1 = omega arith in

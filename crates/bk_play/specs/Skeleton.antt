@@ -28,7 +28,7 @@ record_of sizes signs m from = record {
   to = from + length m.signs;
 }
 
--- the record with so many signs that stay between segments
+-- the record of a move with so many signs that stay between segments
 abbrev pub with_parted : MoveRecord → ℕ → MoveRecord
 with_parted noted parted = record {
   place = noted.place;
@@ -58,13 +58,14 @@ sizes_before noted = slice_range (noted.left ∷ noted.closed ∷ noted.right �
 abbrev pub signs_before : MoveRecord → List Sign
 signs_before noted = slice_range (Under ∷ Above ∷ []) (1 - min noted.left 1) (1 + min noted.right 1)
 
--- what a move exchanges: from the segment at a place on, so many signs for so many new ones
+-- an exchange in the lists of a skeleton, from the segment at a place on: how many signs give way, and how many come
+-- for them; of the sizes beside them it is one more each
 pub record Exchange : Type 0 where
   pub start : ℕ
   pub old : ℕ
   pub new : ℕ
 
--- what the move of a record exchanges, and what its taking back does
+-- the exchange that the move of a record makes, and the one that takes the move back
 abbrev pub exchange_of : MoveRecord → Exchange
 exchange_of noted = record {
   start = first_touched noted;
@@ -79,7 +80,8 @@ exchange_back_of noted = record {
   new = open_sides_of_record noted;
 }
 
--- these signs, and the sizes beside them, one more than they, give way to new ones: those are there, and these have room
+-- an exchange can be made in lists that have room for so many items: the signs and the sizes that give way are there,
+-- and there is room for those that come
 pub record GiveWay (most : ℕ) (x : Exchange) (sizes : List ℕ) (signs : List Sign) : Type 0 where
   pub sizes_within : x.start + (x.old + 1) ≤ length sizes
   pub signs_within : x.start + x.old ≤ length signs
@@ -138,7 +140,7 @@ pub record SkeletonLists : Type 0 where
   pub records : List MoveRecord
   pub played : List Sign
 
--- all that is stored of moves
+-- all that a skeleton stores of its moves
 pub record IsStoredSkeleton (moves : Word) (lists : SkeletonLists) : Type 0 where
   pub kept : IsKeptSkeleton moves
   pub shows : Shows (outline_of moves) lists.ends lists.sizes lists.signs lists.closed

@@ -25,14 +25,14 @@ pub record IsValleyPlace (w : Word) (v : ValleyPlace) : Type 0 where
   pub stands : StandsAt (sizes_of (outline_of w)) (outline_of w).signs v.place v.start
   pub end_is : v.end ≡ v.start + slice_index_or (sizes_of (outline_of w)) v.place 0
 
--- all that is stored of moves that hang few squares
+-- all that a small skeleton stores of its moves, which hang few squares
 pub record IsStoredSmall (moves : Word) (lists : SkeletonLists) (place first : ℕ) : Type 0 where
   pub stored : IsStoredSkeleton moves lists
   pub valley : StandsAt lists.sizes lists.signs place first
   pub few : order_of moves ≤ INLINE_ORDER
 
--- what is kept of moves to take the next one back: their open segments, where the leftmost valley stands, and how many
--- squares are closed, how many moves there are, and how many signs these have
+-- the outline of a small skeleton, kept to take its next move back: the open segments, where the leftmost valley
+-- stands, and how many squares are closed, how many moves there are, and how many signs these have
 pub record IsOutlineOf (moves : Word) (o : SmallOutline) : Type 0 where
   pub kept : IsKeptSkeleton moves
   pub ends_are : o.open.ends.items ≡ concat (outline_of moves).segments

@@ -283,18 +283,19 @@ pub fn small_net(skel: &SmallSkel) -> Net
 // The record of a move where these segments are open, but for how many of the move's signs stay between two segments.
 // So many signs of earlier moves are kept.
 #[inline(always)]
-fn record_in(open: &Open, m: &SmallMove, from: usize) -> MoveRecord
-    requires many { length open.now.sizes.items ≡ length open.now.signs.items + 1 }
-    requires stands { StandsAt open.now.sizes.items open.now.signs.items open.now.place open.now.first }
-    requires first { open.now.first ≤ LARGEST_ORDER }
+fn record_in(segments: &Open, m: &SmallMove, from: usize) -> MoveRecord
+    requires many { length segments.now.sizes.items ≡ length segments.now.signs.items + 1 }
+    requires stands { StandsAt segments.now.sizes.items segments.now.signs.items
+        segments.now.place segments.now.first }
+    requires first { segments.now.first ≤ LARGEST_ORDER }
     requires from { from ≤ MOST_PLAYED_SIGNS }
     ensures { with_parted result (count_by parts m.now.signs)
-        ≡ record_of open.now.sizes.items open.now.signs.items m.now from }
+        ≡ record_of segments.now.sizes.items segments.now.signs.items m.now from }
 {
     record_at_valley(
-        open.sizes.as_slice(),
-        open.signs.as_slice(),
-        (usize::from(open.place), usize::from(open.first)),
+        segments.sizes.as_slice(),
+        segments.signs.as_slice(),
+        (usize::from(segments.place), usize::from(segments.first)),
         m.count,
         (from, m.signs.len()),
     )
@@ -320,12 +321,12 @@ fn close_and_hang(ends: &mut Short<u8, ROOM>, closed: &mut Short<u8, ROOM>, note
 
 // Where the leftmost of the valleys stands: how many segments stand at its left, and how many squares these have.
 #[inline(always)]
-fn find_valley(open: &Open) -> (u8, u8)
-    requires many { length open.now.sizes.items ≡ length open.now.signs.items + 1 }
-    requires small { sum open.now.sizes.items ≤ LARGEST_ORDER }
-    ensures { StandsAt open.now.sizes.items open.now.signs.items result.0 result.1 }
+fn find_valley(segments: &Open) -> (u8, u8)
+    requires many { length segments.now.sizes.items ≡ length segments.now.signs.items + 1 }
+    requires small { sum segments.now.sizes.items ≤ LARGEST_ORDER }
+    ensures { StandsAt segments.now.sizes.items segments.now.signs.items result.0 result.1 }
 {
-    let (place, first) = leftmost(open.sizes.as_slice(), open.signs.as_slice());
+    let (place, first) = leftmost(segments.sizes.as_slice(), segments.signs.as_slice());
     (place as u8, first as u8)
 }
 

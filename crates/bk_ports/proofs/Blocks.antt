@@ -71,7 +71,7 @@ module _ {State : Type 0} (rules : Entering State) (start : State) (from : ℕ) 
       subst (λ (l : List (List ℕ)). AreAllEntered (entering_from rules start from) s l p a b)
       (sym (all_done kept rest state.done state.lines none)) state.entered
 
-  -- they are counted
+  -- where no line feed is left in a block, all its lines are counted
   pub count_all : (s : State) (kept rest : List ℕ) (n : ℕ) (a b : Option (List ℕ)) (p : Bool) → IsReadTo rules start from begun block kept rest n a b p s
       → HasNoFeed rest → n ≡ from + length (closed_lines begun block)
   count_all s kept rest n a b p state none =

@@ -4,7 +4,7 @@ use Rattle.std.specs.Prelude.{codes}
 use Rattle.bk_ports.specs.Answered.{Replies, answers_of}
 use Rattle.bk_ports.specs.ReadSize.{asked_count}
 use Rattle.bk_ports.specs.Deciding.{HasRefused}
-use Rattle.bk_ports.specs.Ending.{AreRead, EndsWith, Streams}
+use Rattle.bk_ports.specs.Ending.{AreRead, EndsWith, Streams, streams_told}
 use Rattle.bk_ports.specs.Entering.{AreEntered, Entering, entering_from}
 use Rattle.bk_ports.specs.Faults.{CountsTell}
 use Rattle.bk_ports.specs.declared.Ended.TheVariants.{ReadFailed, SomeRefused, WriteFailed}
@@ -25,12 +25,7 @@ second = record { pieces = codes "!\n" ∷ []; refused = true }
 
 -- two lines are read to the end of the input, and the second is refused
 abbrev whole : Streams
-whole = record {
-  left = Some (codes "a\n!\n");
-  left_after = Some [];
-  written = Some (codes "0\n");
-  written_after = Some (codes "0\na\n!\n");
-}
+whole = streams_told (Some (codes "a\n!\n")) (Some []) (Some (codes "0\n")) (Some (codes "0\na\n!\n"))
 
 whole_answered : EndsWith (answers_of echo) whole SomeRefused
 whole_answered = record {
@@ -46,7 +41,7 @@ one_refused = (codes "!", (1, lit< tt, refl), codes "!\n" ∷ [], (refl, refl))
 
 -- a read fails in the second line: the first is answered
 abbrev part : Streams
-part = record { left = Some (codes "a\n!\n"); left_after = Some (codes "\n"); written = Some []; written_after = Some (codes "a\n") }
+part = streams_told (Some (codes "a\n!\n")) (Some (codes "\n")) (Some []) (Some (codes "a\n"))
 
 part_answered : EndsWith (answers_of echo) part ReadFailed
 part_answered = record {

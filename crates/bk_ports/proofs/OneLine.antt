@@ -14,11 +14,11 @@ use Rattle.bk_ports.specs.Entering.{AreAllEntered, CanBeEntered, Entering, IsEnt
 use Rattle.bk_ports.specs.declared.line.Stop.{Stop}
 use Rattle.bk_ports.specs.declared.line.Stop.TheVariants.{WriteFailed, NoMemory}
 
--- that the line was entered, and what was written for it
+-- a line was entered, and what was written for it
 abbrev pub IsLineEntered : {State : Type 0} → Entering State → State → State → ℕ → List ℕ → Option (List ℕ) → Option (List ℕ) → Bool → Type 0
 IsLineEntered rules s l n front a b p = IsWritten (λ pieces refused. rules.enters s n front pieces refused l) a b p
 
--- that a run stopped at the line, and for what
+-- a run stopped at a line, and for what
 abbrev pub IsLineStopped : {State : Type 0} → Entering State → State → ℕ → List ℕ → Option (List ℕ) → Option (List ℕ) → Stop → Type 0
 IsLineStopped {State} rules s n front a b stop =
     IsStopped (λ pieces refused. (l : State) × rules.enters s n front pieces refused l) (rules.may_want s n front) a b stop

@@ -1,6 +1,6 @@
 -- Where what one run writes is what another writes, the endings of the one are those of the other.
 use Rattle.std.proofs.Common.{Bool, List, Option, false, inl, inr, true, ℕ}
-use Rattle.bk_ports.specs.Ending.{EndsWith, IsReadWhole, IsStoppedAt, OfWritten, Output, Streams}
+use Rattle.bk_ports.specs.Ending.{EndsWith, IsReadWhole, IsStoppedAt, OfWritten, Output, Streams, streams_told}
 use Rattle.bk_ports.specs.declared.Ended.{Ended}
 use Rattle.bk_ports.specs.declared.Ended.TheVariants.{NoMemory, NoneRefused, ReadFailed, SomeRefused, TooMany, WriteFailed}
 
@@ -83,8 +83,8 @@ module _ (one other : Output) where
 
 -- what stands written of all lines, with what is written behind them, is something else that is said of all lines
 pub whole_behind : (One Other : List (List ℕ) → OfWritten) (left left_after a b c : Option (List ℕ))
-    → IsReadWhole One (record { left = left; left_after = left_after; written = a; written_after = b })
+    → IsReadWhole One (streams_told left left_after a b)
     → ((lines : List (List ℕ)) → One lines a b → Other lines a c)
-    → IsReadWhole Other (record { left = left; left_after = left_after; written = a; written_after = c })
+    → IsReadWhole Other (streams_told left left_after a c)
 whole_behind One Other left left_after a b c all more =
     record { input = all.input; taken = all.taken; at_end = all.at_end; within = all.within; written = more _ all.written }

@@ -114,7 +114,7 @@ module _ (streams : Streams) (input : List ℕ) (tells : streams.left ≡ Some i
   too_many_ends NoMemory h many = absurd (few_or_many h.input h.taken h.within many)
   too_many_ends TooMany h many = refl
 
-  -- too many were taken exactly where the run ends so
+  -- more than 2^30 bytes were taken exactly where the run ends for it
   pub too_many_exactly : (ended : Ended) → TookBy streams ended → ended ≡ TooMany ↔ TookTooMany streams.left streams.left_after
   too_many_exactly ended h = (
     λ (e : ended ≡ TooMany). subst (λ (x : Ended). TookBy streams x) e h,

@@ -6,7 +6,7 @@ use Rattle.std.proofs.lemmas.List.{append-nil, length-append}
 use Rattle.bk_laws.proofs.Bytes.{consumes-then}
 use Rattle.bk_ports.specs.Lines.{closed_lines, kept_front, line_at_end, lines_of, open_line}
 use Rattle.bk_ports.specs.Entering.{AreAllEntered, Entering, IsEntryStopped, entering_from, entries_of}
-use Rattle.bk_ports.specs.Ending.{AreRead, EndsWith, IsReadWhole, IsTooMany, Streams, ended_of, verdict_of}
+use Rattle.bk_ports.specs.Ending.{AreRead, EndsWith, IsReadWhole, IsTooMany, Streams, ended_of, streams_told, verdict_of}
 use Rattle.bk_ports.specs.declared.Ended.{Ended}
 use Rattle.bk_ports.specs.declared.line.Stop.{Stop}
 use Rattle.bk_ports.specs.declared.line.Stop.TheVariants.{WriteFailed, NoMemory}
@@ -73,7 +73,7 @@ module _ {State : Type 0} (rules : Entering State) (start s : State) (l m n a b 
 
   -- a byte more than may be taken is there
   pub ends_more : (more : List ℕ) → Consumes m n more → length more ≡ 1 → count ≡ 2 ^ 30
-      → IsTooMany (entries_of (entering_from rules start 1) s) (record { left = l; left_after = n; written = a; written_after = b })
+      → IsTooMany (entries_of (entering_from rules start 1) s) (streams_told l n a b)
   ends_more more read one full = record {
     first = state.input;
     more = more;
@@ -87,7 +87,7 @@ module _ {State : Type 0} (rules : Entering State) (start s : State) (l m n a b 
   -- the input ends, and with its last line all are entered
   pub ends_all : (q : Bool) (t : State) → Consumes m n [] → IsAtEnd n → count ≤ 2 ^ 30 → AreAllEntered (entering_from rules s number) t (line_at_end kept) q b c
       → IsReadWhole (λ lines. AreAllEntered (entering_from rules start 1) t lines (p || q))
-      (record { left = l; left_after = n; written = a; written_after = c })
+      (streams_told l n a c)
   ends_all q t read at_end within here = record {
     input = state.input;
     taken = consumes-then l m n state.input [] state.input state.taken read (sym (append-nil state.input));
@@ -121,7 +121,7 @@ module _ {State : Type 0} (rules : Entering State) (start s last : State) (l m n
   -- a line of a block stops the run
   pub ends_block : (ended : Ended) (more : ℕ) (bytes : List ℕ) → ended ≡ ended_of stop → Consumes m n bytes
       → length bytes ≡ more → count + more ≤ 2 ^ 30 → IsEntryStopped (entering_from rules s number) stop (closed_lines kept bytes) b c
-      → EndsWith (entries_of (entering_from rules start 1) last) (record { left = l; left_after = n; written = a; written_after = c }) ended
+      → EndsWith (entries_of (entering_from rules start 1) last) (streams_told l n a c) ended
   ends_block ended more bytes is read size within here =
       let known = closed_lines [] state.input in
       let next = closed_lines (open_line [] state.input) bytes in
@@ -130,7 +130,7 @@ module _ {State : Type 0} (rules : Entering State) (start s last : State) (l m n
       stopped_after rules stop start s 1 known next a b c p state.entered
       (subst (λ (i : ℕ). IsEntryStopped (entering_from rules s i) stop next b c) state.numbered
       (stopped_fronts rules stop s number (closed_lines kept bytes) next b c fronts here)) in
-      stops rules start last (record { left = l; left_after = n; written = a; written_after = c }) (state.input ++ bytes)
+      stops rules start last (streams_told l n a c) (state.input ++ bytes)
       (closed_lines [] (state.input ++ bytes)) stop ended is
       (consumes-then l m n state.input bytes (state.input ++ bytes) state.taken read refl)
       (omega (arith, length-append state.input bytes, state.size, size, within)) (inl refl)
@@ -139,13 +139,13 @@ module _ {State : Type 0} (rules : Entering State) (start s last : State) (l m n
   -- the last line stops it
   pub ends_last : (ended : Ended) → ended ≡ ended_of stop → Consumes m n [] → IsAtEnd n → count ≤ 2 ^ 30
       → IsEntryStopped (entering_from rules s number) stop (line_at_end kept) b c
-      → EndsWith (entries_of (entering_from rules start 1) last) (record { left = l; left_after = n; written = a; written_after = c }) ended
+      → EndsWith (entries_of (entering_from rules start 1) last) (streams_told l n a c) ended
   ends_last ended is read at_end within here =
       let known = closed_lines [] state.input in
       let final = line_at_end (open_line [] state.input) in
       let fronts : map kept_front (line_at_end kept) ≡ map kept_front final =
       ap (λ (o : List ℕ). map kept_front (line_at_end o)) state.front ∙ last-fronts (open_line [] state.input) in
-      stops rules start last (record { left = l; left_after = n; written = a; written_after = c }) state.input
+      stops rules start last (streams_told l n a c) state.input
       (lines_of state.input) stop ended is
       (consumes-then l m n state.input [] state.input state.taken read (sym (append-nil state.input)))
       (omega (arith, state.size, within)) (inr (at_end, refl))

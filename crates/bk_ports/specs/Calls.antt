@@ -2,7 +2,7 @@
 -- each of them gives.
 -- Example (CallExamples): a program that reads twice before it answers the first line isn't one whose runs end as said.
 use Rattle.std.specs.Prelude.{◌≡◌, ℕ, ◌+◌, ◌≤◌, List, [], ◌∷◌, ◌++◌, Some, flat_map, length, take, ⊤}
-use Rattle.bk_ports.specs.Ending.{EndsWith, Output, Streams}
+use Rattle.bk_ports.specs.Ending.{EndsWith, Output, Streams, streams_told}
 use Rattle.bk_ports.specs.Faults.{CountsTell, Faults}
 use Rattle.bk_ports.specs.declared.Ended.{Ended}
 
@@ -82,12 +82,8 @@ GiveAllBytes (kept bytes ∷ calls) rest = GiveAllBytes calls rest
 
 -- the streams of a run with these calls, whose sink had no bytes before
 abbrev pub streams_by : List Call → List ℕ → Streams
-streams_by calls rest = record {
-  left = Some (bytes_given calls ++ rest);
-  left_after = Some rest;
-  written = Some [];
-  written_after = Some (bytes_written calls);
-}
+streams_by calls rest =
+    streams_told (Some (bytes_given calls ++ rest)) (Some rest) (Some []) (Some (bytes_written calls))
 
 -- the counts of a run with these calls, where each that fails counts one
 abbrev pub faults_by : List Call → Faults

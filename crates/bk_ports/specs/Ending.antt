@@ -1,7 +1,7 @@
 -- How a run over lines ends, what was taken then and what stands written. What a run writes is a parameter.
 -- Example (EndingExamples): of `a`, a line feed, `!` and a failed read the first line is answered; at the end of the
 -- input both are.
-use Rattle.std.specs.Prelude.{◌≡◌, ℕ, ◌^◌, ◌≤◌, ◌⊎◌, Bool, true, false, List, [], ◌++◌, length, Option}
+use Rattle.std.specs.Prelude.{◌≡◌, ℕ, ◌≤◌, ◌⊎◌, Bool, true, false, List, [], ◌++◌, length, Option}
 use Rattle.std.specs.Io.KnownBytes.{Consumes, IsAtEnd}
 use Rattle.bk_ports.specs.Lines.{closed_lines, lines_of}
 use Rattle.bk_ports.specs.declared.Ended.{Ended}
@@ -9,6 +9,7 @@ use Rattle.bk_ports.specs.declared.line.Stop.{Stop}
 use Rattle.bk_ports.specs.declared.line.Stop.TheVariants as stops
 use Rattle.bk_ports.specs.declared.Ended.TheVariants.{NoneRefused, SomeRefused, ReadFailed, WriteFailed, NoMemory}
 use Rattle.bk_ports.specs.declared.Ended.TheVariants.{TooMany}
+use Rattle.bk_ports.specs.declared.input.TheConstants.{MOST_BYTES}
 
 -- the bytes that a source has left and that a sink has taken, before and after a run, where they tell them
 pub record Streams : Type 0 where
@@ -17,15 +18,16 @@ pub record Streams : Type 0 where
   pub written : Option (List ℕ)
   pub written_after : Option (List ℕ)
 
+-- the streams, by what a source tells that it has left, before and after, and a sink that it has taken
+abbrev pub streams_told : Option (List ℕ) → Option (List ℕ) → Option (List ℕ) → Option (List ℕ) → Streams
+streams_told left left_after written written_after =
+    record { left = left; left_after = left_after; written = written; written_after = written_after }
+
 -- the streams of a run: its source and its sink before, and both after, where `left` and `written` say what each tells
 -- of its bytes
 abbrev pub streams_between : {S O : Type 0} → (S → Option (List ℕ)) → (O → Option (List ℕ)) → S × O → S × O → Streams
-streams_between left written before after = record {
-  left = left before.0;
-  left_after = left after.0;
-  written = written before.1;
-  written_after = written after.1;
-}
+streams_between left written before after =
+    streams_told (left before.0) (left after.0) (written before.1) (written after.1)
 
 -- what is said of the bytes that a sink has taken, before and after
 abbrev pub OfWritten : Type 1
@@ -54,14 +56,14 @@ pub record IsReadWhole (Stands : List (List ℕ) → OfWritten) (streams : Strea
   pub input : List ℕ
   pub taken : Consumes streams.left streams.left_after input
   pub at_end : IsAtEnd streams.left_after
-  pub within : length input ≤ 2 ^ 30
+  pub within : length input ≤ MOST_BYTES
   pub written : Stands (lines_of input) streams.written streams.written_after
 
 -- a read failed: what is written for the lines whose line feed was taken stands there, and nothing else
 pub record IsCutOff (output : Output) (streams : Streams) : Type 0 where
   pub input : List ℕ
   pub taken : Consumes streams.left streams.left_after input
-  pub within : length input ≤ 2 ^ 30
+  pub within : length input ≤ MOST_BYTES
   pub refused : Bool
   pub written : output.lines (closed_lines [] input) refused streams.written streams.written_after
 
@@ -71,7 +73,7 @@ pub record IsTooMany (output : Output) (streams : Streams) : Type 0 where
   pub first : List ℕ
   pub more : List ℕ
   pub taken : Consumes streams.left streams.left_after (first ++ more)
-  pub full : length first ≡ 2 ^ 30
+  pub full : length first ≡ MOST_BYTES
   pub one : length more ≡ 1
   pub refused : Bool
   pub written : output.lines (closed_lines [] first) refused streams.written streams.written_after
@@ -80,7 +82,7 @@ pub record IsTooMany (output : Output) (streams : Streams) : Type 0 where
 pub record IsStoppedAt (Stands : List (List ℕ) → OfWritten) (streams : Streams) : Type 0 where
   pub input : List ℕ
   pub taken : Consumes streams.left streams.left_after input
-  pub within : length input ≤ 2 ^ 30
+  pub within : length input ≤ MOST_BYTES
   pub lines : List (List ℕ)
   pub read : AreRead streams.left_after input lines
   pub written : Stands lines streams.written streams.written_after

@@ -1,11 +1,12 @@
 -- What the ending of a run says of faults: of calls of its source and its sink that failed.
 -- Example (EndingExamples): a run that ends since a write failed has raised the count of the sink by 1, say, and not
 -- that of the source.
-use Rattle.std.specs.Prelude.{◌≡◌, ℕ, ◌^◌, ◌≤◌, ◌⊎◌, List, length, Option, IsSomeAnd}
+use Rattle.std.specs.Prelude.{◌≡◌, ℕ, ◌≤◌, ◌⊎◌, List, length, Option, IsSomeAnd}
 use Rattle.bk_ports.specs.Causes.{Rose}
 use Rattle.bk_ports.specs.Ending.{HasVerdict}
 use Rattle.bk_ports.specs.declared.Ended.{Ended}
 use Rattle.bk_ports.specs.declared.Ended.TheVariants.{ReadFailed, WriteFailed, NoMemory}
+use Rattle.bk_ports.specs.declared.input.TheConstants.{MOST_BYTES}
 
 -- how many reads of a source and writes to a sink have failed, before and after a run
 pub record Faults : Type 0 where
@@ -34,7 +35,7 @@ pub record HasNoFault (faults : Faults) : Type 0 where
 -- no read and no write failed, and the source told at most 2^30 bytes
 pub record IsCalm (left : Option (List ℕ)) (faults : Faults) : Type 0 where
   pub no_fault : HasNoFault faults
-  pub within : IsSomeAnd left (λ input. length input ≤ 2 ^ 30)
+  pub within : IsSomeAnd left (λ input. length input ≤ MOST_BYTES)
 
 -- the input was read to its end, or memory was wanting
 abbrev pub IsDoneOrWanting : Ended → Type 0

@@ -2,7 +2,7 @@
 pub mod Causes
 pub mod Stores
 pub mod ToldCalls
--- And of lines.
+-- What the crate says of lines.
 pub mod Answered
 pub mod CallLaws
 pub mod Calls

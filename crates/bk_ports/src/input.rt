@@ -11,12 +11,12 @@ ghost use Rattle.bk_ports.specs.Entering.{AreAllEntered, IsEntryStopped, enterin
 ghost use Rattle.bk_ports.specs.Faults.{CountsTell, IsCalm, IsDoneOrWanting, faults_between};
 
 use crate::block::enter_block;
-use crate::line::{Front, OpenLine, Stop, enter_line};
+use crate::line::{LineFront, OpenLine, Stop, enter_line};
 use crate::{Ended, Failed, Register, Sink, Source};
 use bk_grammar::AnswerBuffer;
 
-// At most so many bytes of an input are taken.
-const MOST_BYTES: usize = 1 << 30;
+/// At most so many bytes of an input are taken.
+pub const MOST_BYTES: usize = 1 << 30;
 
 // A read asks for at most so many bytes.
 const BLOCK: usize = 16_384;
@@ -49,7 +49,7 @@ pub fn enter_lines<R: Register, S: Source, O: Sink>(
     let mut block = [0u8; BLOCK];
     let mut kept = OpenLine {
         number: 1,
-        front: Front::new(),
+        front: LineFront::new(),
     };
     let mut buffer = AnswerBuffer::new();
     let mut refused = false;
@@ -92,10 +92,10 @@ fn read_block<S: Source>(
     block: &mut [u8; BLOCK],
     taken: usize,
 ) -> Result<usize, Failed>
-    requires { taken ≤ 2 ^ 30 }
+    requires { taken ≤ MOST_BYTES }
     ensures count { IfOk result (λ n. n ≤ BLOCK) }
-    ensures within { IfOk result (λ n. taken < 2 ^ 30 → taken + n ≤ 2 ^ 30) }
-    ensures one { IfOk result (λ n. taken ≡ 2 ^ 30 → n ≤ 1) }
+    ensures within { IfOk result (λ n. taken < MOST_BYTES → taken + n ≤ MOST_BYTES) }
+    ensures one { IfOk result (λ n. taken ≡ MOST_BYTES → n ≤ 1) }
     ensures bytes { ReadConsumes (S.left source.old) (S.left source.new) result block.new }
     ensures cause { HasCause (S.faults source.old) (S.faults source.new) result }
 {

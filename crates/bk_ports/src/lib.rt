@@ -19,7 +19,7 @@ mod standard;
 mod steady;
 
 use bk_grammar::AnswerBuffer;
-pub use input::enter_lines;
+pub use input::{MOST_BYTES, enter_lines};
 pub use laws::{
     after_a_failed_call_the_other_stream_is_left, each_line_is_answered_before_the_next_read,
 };
@@ -144,7 +144,7 @@ pub trait Register {
     /// An empty line changes nothing and needs no answer.
     ghost empty_line: { (s : Self) (n : ℕ) → enters s n [] [] false s };
 
-    /// A line that follows an empty line is entered in its turn.
+    /// A line that follows an empty line can be entered after it.
     ghost still_ready: { (s : Self) (n : ℕ) → is_ready s n → is_ready s (n + 1) };
 }
 

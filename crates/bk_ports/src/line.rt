@@ -17,7 +17,7 @@ pub const LONGEST_LINE: usize = 8_192;
 const KEPT: usize = LONGEST_LINE + 1;
 
 // What is kept of a line: its first 8,193 bytes.
-pub type Front = ArrayVec<u8, KEPT>;
+pub type LineFront = ArrayVec<u8, KEPT>;
 
 // A line whose end has not come.
 #[derive(Drop)]
@@ -25,7 +25,7 @@ pub struct OpenLine {
     // Its number, from 1.
     pub number: u64,
     // What is kept of its bytes.
-    pub front: Front,
+    pub front: LineFront,
 }
 
 // Why no further line is entered.
@@ -36,7 +36,7 @@ pub enum Stop {
 }
 
 // Adds bytes to a line, as far as they are kept.
-pub fn keep(front: &mut Front, piece: &[u8])
+pub fn keep(front: &mut LineFront, piece: &[u8])
     ensures { front.new.items ≡ kept_front (front.old.items ++ piece.now) }
 {
     let fitting = front.remaining_capacity().min(piece.len());

@@ -48,7 +48,7 @@ no_misfit w code end number gap_width total lays m = from halves.second
     from (gap, is, fits, rest) =
         m.misfit (fits ∙ ap (λ (g : Segment). g.width) (gap_unique w m.laid gap m.gap (subst (λ (l : List Square). IsGap w l gap) same is) m.is_gap))
 
--- nor is the outline uneven where the squares are laid to a tiling
+-- where the squares are laid to a tiling, the outline isn't uneven
 pub not_open : (w : ℕ) (code : Code) (t : Tiling) (least greatest : ℕ) → IsTiling t → t.width ≡ w → LaysTo w [] code t.squares
     → EndsOpen w code least greatest → ⊥
 not_open w code t least greatest tiling width lays o =

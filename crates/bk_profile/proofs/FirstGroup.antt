@@ -9,13 +9,13 @@ use Rattle.bk_code.specs.Code.{Code}
 use Rattle.bk_profile.proofs.CodeLaid.{sum_bounds}
 use Rattle.bk_profile.proofs.LayingOnce.{gap_of_none}
 use Rattle.bk_profile.proofs.Storing.{stored_laid}
-use Rattle.bk_profile.proofs.Turns.{Turn, first_read, next_turn}
+use Rattle.bk_profile.proofs.LayingSteps.{FirstLaid, first_read, next_step}
 use Rattle.bk_profile.specs.Laid.{Laid}
 use Rattle.bk_profile.specs.OutlineRuns.{AreLowestRuns, runs_under_group}
 use Rattle.bk_profile.specs.Refused.{first_sum}
 use Rattle.bk_profile.specs.StoredProfile.{IsStoredProfile}
 use Rattle.bk_profile.specs.declared.runs.LowestRuns.{LowestRuns}
-use Rattle.bk_profile.specs.declared.runs.Run.{Run}
+use Rattle.bk_profile.specs.declared.runs.OutlineRun.{OutlineRun}
 
 -- a profile with no square
 abbrev empty : ℕ → Laid
@@ -26,7 +26,7 @@ abbrev top : ℕ → Segment
 top w = record { x = 0; width = w; level = 0 }
 
 -- the one run over the whole width
-abbrev whole_run : ℕ → List Run
+abbrev whole_run : ℕ → List OutlineRun
 whole_run w = record { width = w; level = 0 } ∷ []
 
 -- the lowest runs of an outline of one run
@@ -38,11 +38,11 @@ stored_none : (w : ℕ) → 0 < w → w ≤ 200_000_000_000_000_000 → IsStored
 stored_none w some narrow = record {
   profile = record { some = some; narrow = narrow; few = omega arith; filled = λ c j l h. absurd (omega arith) };
   outline = record {
-    some = All-from_recursion (λ (r : Run). 0 < r.width) (whole_run w) (some, tt);
+    some = All-from_recursion (λ (r : OutlineRun). 0 < r.width) (whole_run w) (some, tt);
     whole = omega arith;
     level = ((λ c a b. refl), tt);
     few = omega arith;
-    low = All-from_recursion (λ (r : Run). r.level ≤ 0) (whole_run w) (omega arith, tt);
+    low = All-from_recursion (λ (r : OutlineRun). r.level ≤ 0) (whole_run w) (omega arith, tt);
   };
 }
 
@@ -68,16 +68,16 @@ one_is_lowest w = record {
 pub stored_first : (sides : List ℕ) → 0 < length sides → length sides ≤ 200 → AllByRecursion IsSide sides
     → IsStoredProfile (record { width = sum sides; squares = laid_group 0 0 sides }) (runs_under_group 0 sides)
 stored_first sides some few good =
-    subst (λ (l : List Run). IsStoredProfile (record { width = sum sides; squares = laid_group 0 0 sides }) l) (append-nil (runs_under_group 0 sides))
+    subst (λ (l : List OutlineRun). IsStoredProfile (record { width = sum sides; squares = laid_group 0 0 sides }) l) (append-nil (runs_under_group 0 sides))
     (stored_laid (empty (sum sides)) (whole_run (sum sides)) (whole_run (sum sides)) (one_run (sum sides))
     (stored_none (sum sides) (omega (arith, (sum_bounds sides good).1, some)) (omega (arith, (sum_bounds sides good).0, few))) refl
     (one_is_lowest (sum sides)) sides refl good some (omega (arith, few)))
 
 -- with the first group of a code laid under its sum, one group of the code is laid
-pub first_turn : (code : Code) (group : List ℕ) (p : Laid) → 0 < length code → 0 < length group → AllByRecursion IsSide group → group ≡ get_or code 0 []
-    → p ≡ record { width = sum group; squares = laid_group 0 0 group } → Turn code 1 p
-first_turn code group p some long good is laid =
-    next_turn code 0 group (empty (first_sum code)) p (record { width = refl; lays = refl; count = refl }) some is (record {
+pub first_step : (code : Code) (group : List ℕ) (p : Laid) → 0 < length code → 0 < length group → AllByRecursion IsSide group → group ≡ get_or code 0 []
+    → p ≡ record { width = sum group; squares = laid_group 0 0 group } → FirstLaid code 1 p
+first_step code group p some long good is laid =
+    next_step code 0 group (empty (first_sum code)) p (record { width = refl; lays = refl; count = refl }) some is (record {
       gap = top (first_sum code);
       is_gap = gap_of_none (first_sum code) (omega (arith, width, (sum_bounds group good).1, long));
       fits = width;

@@ -18,15 +18,15 @@ segment x width level = record { x = x; width = width; level = level }
 abbrev pub one_group : List Square
 one_group = laid_with_group [] (segment 0 33 0) (18 ∷ 15 ∷ [])
 
--- and 7, 8 under 15
+-- the groups 18, 15 and 7, 8 under 15
 abbrev pub two_groups : List Square
 two_groups = laid_with_group one_group (segment 18 15 15) (7 ∷ 8 ∷ [])
 
--- and 14, 4 under 18
+-- the groups 18, 15; 7, 8; and 14, 4 under 18
 abbrev pub three_groups : List Square
 three_groups = laid_with_group two_groups (segment 0 18 18) (14 ∷ 4 ∷ [])
 
--- and 10, 1 beside 4
+-- the groups 18, 15; 7, 8; 14, 4; and 10, 1 beside 4
 abbrev pub four_groups : List Square
 four_groups = laid_with_group three_groups (segment 14 11 22) (10 ∷ 1 ∷ [])
 
@@ -79,7 +79,7 @@ fourth_does_not_fit =
 pub lays_three : LaysTo 33 [] ((18 ∷ 15 ∷ []) ∷ (7 ∷ 8 ∷ []) ∷ (14 ∷ 4 ∷ []) ∷ []) three_groups
 lays_three = (segment 0 33 0, first_gap, refl, (segment 18 15 15, second_gap, refl, (segment 0 18 18, third_gap, refl, refl)))
 
--- so does its fourth group
+-- the first four groups of the rectangle 33x32 fit
 pub lays_four : LaysTo 33 [] ((18 ∷ 15 ∷ []) ∷ (7 ∷ 8 ∷ []) ∷ (14 ∷ 4 ∷ []) ∷ (10 ∷ 1 ∷ []) ∷ []) four_groups
 lays_four = lays_push 33 [] ((18 ∷ 15 ∷ []) ∷ (7 ∷ 8 ∷ []) ∷ (14 ∷ 4 ∷ []) ∷ []) three_groups (10 ∷ 1 ∷ []) (segment 14 11 22) lays_three fourth_gap refl
 
@@ -92,7 +92,7 @@ all_laid =
 pub depths : depth two_groups 0 ≡ 18
 depths = refl
 
--- and the column 24 to level 22
+-- after two groups the column 24 is filled to level 22
 pub depths_right : depth two_groups 24 ≡ 22
 depths_right = refl
 

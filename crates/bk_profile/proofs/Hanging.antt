@@ -17,27 +17,27 @@ use Rattle.bk_tiling.specs.declared.Square.{Square}
 use Rattle.bk_profile.proofs.RunStarts.{no_run}
 use Rattle.bk_profile.specs.Gap.{IsGap}
 use Rattle.bk_profile.specs.OutlineRuns.{AreLevel, AreOutlineRuns, IsLowest, run_start, run_under_side, runs_under_group, width_of}
-use Rattle.bk_profile.specs.declared.runs.Run.{Run}
+use Rattle.bk_profile.specs.declared.runs.OutlineRun.{OutlineRun}
 
-level_join : (laid : List Square) (x : ℕ) (runs more : List Run) → AreLevel laid x runs → AreLevel laid (x + width_of runs) more
+level_join : (laid : List Square) (x : ℕ) (runs more : List OutlineRun) → AreLevel laid x runs → AreLevel laid (x + width_of runs) more
     → AreLevel laid x (runs ++ more)
 level_join laid x [] more a b = subst (λ n. AreLevel laid n more) (omega arith) b
 level_join laid x (r ∷ runs) more a b =
-    (a.0, level_join laid (x + r.width) runs more a.1 (subst (λ n. AreLevel laid n more) (omega (arith, sum_by-cons (λ (s : Run). s.width) r runs)) b))
+    (a.0, level_join laid (x + r.width) runs more a.1 (subst (λ n. AreLevel laid n more) (omega (arith, sum_by-cons (λ (s : OutlineRun). s.width) r runs)) b))
 
-level_split : (laid : List Square) (x : ℕ) (runs more : List Run) → AreLevel laid x (runs ++ more)
+level_split : (laid : List Square) (x : ℕ) (runs more : List OutlineRun) → AreLevel laid x (runs ++ more)
     → AreLevel laid x runs × AreLevel laid (x + width_of runs) more
 level_split laid x [] more all = (tt, subst (λ n. AreLevel laid n more) (omega arith) all)
 level_split laid x (r ∷ runs) more all =
     let rest : AreLevel laid (x + r.width) runs × AreLevel laid (x + r.width + width_of runs) more = level_split laid (x + r.width) runs more all.1 in
-    ((all.0, rest.0), subst (λ n. AreLevel laid n more) (omega (arith, sum_by-cons (λ (s : Run). s.width) r runs)) rest.1)
+    ((all.0, rest.0), subst (λ n. AreLevel laid n more) (omega (arith, sum_by-cons (λ (s : OutlineRun). s.width) r runs)) rest.1)
 
 -- runs whose columns keep their depth
-level_kept : (laid new : List Square) (x : ℕ) (runs : List Run) → AreLevel laid x runs
+level_kept : (laid new : List Square) (x : ℕ) (runs : List OutlineRun) → AreLevel laid x runs
     → ((c : ℕ) → x ≤ c → c < x + width_of runs → depth new c ≡ depth laid c) → AreLevel new x runs
 level_kept laid new x [] all same = tt
 level_kept laid new x (r ∷ runs) all same =
-    let whole : width_of (r ∷ runs) ≡ r.width + width_of runs = sum_by-cons (λ (s : Run). s.width) r runs in
+    let whole : width_of (r ∷ runs) ≡ r.width + width_of runs = sum_by-cons (λ (s : OutlineRun). s.width) r runs in
     (λ c l h. same c l (omega arith) ∙ all.0 c l h, level_kept laid new (x + r.width) runs all.1 (λ c l h. same c (omega arith) (omega arith)))
 
 -- the runs under a group
@@ -54,7 +54,7 @@ width_under level [] = refl
 width_under level (s ∷ sides) =
     omega (
       arith,
-      sum_by-cons (λ (r : Run). r.width) (run_under_side level s) (runs_under_group level sides),
+      sum_by-cons (λ (r : OutlineRun). r.width) (run_under_side level s) (runs_under_group level sides),
       sum_by-cons (λ (n : ℕ). n) s sides,
       width_under level sides,
     )
@@ -63,37 +63,37 @@ width_under level (s ∷ sides) =
 pub length_under : (level : ℕ) (sides : List ℕ) → length (runs_under_group level sides) ≡ length sides
 length_under level sides = length-map sides (run_under_side level)
 
-under_some : (level : ℕ) (sides : List ℕ) → AllByRecursion IsSide sides → All (λ (r : Run). 0 < r.width) (runs_under_group level sides)
+under_some : (level : ℕ) (sides : List ℕ) → AllByRecursion IsSide sides → All (λ (r : OutlineRun). 0 < r.width) (runs_under_group level sides)
 under_some level [] good k d l = absurd (omega arith)
 under_some level (s ∷ sides) good zero d l = good.0.0
 under_some level (s ∷ sides) good (suc k) d l = under_some level sides good.1 k d (omega arith)
 
 under_low : (level : ℕ) (sides : List ℕ) (most : ℕ) → AllByRecursion IsSide sides → level + 999_999_999_999_999 ≤ most
-    → All (λ (r : Run). r.level ≤ most) (runs_under_group level sides)
+    → All (λ (r : OutlineRun). r.level ≤ most) (runs_under_group level sides)
 under_low level [] most good low k d l = absurd (omega arith)
 under_low level (s ∷ sides) most good low zero d l = omega (arith, good.0.1)
 under_low level (s ∷ sides) most good low (suc k) d l = under_low level sides most good.1 low k d (omega arith)
 
-all_take : (P : Run → Type 0) (runs : List Run) (a : ℕ) → a ≤ length runs → All P runs → All P (take a runs)
+all_take : (P : OutlineRun → Type 0) (runs : List OutlineRun) (a : ℕ) → a ≤ length runs → All P runs → All P (take a runs)
 all_take P runs a within all k d l =
     let below : k < a = omega (arith, l, length-take-le a runs within) in
     subst P (sym (get_or-take a runs k d below)) (all k d (omega arith))
 
-all_drop : (P : Run → Type 0) (runs : List Run) (b : ℕ) → All P runs → All P (drop b runs)
+all_drop : (P : OutlineRun → Type 0) (runs : List OutlineRun) (b : ℕ) → All P runs → All P (drop b runs)
 all_drop P runs b all k d l = subst P (sym (get_or-drop b runs k d)) (all (b + k) d (omega (arith, l, length-drop b runs)))
 
-all_lower : (n m : ℕ) (runs : List Run) → n ≤ m → All (λ (r : Run). r.level ≤ n) runs → All (λ (r : Run). r.level ≤ m) runs
+all_lower : (n m : ℕ) (runs : List OutlineRun) → n ≤ m → All (λ (r : OutlineRun). r.level ≤ n) runs → All (λ (r : OutlineRun). r.level ≤ m) runs
 all_lower n m runs le all k d l = omega (arith, le, all k d l)
 
-module _ (w : ℕ) (laid : List Square) (runs : List Run) (a b : ℕ) (gap : Segment) (sides : List ℕ) (outline : AreOutlineRuns w laid runs)
+module _ (w : ℕ) (laid : List Square) (runs : List OutlineRun) (a b : ℕ) (gap : Segment) (sides : List ℕ) (outline : AreOutlineRuns w laid runs)
     (lowest : IsLowest runs (length runs) a b)
-    (at : gap.x ≡ run_start runs a) (end : gap.x + gap.width ≡ run_start runs b) (level : (d : Run) → gap.level ≡ (get_or runs a d).level)
+    (at : gap.x ≡ run_start runs a) (end : gap.x + gap.width ≡ run_start runs b) (level : (d : OutlineRun) → gap.level ≡ (get_or runs a d).level)
     (is : IsGap w laid gap) (fits : sum sides ≡ gap.width)
     (good : AllByRecursion IsSide sides) where
   abbrev new : List Square
   new = laid ++ laid_group gap.x gap.level sides
 
-  abbrev hung : List Run
+  abbrev hung : List OutlineRun
   hung = (take a runs ++ runs_under_group gap.level sides) ++ drop b runs
 
   first : a < length runs
@@ -106,10 +106,11 @@ module _ (w : ℕ) (laid : List Square) (runs : List Run) (a b : ℕ) (gap : Seg
   there c l h = (is.flat).level c l (omega (arith, h, wide))
 
   front : width_of (take a runs ++ runs_under_group gap.level sides) ≡ run_start runs b
-  front = sum_by-append (λ (r : Run). r.width) (take a runs) (runs_under_group gap.level sides) ∙ omega (arith, width_under gap.level sides, fits, at, end)
+  front = sum_by-append (λ (r : OutlineRun). r.width) (take a runs) (runs_under_group gap.level sides)
+      ∙ omega (arith, width_under gap.level sides, fits, at, end)
 
   back : run_start runs b + width_of (drop b runs) ≡ width_of runs
-  back = sym (sum_by-append (λ (r : Run). r.width) (take b runs) (drop b runs)) ∙ ap width_of (take-append-drop b runs)
+  back = sym (sum_by-append (λ (r : OutlineRun). r.width) (take b runs) (drop b runs)) ∙ ap width_of (take-append-drop b runs)
 
   left_level : AreLevel new 0 (take a runs)
   left_level =
@@ -136,11 +137,12 @@ module _ (w : ℕ) (laid : List Square) (runs : List Run) (a b : ℕ) (gap : Seg
   -- with a group laid into the gap, the runs with its own in the place of the gap's are the outline
   pub outline_laid : 0 < length sides → AreOutlineRuns w new hung
   outline_laid some = record {
-    some = All-append (λ (r : Run). 0 < r.width) (take a runs ++ runs_under_group gap.level sides) (drop b runs)
-        (All-append (λ (r : Run). 0 < r.width) (take a runs) (runs_under_group gap.level sides)
-        (all_take (λ (r : Run). 0 < r.width) runs a (omega (arith, first)) outline.some) (under_some gap.level sides good))
-        (all_drop (λ (r : Run). 0 < r.width) runs b outline.some);
-    whole = sum_by-append (λ (r : Run). r.width) (take a runs ++ runs_under_group gap.level sides) (drop b runs) ∙ omega (arith, front, back, outline.whole);
+    some = All-append (λ (r : OutlineRun). 0 < r.width) (take a runs ++ runs_under_group gap.level sides) (drop b runs)
+        (All-append (λ (r : OutlineRun). 0 < r.width) (take a runs) (runs_under_group gap.level sides)
+        (all_take (λ (r : OutlineRun). 0 < r.width) runs a (omega (arith, first)) outline.some) (under_some gap.level sides good))
+        (all_drop (λ (r : OutlineRun). 0 < r.width) runs b outline.some);
+    whole = sum_by-append (λ (r : OutlineRun). r.width) (take a runs ++ runs_under_group gap.level sides) (drop b runs)
+        ∙ omega (arith, front, back, outline.whole);
     level = level_join new 0 (take a runs ++ runs_under_group gap.level sides) (drop b runs)
         (level_join new 0 (take a runs) (runs_under_group gap.level sides) left_level under) right_level;
     few = omega (
@@ -155,12 +157,12 @@ module _ (w : ℕ) (laid : List Square) (runs : List Run) (a b : ℕ) (gap : Seg
       lowest.some,
       lowest.within,
     );
-    low = All-append (λ (r : Run). r.level ≤ length new * 999_999_999_999_999) (take a runs ++ runs_under_group gap.level sides) (drop b runs)
-        (All-append (λ (r : Run). r.level ≤ length new * 999_999_999_999_999) (take a runs) (runs_under_group gap.level sides)
-        (all_take (λ (r : Run). r.level ≤ length new * 999_999_999_999_999) runs a (omega (arith, first))
+    low = All-append (λ (r : OutlineRun). r.level ≤ length new * 999_999_999_999_999) (take a runs ++ runs_under_group gap.level sides) (drop b runs)
+        (All-append (λ (r : OutlineRun). r.level ≤ length new * 999_999_999_999_999) (take a runs) (runs_under_group gap.level sides)
+        (all_take (λ (r : OutlineRun). r.level ≤ length new * 999_999_999_999_999) runs a (omega (arith, first))
         (all_lower (length laid * 999_999_999_999_999) (length new * 999_999_999_999_999) runs most outline.low))
         (under_low gap.level sides (length new * 999_999_999_999_999) good
         (omega (arith, level no_run, outline.low a no_run first, ap (λ n. n * 999_999_999_999_999) longer, some))))
-        (all_drop (λ (r : Run). r.level ≤ length new * 999_999_999_999_999) runs b
+        (all_drop (λ (r : OutlineRun). r.level ≤ length new * 999_999_999_999_999) runs b
         (all_lower (length laid * 999_999_999_999_999) (length new * 999_999_999_999_999) runs most outline.low));
   }

@@ -49,7 +49,8 @@ group_alone x y (s ∷ t ∷ sides) some =
     (beside_from (record { x = x; y = y; s = s }) (record { x = x + s; y = y; s = t }) refl refl)
     ∙ ap (with_side_before true s) (group_alone (x + s) y (t ∷ sides) (omega arith))
 
-before_more : (b : Bool) (s : ℕ) (code : Code) (group : List ℕ) → 0 < length code → with_side_before b s (code ++ group ∷ []) ≡ with_side_before b s code ++ group ∷ []
+before_more : (b : Bool) (s : ℕ) (code : Code) (group : List ℕ) → 0 < length code
+    → with_side_before b s (code ++ group ∷ []) ≡ with_side_before b s code ++ group ∷ []
 before_more b s [] group some = absurd (omega arith)
 before_more true s (first ∷ code) group some = refl
 before_more false s (first ∷ code) group some = refl
@@ -61,7 +62,8 @@ groups_append [] x y sides some cut = group_alone x y sides some
 groups_append (q ∷ []) x y [] some cut = absurd (omega arith)
 groups_append (q ∷ []) x y (s ∷ sides) some cut =
     groups_cons q (record { x = x; y = y; s = s }) (laid_group (x + s) y sides)
-    ∙ ap (λ (b : Bool). with_side_before b q.s (side_groups (laid_group x y (s ∷ sides)))) (apart (cases_Bool (stands_beside q (record { x = x; y = y; s = s }))))
+    ∙ ap (λ (b : Bool). with_side_before b q.s (side_groups (laid_group x y (s ∷ sides))))
+    (apart (cases_Bool (stands_beside q (record { x = x; y = y; s = s }))))
     ∙ ap (with_side_before false q.s) (group_alone x y (s ∷ sides) (omega arith))
   where
     apart : (stands_beside q (record { x = x; y = y; s = s }) ≡ true) ⊎ (stands_beside q (record { x = x; y = y; s = s }) ≡ false)

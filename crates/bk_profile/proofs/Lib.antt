@@ -7,10 +7,10 @@ pub mod Storing
 pub mod LaidGroups
 pub mod LayingOnce
 pub mod CodeLaid
-pub mod Turns
+pub mod LayingSteps
 pub mod FirstGroup
 pub mod Division
-pub mod FlatTurns
+pub mod FlatSteps
 pub mod OneRefusal
 pub mod RefusalExamples
 pub mod LaidExamples

@@ -98,7 +98,7 @@ a_code_is_refused_in_one_way width code (Open least greatest) (Open least2 great
     (subst (λ (l : List Square). IsUneven (record { width = width; squares = l }) least greatest) same a.uneven) b.uneven in
     λ i. Open (both.0 i) (both.1 i)
 
--- and so has a flat list
+-- a flat list has at most one refusal
 pub a_flat_list_is_refused_in_one_way : AFlatListIsRefusedInOneWay
 a_flat_list_is_refused_in_one_way width sides r s a b =
     let same : a.code ≡ b.code = divides_once width [] sides a.code b.code a.divided b.divided in

@@ -1,70 +1,88 @@
 -- Level runs side by side: where each begins, the run over a column, and the gap and the depths that they show.
 use Rattle.std.specs.List.{All, HoldsAt}
-use Rattle.std.proofs.Common.{List, [], ap, arith, get_or, length, suc, sym, take, zero, ℕ, ⊎_elim, ◌+◌, ◌<◌, ◌∙◌, ◌∷◌, ◌≡◌, ◌≤◌}
+use Rattle.std.proofs.Common.{List, [], ap, arith, drop, get_or, length, suc, sym, take, zero, ℕ, ⊎_elim, ◌+◌, ◌-◌, ◌<◌, ◌∙◌, ◌∷◌, ◌≡◌, ◌≤◌}
 use Rattle.std.proofs.lemmas.Bool.{cases_lt}
-use Rattle.std.proofs.lemmas.List.{take_all}
-use Rattle.std.proofs.lemmas.List.Sums.{sum_by-cons, sum_by-take-le, sum_by_more}
+use Rattle.std.proofs.lemmas.List.{take-take, take_all}
+use Rattle.std.proofs.lemmas.List.Sums.{sum_by-cons, sum_by-take-drop, sum_by-take-le, sum_by_more}
+use Rattle.bk_laws.proofs.ListParts.{take-drop_swap}
 use Rattle.bk_tiling.specs.Column.{depth}
 use Rattle.bk_tiling.specs.declared.Segment.{Segment}
 use Rattle.bk_tiling.specs.declared.Square.{Square}
 use Rattle.bk_profile.specs.Gap.{IsGap}
 use Rattle.bk_profile.specs.Laid.{IsGreatestDepth, IsLeastDepth}
 use Rattle.bk_profile.specs.OutlineRuns.{AreLevel, AreOutlineRuns, IsLowest, run_start, width_of}
-use Rattle.bk_profile.specs.declared.runs.Run.{Run}
+use Rattle.bk_profile.specs.declared.runs.OutlineRun.{OutlineRun}
 
 -- a run that stands for none
-abbrev pub no_run : Run
+abbrev pub no_run : OutlineRun
 no_run = record { width = 0; level = 0 }
 
 -- a run begins where the one before it ends
-pub start_more : (runs : List Run) (k : ℕ) (d : Run) → k < length runs → run_start runs (k + 1) ≡ run_start runs k + (get_or runs k d).width
-start_more runs k d l = sum_by_more (λ (r : Run). r.width) runs k d l
+pub start_more : (runs : List OutlineRun) (k : ℕ) (d : OutlineRun) → k < length runs → run_start runs (k + 1) ≡ run_start runs k + (get_or runs k d).width
+start_more runs k d l = sum_by_more (λ (r : OutlineRun). r.width) runs k d l
 
 -- later runs begin further to the right
-pub start_le : (runs : List Run) (j k : ℕ) → j ≤ k → run_start runs j ≤ run_start runs k
+pub start_le : (runs : List OutlineRun) (j k : ℕ) → j ≤ k → run_start runs j ≤ run_start runs k
 start_le runs zero k h = omega arith
 start_le [] (suc j) zero h = absurd (omega arith)
 start_le [] (suc j) (suc k) h = omega arith
 start_le (r ∷ runs) (suc j) zero h = absurd (omega arith)
 start_le (r ∷ runs) (suc j) (suc k) h =
-    omega (arith, start_le runs j k (omega arith), sum_by-cons (λ (s : Run). s.width) r (take j runs), sum_by-cons (λ (s : Run). s.width) r (take k runs))
+    omega (
+      arith,
+      start_le runs j k (omega arith),
+      sum_by-cons (λ (s : OutlineRun). s.width) r (take j runs),
+      sum_by-cons (λ (s : OutlineRun). s.width) r (take k runs),
+    )
+
+-- between the beginnings of two runs lie the columns of the runs from the first of them up to the second
+pub start_between : (runs : List OutlineRun) (j k : ℕ) → j ≤ k → run_start runs j + width_of (take (k - j) (drop j runs)) ≡ run_start runs k
+start_between runs j k order =
+    omega (
+      arith,
+      sum_by-take-drop (λ (r : OutlineRun). r.width) (take k runs) j,
+      ap width_of (take-drop_swap runs j k order),
+      ap width_of (take-take j k runs order),
+    )
 
 -- past the last run begins what is behind all of them
-start_all : (runs : List Run) (n : ℕ) → length runs ≤ n → run_start runs n ≡ width_of runs
+start_all : (runs : List OutlineRun) (n : ℕ) → length runs ≤ n → run_start runs n ≡ width_of runs
 start_all runs n h = ap width_of (take_all n runs h)
 
 -- no run begins behind all of them
-pub start_below : (runs : List Run) (b : ℕ) → run_start runs b ≤ width_of runs
-start_below runs b = sum_by-take-le (λ (r : Run). r.width) runs b
+pub start_below : (runs : List OutlineRun) (b : ℕ) → run_start runs b ≤ width_of runs
+start_below runs b = sum_by-take-le (λ (r : OutlineRun). r.width) runs b
 
-level_from : (laid : List Square) (x : ℕ) (runs : List Run) (k : ℕ) (d : Run) (c : ℕ) → AreLevel laid x runs → k < length runs → x + run_start runs k ≤ c
+level_from : (laid : List Square) (x : ℕ) (runs : List OutlineRun) (k : ℕ) (d : OutlineRun) (c : ℕ) → AreLevel laid x runs → k < length runs
+    → x + run_start runs k ≤ c
     → c < x + run_start runs (k + 1) → depth laid c ≡ (get_or runs k d).level
 level_from laid x [] k d c all l from to = absurd (omega arith)
 level_from laid x (r ∷ runs) zero d c all l from to = all.0 c (omega arith) (omega (arith, start_more (r ∷ runs) 0 no_run (omega arith)))
 level_from laid x (r ∷ runs) (suc k) d c all l from to =
-    level_from laid (x + r.width) runs k d c all.1 (omega arith) (omega (arith, sum_by-cons (λ (s : Run). s.width) r (take k runs)))
-    (omega (arith, sum_by-cons (λ (s : Run). s.width) r (take (k + 1) runs), ap (λ n. width_of (take n (r ∷ runs))) (same k)))
+    level_from laid (x + r.width) runs k d c all.1 (omega arith) (omega (arith, sum_by-cons (λ (s : OutlineRun). s.width) r (take k runs)))
+    (omega (arith, sum_by-cons (λ (s : OutlineRun). s.width) r (take (k + 1) runs), ap (λ n. width_of (take n (r ∷ runs))) (same k)))
   where
     same : (n : ℕ) → suc n + 1 ≡ suc (n + 1)
     same n = omega arith
 
 -- the depth of a column is the level of its run
-pub level_at : (w : ℕ) (laid : List Square) (runs : List Run) (k : ℕ) (d : Run) (c : ℕ) → AreOutlineRuns w laid runs → k < length runs → run_start runs k ≤ c
+pub level_at : (w : ℕ) (laid : List Square) (runs : List OutlineRun) (k : ℕ) (d : OutlineRun) (c : ℕ) → AreOutlineRuns w laid runs → k < length runs
+    → run_start runs k ≤ c
     → c < run_start runs (k + 1) → depth laid c ≡ (get_or runs k d).level
 level_at w laid runs k d c outline l from to = level_from laid 0 runs k d c outline.level l (omega arith) (omega arith)
 
 -- the run over a column, where the first run begins at x
-pub record Lies (x : ℕ) (runs : List Run) (c : ℕ) : Type 0 where
+pub record Lies (x : ℕ) (runs : List OutlineRun) (c : ℕ) : Type 0 where
   pub place : ℕ
   pub below : place < length runs
   pub from : x + run_start runs place ≤ c
   pub to : c < x + run_start runs (place + 1)
 
 -- over each column lies a run
-run_over_column : (x : ℕ) (runs : List Run) (c : ℕ) → x ≤ c → c < x + width_of runs → Lies x runs c
+run_over_column : (x : ℕ) (runs : List OutlineRun) (c : ℕ) → x ≤ c → c < x + width_of runs → Lies x runs c
 run_over_column x [] c l h = absurd (omega arith)
 run_over_column x (r ∷ runs) c l h =
-    let whole : width_of (r ∷ runs) ≡ r.width + width_of runs = sum_by-cons (λ (s : Run). s.width) r runs in
+    let whole : width_of (r ∷ runs) ≡ r.width + width_of runs = sum_by-cons (λ (s : OutlineRun). s.width) r runs in
     ⊎_elim
     (λ (k : c < x + r.width). record { place = 0; below = omega arith; from = omega arith; to = omega (arith, start_more (r ∷ runs) 0 no_run (omega arith)) })
     (λ (k : x + r.width ≤ c).
@@ -72,8 +90,13 @@ run_over_column x (r ∷ runs) c l h =
     record {
       place = suc rest.place;
       below = omega (arith, rest.below);
-      from = omega (arith, rest.from, sum_by-cons (λ (s : Run). s.width) r (take rest.place runs));
-      to = omega (arith, rest.to, sum_by-cons (λ (s : Run). s.width) r (take (rest.place + 1) runs), ap (λ n. width_of (take n (r ∷ runs))) (same rest.place));
+      from = omega (arith, rest.from, sum_by-cons (λ (s : OutlineRun). s.width) r (take rest.place runs));
+      to = omega (
+        arith,
+        rest.to,
+        sum_by-cons (λ (s : OutlineRun). s.width) r (take (rest.place + 1) runs),
+        ap (λ n. width_of (take n (r ∷ runs))) (same rest.place),
+      );
     })
     (cases_lt c (x + r.width))
   where
@@ -81,8 +104,9 @@ run_over_column x (r ∷ runs) c l h =
     same n = omega arith
 
 -- the leftmost runs of least level that touch are the gap
-pub gap_from_runs : (w : ℕ) (laid : List Square) (runs : List Run) (a b : ℕ) (gap : Segment) → AreOutlineRuns w laid runs → IsLowest runs (length runs) a b
-    → gap.x ≡ run_start runs a → gap.x + gap.width ≡ run_start runs b → ((d : Run) → gap.level ≡ (get_or runs a d).level) → IsGap w laid gap
+pub gap_from_runs : (w : ℕ) (laid : List Square) (runs : List OutlineRun) (a b : ℕ) (gap : Segment) → AreOutlineRuns w laid runs
+    → IsLowest runs (length runs) a b
+    → gap.x ≡ run_start runs a → gap.x + gap.width ≡ run_start runs b → ((d : OutlineRun) → gap.level ≡ (get_or runs a d).level) → IsGap w laid gap
 gap_from_runs w laid runs a b gap outline lowest x end level = record {
   flat = record {
     some = omega (arith, x, end, start_le runs (a + 1) b (omega (arith, lowest.some)), start_more runs a no_run first, outline.some a no_run first);
@@ -140,7 +164,7 @@ gap_from_runs w laid runs a b gap outline lowest x end level = record {
         ⊎_elim (λ (k : at.place < a). k) (λ (k : a ≤ at.place). absurd (omega (arith, at.from, x, l, start_le runs a at.place k))) (cases_lt at.place a)
 
 -- the columns of a run lie in the width and have its level
-in_width : (w : ℕ) (laid : List Square) (runs : List Run) (k : ℕ) → AreOutlineRuns w laid runs → k < length runs
+in_width : (w : ℕ) (laid : List Square) (runs : List OutlineRun) (k : ℕ) → AreOutlineRuns w laid runs → k < length runs
     → (run_start runs k < w) × (depth laid (run_start runs k) ≡ (get_or runs k no_run).level)
 in_width w laid runs k outline l =
     let some : 0 < (get_or runs k no_run).width = outline.some k no_run l in (
@@ -149,7 +173,7 @@ in_width w laid runs k outline l =
     )
 
 -- the lowest runs' level is the least depth
-pub least_depth : (w : ℕ) (laid : List Square) (runs : List Run) (a b : ℕ) → AreOutlineRuns w laid runs → IsLowest runs (length runs) a b
+pub least_depth : (w : ℕ) (laid : List Square) (runs : List OutlineRun) (a b : ℕ) → AreOutlineRuns w laid runs → IsLowest runs (length runs) a b
     → IsLeastDepth (record { width = w; squares = laid }) (get_or runs a no_run).level
 least_depth w laid runs a b outline lowest = record {
   column = run_start runs a;
@@ -168,8 +192,8 @@ least_depth w laid runs a b outline lowest = record {
     first = omega (arith, lowest.some, lowest.within)
 
 -- a level that is a run's and that none passes is the greatest depth
-pub greatest_depth : (w : ℕ) (laid : List Square) (runs : List Run) (k greatest : ℕ) → AreOutlineRuns w laid runs
-    → All (λ (r : Run). r.level ≤ greatest) runs → k < length runs → HoldsAt (λ (r : Run). r.level ≡ greatest) runs k
+pub greatest_depth : (w : ℕ) (laid : List Square) (runs : List OutlineRun) (k greatest : ℕ) → AreOutlineRuns w laid runs
+    → All (λ (r : OutlineRun). r.level ≤ greatest) runs → k < length runs → HoldsAt (λ (r : OutlineRun). r.level ≡ greatest) runs k
     → IsGreatestDepth (record { width = w; squares = laid }) greatest
 greatest_depth w laid runs k greatest outline most below at = record {
   column = run_start runs k;

@@ -17,7 +17,7 @@ use Rattle.bk_profile.specs.Laid.{IsGreatestDepth, IsLeastDepth, Laid}
 use Rattle.bk_profile.specs.OutlineRuns.{AreLowestRuns, IsLowest, runs_under_group, width_of}
 use Rattle.bk_profile.specs.StoredProfile.{IsStoredProfile}
 use Rattle.bk_profile.specs.declared.runs.LowestRuns.{LowestRuns}
-use Rattle.bk_profile.specs.declared.runs.Run.{Run}
+use Rattle.bk_profile.specs.declared.runs.OutlineRun.{OutlineRun}
 
 -- the columns of a gap, by the sum of the sides that fill it
 pub depth_in_filled_gap : (w : ℕ) (laid : List Square) (gap : Segment) (sides : List ℕ) → IsGap w laid gap → FitsGap gap sides → (c : ℕ) → gap.x ≤ c
@@ -25,20 +25,20 @@ pub depth_in_filled_gap : (w : ℕ) (laid : List Square) (gap : Segment) (sides 
 depth_in_filled_gap w laid gap sides is fits c l h = (is.flat).level c l (omega (arith, h, fits, sum_is_total sides))
 
 -- a stored profile has a run
-pub some_runs : (p : Laid) (runs : List Run) → IsStoredProfile p runs → 0 < length runs
+pub some_runs : (p : Laid) (runs : List OutlineRun) → IsStoredProfile p runs → 0 < length runs
 some_runs p [] stored = absurd (omega (arith, (stored.outline).whole, (stored.profile).some))
 some_runs p (r ∷ runs) stored = omega arith
 
 -- the stored runs have less than 2^63 columns
-pub narrow_runs : (p : Laid) (runs : List Run) → IsStoredProfile p runs → width_of runs < 9223372036854775808
+pub narrow_runs : (p : Laid) (runs : List OutlineRun) → IsStoredProfile p runs → width_of runs < 9223372036854775808
 narrow_runs p runs stored = omega (arith, (stored.outline).whole, (stored.profile).narrow)
 
 -- what is read off the runs of a stored profile
-module _ (p : Laid) (runs read : List Run) (lowest : LowestRuns) (stored : IsStoredProfile p runs) (same : read ≡ runs)
+module _ (p : Laid) (runs read : List OutlineRun) (lowest : LowestRuns) (stored : IsStoredProfile p runs) (same : read ≡ runs)
     (are : AreLowestRuns read lowest) where
   -- the runs that are read as the lowest are the lowest ones that are stored
   lowest_stored : AreLowestRuns runs lowest
-  lowest_stored = subst (λ (l : List Run). AreLowestRuns l lowest) same are
+  lowest_stored = subst (λ (l : List OutlineRun). AreLowestRuns l lowest) same are
 
   -- the segment that the lowest runs make is the gap
   pub gap_read : IsGap p.width p.squares lowest.segment
@@ -75,16 +75,18 @@ module _ (p : Laid) (runs read : List Run) (lowest : LowestRuns) (stored : IsSto
   }
 
 -- the depths that are read off
-pub least_read : (p : Laid) (runs once twice : List Run) (places : ℕ × ℕ) → IsStoredProfile p runs → once ≡ runs → twice ≡ runs
+pub least_read : (p : Laid) (runs once twice : List OutlineRun) (places : ℕ × ℕ) → IsStoredProfile p runs → once ≡ runs → twice ≡ runs
     → IsLowest once (length once) places.0 places.1 → IsLeastDepth p (get_or twice places.0 no_run).level
 least_read p runs once twice places stored e f lowest =
-    subst (λ (l : List Run). IsLeastDepth p (get_or l places.0 no_run).level) (sym f)
-    (least_depth p.width p.squares runs places.0 places.1 stored.outline (subst (λ (l : List Run). IsLowest l (length l) places.0 places.1) e lowest))
+    subst (λ (l : List OutlineRun). IsLeastDepth p (get_or l places.0 no_run).level) (sym f)
+    (least_depth p.width p.squares runs places.0 places.1 stored.outline (subst (λ (l : List OutlineRun). IsLowest l (length l) places.0 places.1) e lowest))
 
 -- the greatest level of the stored runs is the greatest depth
-pub greatest_read : (p : Laid) (runs once : List Run) (greatest : ℕ) → IsStoredProfile p runs → once ≡ runs → All (λ (r : Run). r.level ≤ greatest) once
-    → (k : ℕ) × (k < length once) × HoldsAt (λ (r : Run). r.level ≡ greatest) once k → IsGreatestDepth p greatest
+pub greatest_read : (p : Laid) (runs once : List OutlineRun) (greatest : ℕ) → IsStoredProfile p runs → once ≡ runs
+    → All (λ (r : OutlineRun). r.level ≤ greatest) once
+    → (k : ℕ) × (k < length once) × HoldsAt (λ (r : OutlineRun). r.level ≡ greatest) once k → IsGreatestDepth p greatest
 greatest_read p runs once greatest stored e most some =
-    let at : (k : ℕ) × (k < length runs) × HoldsAt (λ (r : Run). r.level ≡ greatest) runs k =
-    subst (λ (l : List Run). (k : ℕ) × (k < length l) × HoldsAt (λ (r : Run). r.level ≡ greatest) l k) e some in
-    greatest_depth p.width p.squares runs at.0 greatest stored.outline (subst (λ (l : List Run). All (λ (r : Run). r.level ≤ greatest) l) e most) at.1 at.2
+    let at : (k : ℕ) × (k < length runs) × HoldsAt (λ (r : OutlineRun). r.level ≡ greatest) runs k =
+    subst (λ (l : List OutlineRun). (k : ℕ) × (k < length l) × HoldsAt (λ (r : OutlineRun). r.level ≡ greatest) l k) e some in
+    greatest_depth p.width p.squares runs at.0 greatest stored.outline
+    (subst (λ (l : List OutlineRun). All (λ (r : OutlineRun). r.level ≤ greatest) l) e most) at.1 at.2

@@ -24,7 +24,7 @@ FitsGap gap group = sum group ≡ gap.width
 abbrev pub laid_with_group : List Square → Segment → List ℕ → List Square
 laid_with_group laid gap group = laid ++ laid_group gap.x gap.level group
 
--- each group fits into the gap at its turn, and these squares are laid in the end
+-- each group fits into the gap that is there then, and these squares are laid in the end
 abbrev pub LaysTo : ℕ → List Square → Code → List Square → Type 0
 LaysTo width laid [] end = laid ≡ end
 LaysTo width laid (group ∷ code) end =
@@ -35,7 +35,7 @@ abbrev pub next_group : ℕ → List ℕ → List ℕ
 next_group n [] = []
 next_group n (s ∷ sides) = s ∷ cond (nat_le n s) [] (next_group (n - s) sides)
 
--- the groups into which a flat list is divided: at each turn the shortest prefix that fills the gap. The
+-- the groups into which a flat list is divided: at each step the shortest prefix that fills the gap. The
 -- division ends with the first group that does not fit, or with the last side.
 pub data Divides (width : ℕ) : List Square → List ℕ → Code → Type 0 where
   done : {laid : List Square} → Divides width laid [] []

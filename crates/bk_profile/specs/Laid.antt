@@ -70,7 +70,7 @@ pub record IsGreatestDepth (p : Laid) (greatest : ℕ) : Type 0 where
   pub there : depth p.squares column ≡ greatest
   pub above : (c : ℕ) → c < p.width → depth p.squares c ≤ greatest
 
--- groups were laid, one after another, each into the gap of its turn
+-- groups were laid, one after another, each into the gap that was there then
 pub record IsLaidOut (p : Laid) : Type 0 where
   pub code : Code
   pub kept : IsKeptCode code

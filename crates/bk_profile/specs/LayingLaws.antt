@@ -16,7 +16,7 @@ abbrev pub ACodeIsRefusedInOneWay : Type 0
 ACodeIsRefusedInOneWay =
     (width : ℕ) (code : Code) (r s : Refusal) → IsRefused width code r → IsRefused width code s → r ≡ s
 
--- and so has a flat list
+-- a flat list has one refusal at most
 abbrev pub AFlatListIsRefusedInOneWay : Type 0
 AFlatListIsRefusedInOneWay =
     (width : ℕ) (sides : List ℕ) (r s : Refusal) → IsFlatRefused width sides r → IsFlatRefused width sides s → r ≡ s
@@ -28,7 +28,7 @@ ARefusedCodeHasNoTiling =
     (code : Code) (r : Refusal) → 0 < length code → IsRefused (first_sum code) code r → (t : Tiling)
     → ¬ (HasCode code t)
 
--- and none has a width and a flat list that are refused
+-- no tiling has a width and a flat list that are refused
 abbrev pub ARefusedFlatListHasNoTiling : Type 0
 ARefusedFlatListHasNoTiling =
     (width : ℕ) (sides : List ℕ) (r : Refusal) → IsFlatRefused width sides r → (t : Tiling) → ¬ (HasFlat width sides t)

@@ -5,25 +5,25 @@ use Rattle.std.specs.Prelude.{List, [], length, map, slice_index_or, sum_by, tak
 use Rattle.bk_tiling.specs.Column.{depth}
 use Rattle.bk_tiling.specs.declared.Square.{Square}
 use Rattle.bk_profile.specs.declared.runs.LowestRuns.{LowestRuns}
-use Rattle.bk_profile.specs.declared.runs.Run.{Run}
+use Rattle.bk_profile.specs.declared.runs.OutlineRun.{OutlineRun}
 use Rattle.bk_tiling.specs.declared.TheConstants.{LONGEST_SIDE}
 
 -- how many columns the runs have
-abbrev pub width_of : List Run → ℕ
+abbrev pub width_of : List OutlineRun → ℕ
 width_of runs = sum_by (λ r. r.width) runs
 
 -- the first column of the run at place k: the width of the runs before it
-abbrev pub run_start : List Run → ℕ → ℕ
+abbrev pub run_start : List OutlineRun → ℕ → ℕ
 run_start runs k = width_of (take k runs)
 
 -- the columns of each run have its level as their depth, where the first run begins at column x
-abbrev pub AreLevel : List Square → ℕ → List Run → Type 0
+abbrev pub AreLevel : List Square → ℕ → List OutlineRun → Type 0
 AreLevel laid x [] = ⊤
 AreLevel laid x (r ∷ runs) =
     ((c : ℕ) → x ≤ c → c < x + r.width → depth laid c ≡ r.level) × AreLevel laid (x + r.width) runs
 
 -- the runs are the outline of the squares laid in this width
-pub record AreOutlineRuns (width : ℕ) (laid : List Square) (runs : List Run) : Type 0 where
+pub record AreOutlineRuns (width : ℕ) (laid : List Square) (runs : List OutlineRun) : Type 0 where
   pub some : All (λ r. 0 < r.width) runs
   pub whole : width_of runs ≡ width
   pub level : AreLevel laid 0 runs
@@ -31,25 +31,26 @@ pub record AreOutlineRuns (width : ℕ) (laid : List Square) (runs : List Run) :
   pub low : All (λ r. r.level ≤ length laid * LONGEST_SIDE) runs
 
 -- among the first n runs those from place a up to b are the leftmost ones of least level that touch
-pub record IsLowest (runs : List Run) (n a b : ℕ) : Type 0 where
+pub record IsLowest (runs : List OutlineRun) (n a b : ℕ) : Type 0 where
   pub some : a < b
   pub within : b ≤ n
-  pub level : (k : ℕ) (d : Run) → a ≤ k → k < b → (slice_index_or runs k d).level ≡ (slice_index_or runs a d).level
-  pub least : (k : ℕ) (d : Run) → k < n → (slice_index_or runs a d).level ≤ (slice_index_or runs k d).level
-  pub left : (k : ℕ) (d : Run) → k < a → (slice_index_or runs a d).level < (slice_index_or runs k d).level
-  pub right : (d : Run) → b < n → (slice_index_or runs a d).level < (slice_index_or runs b d).level
+  pub level : (k : ℕ) (d : OutlineRun) → a ≤ k → k < b
+      → (slice_index_or runs k d).level ≡ (slice_index_or runs a d).level
+  pub least : (k : ℕ) (d : OutlineRun) → k < n → (slice_index_or runs a d).level ≤ (slice_index_or runs k d).level
+  pub left : (k : ℕ) (d : OutlineRun) → k < a → (slice_index_or runs a d).level < (slice_index_or runs k d).level
+  pub right : (d : OutlineRun) → b < n → (slice_index_or runs a d).level < (slice_index_or runs b d).level
 
 -- the leftmost runs of least level that touch, and the segment that they make
-pub record AreLowestRuns (runs : List Run) (lowest : LowestRuns) : Type 0 where
+pub record AreLowestRuns (runs : List OutlineRun) (lowest : LowestRuns) : Type 0 where
   pub places : IsLowest runs (length runs) lowest.first lowest.end
   pub x : lowest.segment.x ≡ run_start runs lowest.first
   pub end : lowest.segment.x + lowest.segment.width ≡ run_start runs lowest.end
-  pub level : (d : Run) → lowest.segment.level ≡ (slice_index_or runs lowest.first d).level
+  pub level : (d : OutlineRun) → lowest.segment.level ≡ (slice_index_or runs lowest.first d).level
 
 -- the run that a square of this side leaves under it
-abbrev pub run_under_side : ℕ → ℕ → Run
+abbrev pub run_under_side : ℕ → ℕ → OutlineRun
 run_under_side level s = record { width = s; level = level + s }
 
 -- the runs that a group leaves under it
-abbrev pub runs_under_group : ℕ → List ℕ → List Run
+abbrev pub runs_under_group : ℕ → List ℕ → List OutlineRun
 runs_under_group level sides = map (run_under_side level) sides

@@ -2,29 +2,24 @@
 
 ghost use Rattle.std.specs.List.{AllByRecursion};
 ghost use Rattle.std.specs.Prelude.{IfErr, IfOk, IsOk, IsOkAnd, OnErr, OnOk, length, ◌<◌, ◌≡◌, ◌≤◌};
+ghost use Rattle.bk_code.specs.declared.TheConstants.{LARGEST_HEADER_NUMBER};
 ghost use Rattle.bk_tiling.specs.KeptTiling.{IsSide};
 ghost use Rattle.bk_tiling.specs.Tiling.{Tiling as Tiled};
+ghost use Rattle.bk_tiling.specs.declared.TheConstants.{MOST_SQUARES};
 ghost use Rattle.bk_profile.specs.Refused.{HasFlat, IsFlatRefused};
-ghost use Rattle.bk_profile.specs.declared.dividing.TheConstants.{LARGEST_WIDTH};
 
 use crate::laying::{Refusal, even_height};
-use crate::profile::Profile;
-use bk_tiling::{LONGEST_SIDE, MOST_SQUARES, Tiling, sum_of};
+use crate::profile::{Profile, WIDEST_PROFILE};
+use bk_tiling::{Tiling, sum_of};
 
-/// The greatest width that a flat list is laid under.
-pub const LARGEST_WIDTH: u64 = 999_999_999_999_999_999;
-
-/// No 200 sides have a greater sum.
-const WIDEST: u64 = MOST_SQUARES as u64 * LONGEST_SIDE;
-
-/// Divides a flat list of sides into groups and lays them under a width of 1 to `LARGEST_WIDTH`: the next group
-/// is the shortest prefix of the sides that are left whose sum reaches the width of the gap, or all of them. The result
-/// is the one tiling that has this width and a code with this flat list. It is refused exactly where no tiling has
-/// them, with the first group that doesn't fit, or with the depths where all fit and the outline ends uneven. This
+/// Divides a flat list of sides into groups and lays them under a width of 1 to `LARGEST_HEADER_NUMBER`: the next
+/// group is the shortest prefix of the sides that are left whose sum reaches the width of the gap, or all of them. The
+/// result is the one tiling that has this width and a code with this flat list. It is refused exactly where no tiling
+/// has them, with the first group that doesn't fit, or with the depths where all fit and the outline ends uneven. This
 /// division is our own.
 pub fn lay_flat(width: u64, sides: &[u64]) -> Result<Tiling, Refusal>
     requires wide { 0 < width }
-    requires narrow { width ≤ LARGEST_WIDTH }
+    requires narrow { width ≤ LARGEST_HEADER_NUMBER }
     requires some { 0 < length sides.now }
     requires few { length sides.now ≤ MOST_SQUARES }
     requires sides { AllByRecursion IsSide sides.now }
@@ -50,7 +45,7 @@ pub fn lay_flat_in(
     tiling: &mut Tiling,
 ) -> Result<(), Refusal>
     requires wide { 0 < width }
-    requires narrow { width ≤ LARGEST_WIDTH }
+    requires narrow { width ≤ LARGEST_HEADER_NUMBER }
     requires some { 0 < length sides.now }
     requires few { length sides.now ≤ MOST_SQUARES }
     requires sides { AllByRecursion IsSide sides.now }
@@ -59,7 +54,7 @@ pub fn lay_flat_in(
     ensures refused { IfErr result (IsFlatRefused width sides.now) }
     ensures same { OnErr result (tiling.new ≡ tiling.old) }
 {
-    if width > WIDEST {
+    if width > WIDEST_PROFILE {
         return Err(Refusal::Gap {
             group: 1,
             gap: width,

@@ -14,7 +14,7 @@ use thiserror::Error;
 /// Why laying gives no tiling.
 #[derive(Clone, Copy, Debug, PartialEq, Eq, Error)]
 pub enum Refusal {
-    /// The sum of this group, counted from 1, isn't the width of the gap at its turn; all groups before it fit.
+    /// The sum of this group, counted from 1, isn't the width of the gap that it comes to; all groups before it fit.
     #[error("Gap")]
     Gap { group: usize, gap: u64, sum: u64 },
     /// All groups fit, and the least depth is below the greatest in the end.

@@ -8,8 +8,12 @@ ghost use Rattle.bk_profile.specs.declared.profile.TheConstants.{WIDEST_PROFILE}
 ghost use Rattle.bk_profile.specs.Gap.{IsGap, next_group};
 ghost use Rattle.bk_profile.specs.Laid.{IsGreatestDepth, IsLaidTiling, IsLeastDepth, IsProfile, LaysGroup};
 ghost use Rattle.bk_profile.specs.Laid.{LaysNextGroup, MisfitsGap, MisfitsNextGroup};
+ghost use Rattle.bk_profile.specs.OutlineRuns.{AreLowestRuns};
+ghost use Rattle.bk_profile.specs.StoredProfile.{IsStoredProfile, laid_over};
 
-use crate::runs::{MOST_RUNS, Run, hang, highest, lowest, lowest_runs, push_runs};
+use crate::runs::{
+    LowestRuns, MOST_RUNS, OutlineRun, hang, highest, lowest, lowest_runs, push_runs,
+};
 use arrayvec::ArrayVec;
 use bk_tiling::{MOST_SQUARES, Segment, Square, Tiling, push_group, sum_of};
 use std::marker::Model;
@@ -26,13 +30,13 @@ pub struct GapFault {
     pub sum: u64,
 }
 
-/// Squares laid under each other in a width, each group into the gap of its turn (Bouwkamp's rule of reading a code,
-/// 1946-47). The gap is the leftmost maximal run of columns of least depth.
+/// Squares laid under each other in a width, each group into the gap that is there then (Bouwkamp's rule of reading a
+/// code, 1946-47). The gap is the leftmost maximal run of columns of least depth.
 #[derive(Drop)]
 pub struct Profile {
     width: u64,
     laid: ArrayVec<Square, MOST_SQUARES>,
-    outline: ArrayVec<Run, MOST_RUNS>,
+    outline: ArrayVec<OutlineRun, MOST_RUNS>,
 }
 
 impl Model for Profile {
@@ -54,7 +58,7 @@ impl Profile {
         ensures { result ≡ record { width = width; squares = [] } }
     {
         let mut outline = ArrayVec::new();
-        outline.push(Run { width, level: 0 });
+        outline.push(OutlineRun { width, level: 0 });
         Profile {
             width,
             laid: ArrayVec::new(),
@@ -71,7 +75,7 @@ impl Profile {
         self.width = width;
         self.laid.clear();
         self.outline.clear();
-        self.outline.push(Run { width, level: 0 });
+        self.outline.push(OutlineRun { width, level: 0 });
     }
 
     // Takes away all squares, and lays a first group under its sum as the width.
@@ -113,17 +117,8 @@ impl Profile {
         ensures same { OnErr result (self.new ≡ self.old) }
     {
         let runs = lowest_runs(&self.outline);
-        let gap = runs.segment;
         let sum = sum_of(sides);
-        if sum != gap.width {
-            return Err(GapFault {
-                gap: gap.width,
-                sum,
-            });
-        }
-        hang(&mut self.outline, runs.first, runs.end, gap.level, sides);
-        push_group(&mut self.laid, gap, sides);
-        Ok(())
+        lay_under(&mut self.laid, &mut self.outline, runs, sum, sides)
     }
 
     // Lays the next group of a flat list, the shortest prefix of the sides whose sum reaches the gap's width, or all of
@@ -135,9 +130,15 @@ impl Profile {
         ensures ok { IfOk result (λ taken. LaysNextGroup self.old sides.now taken self.new) }
         ensures err { IfErr result (λ fault. MisfitsNextGroup self.old sides.now fault.gap fault.sum) }
     {
-        let gap = self.gap();
-        let count = next_group(gap.width, sides);
-        self.lay(&sides[..count])?;
+        let runs = lowest_runs(&self.outline);
+        let (count, sum) = next_group(runs.segment.width, sides);
+        lay_under(
+            &mut self.laid,
+            &mut self.outline,
+            runs,
+            sum,
+            &sides[..count],
+        )?;
         Ok(count)
     }
 
@@ -181,23 +182,58 @@ impl Profile {
     }
 }
 
+// Lays a group, whose sum is `total`, under the gap, which the lowest runs of the outline make. It fits exactly where
+// `total` is the gap's width; else nothing is laid.
+fn lay_under(
+    laid: &mut ArrayVec<Square, MOST_SQUARES>,
+    outline: &mut ArrayVec<OutlineRun, MOST_RUNS>,
+    runs: LowestRuns,
+    total: u64,
+    sides: &[u64],
+) -> Result<(), GapFault>
+    requires stored { IsStoredProfile (laid_over outline.old.items laid.old.items) outline.old.items }
+    requires runs { AreLowestRuns outline.old.items runs }
+    requires total { sum sides.now ≡ total }
+    requires some { 0 < length sides.now }
+    requires sides { AllByRecursion IsSide sides.now }
+    requires room { length laid.old.items + length sides.now ≤ MOST_SQUARES }
+    ensures ok { OnOk result (LaysGroup (laid_over outline.old.items laid.old.items) sides.now
+        (laid_over outline.old.items laid.new.items)) }
+    ensures err { IfErr result (λ fault. MisfitsGap (laid_over outline.old.items laid.old.items) sides.now fault.gap
+        fault.sum) }
+    ensures same { OnErr result (laid.new.items ≡ laid.old.items) }
+    ensures stored { IsStoredProfile (laid_over outline.old.items laid.new.items) outline.new.items }
+{
+    let gap = runs.segment;
+    if total != gap.width {
+        return Err(GapFault {
+            gap: gap.width,
+            sum: total,
+        });
+    }
+    hang(outline, runs.first, runs.end, gap.level, sides);
+    push_group(laid, gap, sides);
+    Ok(())
+}
+
 // The next group of a flat list: how many sides it has, the least number of them whose sum reaches the width of the
-// gap, or all.
-fn next_group(gap: u64, sides: &[u64]) -> usize
+// gap, or all; and its sum.
+fn next_group(gap: u64, sides: &[u64]) -> (usize, u64)
     requires gap { 0 < gap }
     requires some { 0 < length sides.now }
     requires few { length sides.now ≤ MOST_SQUARES }
     requires sides { AllByRecursion IsSide sides.now }
-    ensures group { take result sides.now ≡ next_group gap sides.now }
-    ensures some { 0 < result }
-    ensures within { result ≤ length sides.now }
+    ensures group { take result.0 sides.now ≡ next_group gap sides.now }
+    ensures some { 0 < result.0 }
+    ensures within { result.0 ≤ length sides.now }
+    ensures sum { result.1 ≡ sum (take result.0 sides.now) }
 {
     let mut sum = 0;
     for i in 0..sides.len() {
         sum += sides[i];
         if sum >= gap {
-            return i + 1;
+            return (i + 1, sum);
         }
     }
-    sides.len()
+    (sides.len(), sum)
 }

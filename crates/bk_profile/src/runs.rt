@@ -15,7 +15,7 @@ pub(crate) const MOST_RUNS: usize = MOST_SQUARES + 1;
 
 /// A level run of columns: how many they are, and their depth. It begins where the run before it ends.
 #[derive(Clone, Copy, Default)]
-pub(crate) struct Run {
+pub(crate) struct OutlineRun {
     pub(crate) width: u64,
     pub(crate) level: u64,
 }
@@ -32,7 +32,7 @@ pub(crate) struct LowestRuns {
 }
 
 // The leftmost runs of least level that touch.
-pub(crate) fn lowest_runs(outline: &[Run]) -> LowestRuns
+pub(crate) fn lowest_runs(outline: &[OutlineRun]) -> LowestRuns
     requires some { 0 < length outline.now }
     requires narrow { width_of outline.now < 2 ^ 63 }
     ensures { AreLowestRuns outline.now result }
@@ -46,7 +46,7 @@ pub(crate) fn lowest_runs(outline: &[Run]) -> LowestRuns
 }
 
 // The places of the leftmost runs of least level that touch: the first of them, and the one after the last.
-pub(crate) fn lowest(outline: &[Run]) -> (usize, usize)
+pub(crate) fn lowest(outline: &[OutlineRun]) -> (usize, usize)
     requires { 0 < length outline.now }
     ensures { IsLowest outline.now (length outline.now) result.0 result.1 }
 {
@@ -66,7 +66,7 @@ pub(crate) fn lowest(outline: &[Run]) -> (usize, usize)
 }
 
 // The segment of the runs from one place up to another.
-fn segment(outline: &[Run], first: usize, end: usize) -> Segment
+fn segment(outline: &[OutlineRun], first: usize, end: usize) -> Segment
     requires order { first < end }
     requires within { end ≤ length outline.now }
     requires narrow { width_of outline.now < 2 ^ 63 }
@@ -74,16 +74,15 @@ fn segment(outline: &[Run], first: usize, end: usize) -> Segment
     ensures end { result.x + result.width ≡ run_start outline.now end }
     ensures level { HoldsAt (λ run. result.level ≡ run.level) outline.now first }
 {
-    let x = columns(&outline[..first]);
     Segment {
-        x,
-        width: columns(&outline[..end]) - x,
+        x: columns(&outline[..first]),
+        width: columns(&outline[first..end]),
         level: outline[first].level,
     }
 }
 
 // How many columns the runs have.
-fn columns(outline: &[Run]) -> u64
+fn columns(outline: &[OutlineRun]) -> u64
     requires { width_of outline.now < 2 ^ 63 }
     ensures { result ≡ width_of outline.now }
 {
@@ -95,7 +94,7 @@ fn columns(outline: &[Run]) -> u64
 }
 
 // The greatest level.
-pub(crate) fn highest(outline: &[Run]) -> u64
+pub(crate) fn highest(outline: &[OutlineRun]) -> u64
     requires { 0 < length outline.now }
     ensures most { All (λ r. r.level ≤ result) outline.now }
     ensures some { (k : ℕ) × (k < length outline.now) × HoldsAt (λ r. r.level ≡ result) outline.now k }
@@ -111,7 +110,7 @@ pub(crate) fn highest(outline: &[Run]) -> u64
 
 // Puts the runs under a group, whose tops are at a level, in the place of the runs from one place up to another.
 pub(crate) fn hang(
-    outline: &mut ArrayVec<Run, MOST_RUNS>,
+    outline: &mut ArrayVec<OutlineRun, MOST_RUNS>,
     first: usize,
     end: usize,
     level: u64,
@@ -132,19 +131,19 @@ pub(crate) fn hang(
 }
 
 // Puts the run under a square in the place of another.
-fn set_run(outline: &mut ArrayVec<Run, MOST_RUNS>, place: usize, level: u64, side: u64)
+fn set_run(outline: &mut ArrayVec<OutlineRun, MOST_RUNS>, place: usize, level: u64, side: u64)
     requires place { place < length outline.old.items }
     requires fits { level + side < 2 ^ 64 }
     ensures { outline.new.items ≡ slice_set outline.old.items place (run_under_side level side) }
 {
-    outline[place] = Run {
+    outline[place] = OutlineRun {
         width: side,
         level: level + side,
     };
 }
 
 // Takes out the runs from one place up to another.
-fn take_out(outline: &mut ArrayVec<Run, MOST_RUNS>, first: usize, end: usize)
+fn take_out(outline: &mut ArrayVec<OutlineRun, MOST_RUNS>, first: usize, end: usize)
     requires order { first ≤ end }
     requires within { end ≤ length outline.old.items }
     ensures { outline.new.items ≡ take first outline.old.items ++ drop end outline.old.items }
@@ -157,7 +156,7 @@ fn take_out(outline: &mut ArrayVec<Run, MOST_RUNS>, first: usize, end: usize)
 }
 
 // Puts in the runs under a group, from a place on.
-fn put_in(outline: &mut ArrayVec<Run, MOST_RUNS>, first: usize, level: u64, sides: &[u64])
+fn put_in(outline: &mut ArrayVec<OutlineRun, MOST_RUNS>, first: usize, level: u64, sides: &[u64])
     requires place { first ≤ length outline.old.items }
     requires room { length outline.old.items + length sides.now ≤ MOST_RUNS }
     requires high { level < 2 ^ 63 }
@@ -168,7 +167,7 @@ fn put_in(outline: &mut ArrayVec<Run, MOST_RUNS>, first: usize, level: u64, side
     for (i, side) in sides.iter().enumerate() {
         outline.insert(
             first + i,
-            Run {
+            OutlineRun {
                 width: *side,
                 level: level + *side,
             },
@@ -177,14 +176,14 @@ fn put_in(outline: &mut ArrayVec<Run, MOST_RUNS>, first: usize, level: u64, side
 }
 
 // Appends the runs under a group.
-pub(crate) fn push_runs(outline: &mut ArrayVec<Run, MOST_RUNS>, level: u64, sides: &[u64])
+pub(crate) fn push_runs(outline: &mut ArrayVec<OutlineRun, MOST_RUNS>, level: u64, sides: &[u64])
     requires room { length outline.old.items + length sides.now ≤ MOST_RUNS }
     requires high { level < 2 ^ 63 }
     requires sides { AllByRecursion IsSide sides.now }
     ensures { outline.new.items ≡ outline.old.items ++ runs_under_group level sides.now }
 {
     for i in 0..sides.len() {
-        outline.push(Run {
+        outline.push(OutlineRun {
             width: sides[i],
             level: level + sides[i],
         });

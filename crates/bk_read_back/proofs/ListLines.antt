@@ -103,7 +103,7 @@ module _ (last : Last) (n listed : ℕ) (small : n ≤ 16) (fits : listed < 2 ^ 
   pub last_printed : (class : Class) → IsPrinted (last_text last n class listed)
   last_printed class = joined_printed 32 (omega arith) (last_words last n class listed) (pieces_printed (last_words last n class listed) (all_words class))
 
-  -- it is a comment
+  -- a listing's last line is a comment
   pub last_has_none : (class : Class) → HasItem (last_text last n class listed) Skip
   last_has_none class = record {
     short = omega (arith, pieces_short (last_words last n class listed) (all_words class), few_words class);

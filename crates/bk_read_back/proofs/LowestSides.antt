@@ -99,7 +99,7 @@ module _ (t : Tiling) (tiling : IsTiling t) where
       alone : side_divisor t ≡ side_divisor t * 1
       alone = omega arith
 
-  -- so they are the primitive flow of the Smith diagram
+  -- the sides in lowest terms are the primitive flow of the Smith diagram
   pub lowest_sides_are_the_primitive_flow : IsPrimitiveFlow (smith_diagram t) (pos lowest.width) (map (λ q. pos q.s) lowest.squares)
   lowest_sides_are_the_primitive_flow = (
     lowest_flow.potentials,

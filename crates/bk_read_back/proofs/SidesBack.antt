@@ -66,7 +66,7 @@ module _ (t : Tiling) (kept : IsKept t) where
     short_sides t.squares kept.sides,
   )
 
-  -- it is read as the Smith diagram
+  -- what `net` writes of a tiling is read as the Smith diagram
   pub diagram_read : HasNet (net_text t) (smith_diagram t)
   diagram_read = record {
     item = record {

@@ -82,6 +82,6 @@ module _ (t : Tiling) (tiling : IsTiling t) (own : IsCanonical t) (few : length 
         };
       }
 
--- so it is for each member
+-- each member of at most 16 squares is a small tiling
 pub members_are_small : MembersAreSmall
 members_are_small n class t small member = small_tiling t member.tiling member.canonical (omega (arith, small, member.order))

@@ -29,16 +29,17 @@ AWrittenNetIsRead = (net : Net) (end : List ℕ) → IsKeptNet net → LineEnd e
 abbrev pub net_text : Tiling → List ℕ
 net_text t = spaced (net_words (smith_diagram t) ++ codes ";" ∷ side_words t)
 
--- it is read as the Smith diagram
+-- what `net` writes of a tiling is read as its Smith diagram
 abbrev pub ASmithDiagramIsRead : Type 0
 ASmithDiagramIsRead = (t : Tiling) → IsKept t → HasNet (net_text t) (smith_diagram t)
 
--- what `flow` answers to it: the width and the sides of the tiling in lowest terms, unless the Smith diagram is wide
+-- what `flow` answers to what `net` writes of a tiling: the width and the sides of the tiling in lowest terms, unless
+-- the Smith diagram is wide
 pub data FindsSides (t : Tiling) : List (List ℕ) → Bool → Type 0 where
   finds : (IsWide (smith_diagram t) → ⊥) → FindsSides t (line (side_words (scaled_down_tiling t)) ∷ []) false
   too_wide : IsWide (smith_diagram t) → FindsSides t (refusal_line Wide ∷ []) true
 
--- so it is for each answer
+-- each answer of `flow` to what `net` writes of a tiling finds the sides
 abbrev pub TheSidesAreFound : Type 0
 TheSidesAreFound = (t : Tiling) (pieces : List (List ℕ)) (refused : Bool) → IsKept t
     → AnswersLine (Memory Flow) (net_text t) pieces refused → FindsSides t pieces refused

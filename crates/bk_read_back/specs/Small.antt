@@ -15,7 +15,7 @@ pub record IsSmallTiling (t : Tiling) : Type 0 where
   pub sides : AllByRecursion (λ q. q.s ≤ 2 ^ 34) t.squares
   pub kept : IsKept t
 
--- a member of at most 16 squares is such a tiling. Of order 2 and the class imperfect it is the row of two squares of
+-- a member of at most 16 squares is a small tiling. Of order 2 and the class imperfect it is the row of two squares of
 -- side 1
 abbrev pub MembersAreSmall : Type 0
 MembersAreSmall = (n : ℕ) (class : Class) (t : Tiling) → n ≤ LARGEST_LISTED_ORDER → IsMember n class t → IsSmallTiling t

@@ -14,7 +14,7 @@ pub checked : verdict_line rectangle_33x32 None None ≡ codes "ok 9 33x32 perfe
 unfolding digits
 checked = refl
 
--- that is the line of check of this rectangle, which is perfect and simple
+-- the line of check of the rectangle 33x32, which is perfect and simple
 pub check_line-33x32 : IsCheckLine rectangle_33x32 (codes "ok 9 33x32 perfect simple" ++ 10 ∷ [])
 check_line-33x32 = record {
   repeated = None;

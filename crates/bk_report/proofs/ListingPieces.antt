@@ -18,10 +18,10 @@ pub last_pieces : (name order listed : List ℕ) (class wide : List (List ℕ))
     ≡ line ((codes ";" ∷ name ∷ codes "order" ∷ order ∷ []) ++ (class ++ (codes "listed" ∷ listed ∷ wide)))
 last_pieces name order listed class wide =
     ap (λ (l : List ℕ). l ++ 10 ∷ [])
-    (in_turn (codes "; " ++ name) (codes " order " ++ order) (flat_map (λ l. 32 ∷ l) class) (codes " listed " ++ listed) (flat_map (λ l. 32 ∷ l) wide)
+    (regrouped (codes "; " ++ name) (codes " order " ++ order) (flat_map (λ l. 32 ∷ l) class) (codes " listed " ++ listed) (flat_map (λ l. 32 ∷ l) wide)
     ∙ ap (λ (l : List ℕ). codes ";" ++ ((32 ∷ name) ++ ((32 ∷ codes "order") ++ ((32 ∷ order) ++ l))))
     (sym (flat_map-append (λ (l : List ℕ). 32 ∷ l) class (codes "listed" ∷ listed ∷ wide)))
     ∙ blanks_before (codes ";") (name ∷ codes "order" ∷ order ∷ class ++ (codes "listed" ∷ listed ∷ wide)))
   where
-    in_turn : (a b c d e : List ℕ) → (((a ++ b) ++ c) ++ d) ++ e ≡ a ++ (b ++ (c ++ (d ++ e)))
-    in_turn a b c d e = simp append_assoc
+    regrouped : (a b c d e : List ℕ) → (((a ++ b) ++ c) ++ d) ++ e ≡ a ++ (b ++ (c ++ (d ++ e)))
+    regrouped a b c d e = simp append_assoc

@@ -40,8 +40,9 @@ abbrev pub verdict_line : Tiling → Option ℕ → Option Rectangle → List �
 verdict_line t repeated part = line (ok_word ∷ decimal (order t) ∷ size_text t.width t.height
     ∷ perfect_text repeated ∷ simple_text part ∷ [])
 
--- check: the bytes are that line of a tiling. The side is the least one that occurs twice, and none where the tiling is
--- perfect; the rectangle is the first one that some of its squares form, and none where it is simple
+-- check: the bytes are the line of the verdicts on a tiling. The side is the least one that occurs twice, and none
+-- where the tiling is perfect; the rectangle is the first one that some of its squares form, and none where it is
+-- simple
 pub record IsCheckLine (t : Tiling) (bytes : List ℕ) : Type 0 where
   pub repeated : Option ℕ
   pub part : Option Rectangle

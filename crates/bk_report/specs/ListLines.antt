@@ -18,15 +18,15 @@ use Rattle.bk_report.specs.declared.refusal.Refused.{Refused}
 abbrev pub about_line : ℕ → List (List ℕ) → List ℕ
 about_line number pieces = line (codes "line" ∷ decimal number ∷ pieces)
 
--- it is refused
+-- the line of a number is refused
 abbrev pub refused_line : ℕ → Refused → List ℕ
 refused_line number refused = about_line number (refusal_text refused ∷ [])
 
--- it repeats an earlier one
+-- the line of a number repeats an earlier one
 abbrev pub repeats_line : ℕ → ℕ → List ℕ
 repeats_line number first = about_line number (codes "repeats" ∷ decimal first ∷ [])
 
--- it has no member of the catalogue
+-- the line of a number has no member of the catalogue
 abbrev pub foreign_line : ℕ → List ℕ
 foreign_line number = about_line number (foreign_word ∷ [])
 

@@ -7,7 +7,7 @@ abbrev pub before : List ℕ → List ℕ → List ℕ
 before text [] = text
 before text (byte ∷ bytes) = text ++ byte ∷ bytes
 
--- the text with the digits of a number in place of each mark `#` (35), in turn; a mark without a number stays
+-- the text with the digits of a number in place of each mark `#` (35), one after another; a mark without a number stays
 abbrev pub filled : List ℕ → List ℕ → List ℕ
 filled [] numbers = []
 filled (byte ∷ text) [] = byte ∷ filled text []

@@ -7,7 +7,7 @@ ghost use Rattle.bk_report.specs.Templates.{filled};
 
 use bk_grammar::{AnswerBuffer, push_number};
 
-// Appends a text with a number in place of each `#`, in turn.
+// Appends a text with a number in place of each `#`, one after another.
 pub(crate) fn push_filled(text: &[u8], numbers: &[u64], out: &mut AnswerBuffer)
     requires { array_vec_len out.old + length text.now + LONGEST_NUMBER_TEXT * length numbers.now ≤ ANSWER_ROOM }
     ensures text { out.new.items ≡ out.old.items ++ filled text.now numbers.now }

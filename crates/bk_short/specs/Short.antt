@@ -9,7 +9,7 @@ pub record Short (T : Type 0) : Type 0 where
   pub items : List T
   pub spare : List T
 
--- a short list is stored as the pair of both
+-- a short list is stored as the pair of its items and of what stands in the places to spare
 abbrev pub short_code : {T : Type 0} → Coded T → Coded (Short T)
 short_code {T} code = code_by (List T × List T) (coded× (coded_list code) (coded_list code)) (λ s. (s.items, s.spare))
     (λ p. record { items = p.0; spare = p.1 }) (λ _. refl)

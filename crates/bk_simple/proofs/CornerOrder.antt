@@ -57,7 +57,7 @@ module _ (t : Tiling) (r : Rectangle) (tiling : IsTiling t) (part : IsPart t r) 
           equal_or (inr other) = absurd (not_before (later_place t.squares tiling.ordered (bottom_right t r) (top_left t r) none
               (omega (arith, down, other)) (top_left_below t r tiling part)))
 
-  -- nor is it that square: it would be the part, and hold two squares
+  -- the square at the top left corner of a part stands before that at the bottom right one: a square that is both would be the part, and hold two squares
   pub corners_apart : top_left t r < bottom_right t r
   corners_apart = cases (cases_eq (top_left t r) (bottom_right t r))
     where

@@ -73,19 +73,19 @@ module _ (t : Tiling) (tiling : IsTiling t) (i j : ℕ) (d : Square) where
     tried_part : (r : Rectangle) → IsPartAt t i j r → IsPart t tried
     tried_part r p = subst (IsPart t) (between-one (get_or t.squares i d) (get_or t.squares j d) r tried (corners_at r p) h) p.part
 
-    -- nor where a square lies across the border of that rectangle
+    -- where a square lies across the border of the rectangle that holds two squares, no part has them at its corners
     pub none_cut : ¬ (IsUncut tried t.squares) → (r : Rectangle) → ¬ (IsPartAt t i j r)
     none_cut cut r p = cut (uncut_part t tried tiling (tried_part r p))
 
-    -- nor where fewer than two squares lie in it
+    -- where fewer than two squares lie in the rectangle that holds two squares, no part has them at its corners
     pub none_single : count_by (is_inside tried) t.squares < 2 → (r : Rectangle) → ¬ (IsPartAt t i j r)
     none_single few r p = let part = tried_part r p in omega (arith, part.several, count_of_part t tried tiling part)
 
-    -- nor where all do
+    -- where all squares lie in the rectangle that holds two squares, no part has them at its corners
     pub none_whole : order t ≤ count_by (is_inside tried) t.squares → (r : Rectangle) → ¬ (IsPartAt t i j r)
     none_whole all r p = let part = tried_part r p in omega (arith, part.not_all, count_of_part t tried tiling part)
 
-    -- else that rectangle is a part with these corners
+    -- where no square is cut, and several squares but not all lie in the rectangle that holds two squares, it is a part with these corners
     pub part_at_from : i < length t.squares → j < length t.squares → IsUncut tried t.squares
         → 2 ≤ count_by (is_inside tried) t.squares → count_by (is_inside tried) t.squares < order t → IsPartAt t i j tried
     part_at_from first last uncut several not_all =

@@ -41,7 +41,7 @@ module _ (t : Tiling) (r : Rectangle) (tiling : IsTiling t) (part : IsPart t r) 
       position_or_len-below (λ q. (q.x == r.x) && (q.y == r.y)) t.squares first_place.0 none first_place.1
       (both_equal-to_test q.x r.x q.y r.y (omega (arith, p.left, c.left)) (omega (arith, p.top, c.top)))
 
-  -- and one at the bottom right corner
+  -- there is a square at the bottom right corner of a part
   pub bottom_right_below : bottom_right t r < length t.squares
   bottom_right_below =
       let q : Square = at last_place.0 in

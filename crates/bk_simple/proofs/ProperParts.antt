@@ -46,7 +46,7 @@ module _ (t : Tiling) (tiling : IsTiling t) where
   lies_within r part k few meets =
       inside_means r (at k) (true_from_ne_false (is_inside r (at k)) (λ cut. no_square_across_part t r tiling part k none few cut meets))
 
-  -- so does one over a cell of it
+  -- a square over a cell of a part lies in it
   pub over_within : (r : Rectangle) → IsPart t r → (c j k : ℕ) → k < length t.squares → covers c j (at k) ≡ true
       → r.x ≤ c → c < r.x + r.width → r.y ≤ j → j < r.y + r.height → IsWithin r (at k)
   over_within r part c j k few over left right top bottom =

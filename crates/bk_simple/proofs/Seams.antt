@@ -34,7 +34,7 @@ module _ (t : Tiling) (tiling : IsTiling t) (i : ℕ) (d : Square) where
       let e : i + 1 - 1 ≡ i = omega arith in
       record { some = omega arith; within = omega arith; level = rw e refl; right = rw e (omega arith); ends = rw e refl }
 
-  -- and one more that is level and begins where they end
+  -- a run of squares, and one more that is level and begins where they end
   pub run_more : (k end : ℕ) → IsRunTo t.squares i d k end → k < length t.squares → (at k).y ≡ (at i).y
       → (at k).x ≡ end → IsRunTo t.squares i d (k + 1) (end + (at k).s)
   run_more k end run few level begins =

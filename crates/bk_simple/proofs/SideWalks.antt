@@ -364,7 +364,7 @@ module _ (t : Tiling) (tiling : IsTiling t) (d : Square) where
         )
         at_right (inr e) = omega (arith, next.not_right e, (walk.parts p u).1)
 
-    -- where they don't end at one level, the walk goes on
+    -- where the two sides of a walk don't end at one level, it goes on
     pub walk_more : m ≢ n → IsWalk i right (k + 1) m n
     walk_more apart = record {
       some = omega (arith, walk.some);
@@ -408,7 +408,7 @@ module _ (t : Tiling) (tiling : IsTiling t) (d : Square) where
             )
         rights j from inside same (inr e) (inr here) below = omega (arith, next.not_right here, walk.right j from (omega (arith, e, below)) inside same)
 
-    -- where they end at the lower end of the whole, no part is left: it would be the whole
+    -- where the two sides of a walk end at the lower end of the whole, no part is left: it would be the whole
     pub none_but_whole : m ≡ n → right - (at i).x ≡ t.width → m - (at i).y ≡ t.height → (p : Rectangle) → IsUnder i right p → ⊥
     none_but_whole same wide high p u =
         omega (arith, (u.part).not_all, count_of_part t p tiling u.part, counts_all (is_inside p) t.squares d all_in)

@@ -32,7 +32,7 @@ inside_means r q h =
     let along = and_parts _ _ parts.1 in
     record { left = leb-true _ _ across.0; right = leb-true _ _ across.1; top = leb-true _ _ along.0; bottom = leb-true _ _ along.1 }
 
--- and one that lies within it passes the test
+-- a square that lies within a rectangle passes the test whether it lies inside
 pub inside_from : (r : Rectangle) (q : Square) → IsWithin r q → is_inside r q ≡ true
 inside_from r q h = and_from _ _ (and_from _ _ (le-leb _ _ h.left) (le-leb _ _ h.right)) (and_from _ _ (le-leb _ _ h.top) (le-leb _ _ h.bottom))
 

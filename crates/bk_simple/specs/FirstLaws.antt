@@ -7,6 +7,6 @@ use Rattle.bk_simple.specs.Simple.{IsFirstPart, IsLeastRepeated}
 abbrev pub AFirstPartIsOne : Type 0
 AFirstPartIsOne = (t : Tiling) (r s : Rectangle) → IsTiling t → IsFirstPart t r → IsFirstPart t s → r ≡ s
 
--- and at most one least repeated side
+-- a tiling has at most one least repeated side
 abbrev pub ALeastRepeatedSideIsOne : Type 0
 ALeastRepeatedSideIsOne = (t : Tiling) (a b : ℕ) → IsLeastRepeated t a → IsLeastRepeated t b → a ≡ b

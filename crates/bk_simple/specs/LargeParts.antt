@@ -12,11 +12,11 @@ HasNoLargePart t =
     (r : Rectangle) → IsPart t r → (square_of t (top_left t r)).s < r.width → (square_of t (top_left t r)).s < r.height
     → ⊥
 
--- no part that begins with square i is wider
+-- no part that begins with square i is wider than that square
 abbrev pub HasNoneWider : Tiling → ℕ → Type 0
 HasNoneWider t i = (r : Rectangle) → IsPart t r → top_left t r ≡ i → (square_of t i).s < r.width → ⊥
 
--- none that begins with square i ends at the right edge of square `last`
+-- no part that begins with square i ends at the right edge of square `last`
 abbrev pub HasNoneUnder : Tiling → ℕ → ℕ → Type 0
 HasNoneUnder t i last =
     (r : Rectangle) → IsPart t r → top_left t r ≡ i → r.x + r.width ≡ (square_of t last).x + (square_of t last).s → ⊥

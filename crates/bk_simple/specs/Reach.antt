@@ -12,7 +12,8 @@ abbrev pub NoneWider : List Square → Square → ℕ → ℕ → Type 0
 NoneWider squares p most end =
     (r : Rectangle) → r.x ≡ p.x → r.y ≡ p.y → IsUncut r squares → r.x + r.width ≤ most → r.x + r.width ≤ end
 
--- and each that ends at level `most` or above ends at level `end` or above
+-- each rectangle from the top left corner of p that ends at level `most` or above, and cuts none of the squares, ends
+-- at level `end` or above
 abbrev pub NoneHigher : List Square → Square → ℕ → ℕ → Type 0
 NoneHigher squares p most end =
     (r : Rectangle) → r.x ≡ p.x → r.y ≡ p.y → IsUncut r squares → r.y + r.height ≤ most → r.y + r.height ≤ end

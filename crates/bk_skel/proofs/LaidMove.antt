@@ -12,7 +12,7 @@ use Rattle.bk_word.specs.declared.Sign.{Sign}
 use Rattle.bk_lay.specs.TilingWord.{depth_before, depth_from, signs_between}
 use Rattle.bk_skel.specs.PartlyLaid.{CanLay, IsFittingGap}
 use Rattle.bk_skel.proofs.PlacingNumbers.{Window}
-use Rattle.bk_skel.proofs.PlacingTurn.{valley_gap, order, within, new_sides_fit, only, is_turn, signs_as, fitting_as}
+use Rattle.bk_skel.proofs.PlacingGap.{valley_gap, order, within, new_sides_fit, only, fills_gap, signs_as, fitting_as}
 use Rattle.bk_skel.proofs.NumbersAfter.{room, few_after, low_as}
 use Rattle.bk_skel.proofs.PlacingWindow.{window_inside, window_as}
 use Rattle.bk_word_net.specs.LaidOutline.{FillsValley, IsNumber, bottom_at}
@@ -28,7 +28,7 @@ pub record LaysMove (width : ℕ) (laid : List Square) (numbers : List ℕ) (fir
   pub fitting : (seen_laid : List Square) (seen_numbers : List ℕ) → seen_laid ≡ laid → seen_numbers ≡ numbers
       → IsFittingGap width seen_laid (take (end - first) (drop first seen_numbers)) valley
   pub only : (v : Segment) → FillsValley width laid (record { count = length new; signs = signs }) new v → v ≡ valley
-  pub turn : sum new ≡ valley.width
+  pub fills : sum new ≡ valley.width
       → signs ≡ signs_between (depth_before laid valley.x ++ map (λ q. q.y + q.s) (laid_group valley.x valley.level new)
       ++ depth_from width laid (valley.x + valley.width))
       → FillsValley width laid (record { count = length new; signs = signs }) new valley
@@ -60,7 +60,7 @@ lays_move {width} {laid} {numbers} {first} {end} {signs} {new} (o, c) = record {
   fits = new_sides_fit width laid numbers first end signs new o c;
   fitting = fitting_as width laid numbers first end signs new o c;
   only = only width laid numbers first end signs new o c;
-  turn = is_turn width laid numbers first end signs new o c;
+  fills = fills_gap width laid numbers first end signs new o c;
   signs_are = signs_as width laid numbers first end signs new o c;
   few = few_after width laid numbers first end signs new o c;
   inside = window_inside width laid numbers first end signs new o c;
@@ -89,7 +89,7 @@ pub record IsAfterMove (laid : List Square) (numbers : List ℕ) (first end : �
   pub left_is : left ≡ first - 1
   pub many_is : many ≡ length signs + 1
 
--- so its window of numbers is that of the move
+-- the window of numbers is that of the move
 pub window_then : {width : ℕ} {laid : List Square} {numbers : List ℕ} {first end : ℕ} {signs : List Sign} {new : List ℕ}
     {laid_then : List Square} {numbers_then : List ℕ} {left many : ℕ} → (m : LaysMove width laid numbers first end signs new)
     → IsAfterMove laid numbers first end signs new m.valley laid_then numbers_then left many

@@ -14,7 +14,7 @@ module _ (given : List ℕ) (laid : List Square) (count : ℕ) (fits : count ≤
   group_long : length (laid_group v.x v.level (take count (drop (length laid) given))) ≡ count
   group_long = length_group v.x v.level (take count (drop (length laid) given)) ∙ long
 
-  -- so many squares are laid then
+  -- with the squares of the next move as many more are laid as it hangs
   pub laid_long : length (laid ++ laid_group v.x v.level (take count (drop (length laid) given))) ≡ length laid + count
   laid_long = length-append laid (laid_group v.x v.level (take count (drop (length laid) given))) ∙ ap (λ (n : ℕ). length laid + n) group_long
 

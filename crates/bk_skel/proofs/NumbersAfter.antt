@@ -22,7 +22,7 @@ use Rattle.bk_word_net.proofs.Outlines.NumberedValley.{open_after, sees}
 use Rattle.bk_skel.specs.PartlyLaid.{CanLay}
 use Rattle.bk_skel.proofs.PlacingNumbers.{all_known_more, known_new}
 use Rattle.bk_word_net.specs.LaidOutline.{IsNumber, back_of, bottom_at, front_of}
-use Rattle.bk_skel.proofs.PlacingTurn.{parts, known_numbers, front_is, back_is, low_level}
+use Rattle.bk_skel.proofs.PlacingGap.{parts, known_numbers, front_is, back_is, low_level}
 
 module _ (width : ℕ) (laid : List Square) (numbers : List ℕ) (first end : ℕ) (signs : List Sign) (new : List ℕ) (o : Outline)
     (c : CanLay (record { width = width; laid = laid; numbers = numbers }) (record { first = first; end = end; signs = signs; sides = new }) o) where
@@ -42,7 +42,7 @@ module _ (width : ℕ) (laid : List Square) (numbers : List ℕ) (first end : �
   pub room : length numbers + length new ≤ 200
   room = omega (arith, (c.partly).few, c.room)
 
-  -- they are few
+  -- the numbers after the move are few
   pub few_after : length ((take first numbers ++ numbers_from (length laid + 1) (length new)) ++ drop end numbers) ≤ length laid + length new
   few_after = omega (
     arith,
@@ -57,7 +57,7 @@ module _ (width : ℕ) (laid : List Square) (numbers : List ℕ) (first end : �
     length-append (valley_of o) (back_of o),
   )
 
-  -- they are those of the outline after the move
+  -- the numbers after the move are those of the outline then
   pub numbers_after : (take first numbers ++ numbers_from (length laid + 1) (length new)) ++ drop end numbers
       ≡ concat (after_move o (record { count = length new; signs = signs })).segments
   numbers_after = (λ i. (front i ++ numbers_from (((c.partly).shows).count i + 1) (length new)) ++ back i)
@@ -67,11 +67,11 @@ module _ (width : ℕ) (laid : List Square) (numbers : List ℕ) (first end : �
   pub group_long : length (laid_group gap.x gap.level new) ≡ length new
   group_long = length_group gap.x gap.level new
 
-  -- so many squares there are then
+  -- how many squares are laid after the move
   pub long : length (laid ++ laid_group gap.x gap.level new) ≡ length laid + length new
   long = omega (arith, length-append laid (laid_group gap.x gap.level new), group_long)
 
-  -- they are numbers of squares
+  -- the numbers after the move are those of squares
   pub known_after : AllByRecursion (IsNumber (laid ++ laid_group gap.x gap.level new))
       ((take first numbers ++ numbers_from (length laid + 1) (length new)) ++ drop end numbers)
   known_after = all_append (IsNumber (laid ++ laid_group gap.x gap.level new))
@@ -101,7 +101,7 @@ module _ (width : ℕ) (laid : List Square) (numbers : List ℕ) (first end : �
       cases (inl k) = omega (arith, (c.partly).low q k, long)
       cases (inr k) = omega (arith, long, (c.legal).some, group_top gap.x gap.level new q k, sides_low gap.x new c.sides q k, low_gap)
 
-  -- so each bottom is a number that the code can hold
+  -- each bottom after the move is a number that the code can hold
   pub bottom_low : (n : ℕ) → IsNumber (laid ++ laid_group gap.x gap.level new) n → bottom_at (laid ++ laid_group gap.x gap.level new) n < 2 ^ 63
   bottom_low n h = from (get_some (laid ++ laid_group gap.x gap.level new) (n - 1) (omega (arith, h.0, h.1)))
     where

@@ -40,8 +40,8 @@ gap_4 : StandsOver 8 laid (4 ∷ []) gap
 gap_4 = inl (record { x = 7; y = 3; s = 1 }, (3, refl, refl), refl, refl, refl)
 
 -- a square of the side 1 fills it, and its bottom is even with that of square 3; one of the side 2 is too wide
-last_turn : FillsValley 8 laid (record { count = 1; signs = Even ∷ [] }) (1 ∷ []) gap
-last_turn = record {
+fills_it : FillsValley 8 laid (record { count = 1; signs = Even ∷ [] }) (1 ∷ []) gap
+fills_it = record {
   found = passes_as_valley _ _ _ (by_tests _ _ _ refl refl refl refl refl refl);
   count = refl;
   some = omega arith;

@@ -1,4 +1,4 @@
--- The placing of a word with one move more: the move can be laid, and where it has no turn, no tiling has the word with these sides.
+-- The placing of a word with one move more: the move can be laid, and where it fills no valley, no tiling has the word with these sides.
 use Rattle.std.specs.List.{AllByRecursion, concat}
 use Rattle.std.proofs.Common.{List, Some, ap, arith, drop, length, slice_get, subst, sym, take, ℕ, ◌*◌, ◌++◌, ◌+◌, ◌∙◌, ◌∷◌, ◌≡◌, ◌≤◌}
 use Rattle.std.proofs.lemmas.List.{length-append, length-map, length-take-le, take-append-drop}
@@ -19,7 +19,7 @@ use Rattle.bk_word_net.proofs.TilingWords.MovesOfTiling.{AgreesAt, AgreesOn, agr
 use Rattle.bk_word_net.proofs.TilingWords.TilingOfMoves.{LaidMoves}
 use Rattle.bk_word_net.proofs.Outlines.NumberedValley.{shows_filled}
 use Rattle.bk_skel.proofs.NumbersAfter.{few_after, known_after, low_after, numbers_after}
-use Rattle.bk_skel.proofs.PlacingTurn.{valley_gap, only}
+use Rattle.bk_skel.proofs.PlacingGap.{valley_gap, only}
 use Rattle.bk_word_net.specs.LaidTiling.{IsLaidWith}
 use Rattle.bk_skel.specs.PartlyLaid.{CanLay, IsPartlyLaid}
 use Rattle.bk_word_net.specs.LaidOutline.{FillsValley, IsNumber, front_of}
@@ -80,24 +80,24 @@ module _ (given : List ℕ) (all_sides : AllByRecursion IsSide given) (few : len
         (take m.count (drop (length laid) given) ++ drop m.count (drop (length laid) given))) rest_is
         (subst (AgreesAt (first_width w given) t laid (after_moves start (take i w)) (drop i w)) parted (s.agrees t l)))
 
-    -- where there is no turn, no tiling has the word with these sides
+    -- where it fills no valley, no tiling has the word with these sides
     pub placed_none : ((v : Segment) → FillsValley (first_width w given) laid
         (record { count = length (take m.count (drop (length laid) given)); signs = m.signs }) (take m.count (drop (length laid) given)) v → ⊥)
         → (t : Tiling) → IsLaidWith w given t → ⊥
     placed_none never t l = let a = agree t l in
         never a.valley (subst (λ (n : Move). FillsValley (first_width w given) laid n (take m.count (drop (length laid) given)) a.valley) same_move a.filled)
 
-    module _ (v : Segment) (turn : FillsValley (first_width w given) laid
+    module _ (v : Segment) (fills : FillsValley (first_width w given) laid
         (record { count = length (take m.count (drop (length laid) given)); signs = m.signs }) (take m.count (drop (length laid) given)) v) where
-      own_turn : FillsValley (first_width w given) laid m (take m.count (drop (length laid) given)) v
-      own_turn = subst (λ (n : Move). FillsValley (first_width w given) laid n (take m.count (drop (length laid) given)) v) (sym same_move) turn
+      own_fills : FillsValley (first_width w given) laid m (take m.count (drop (length laid) given)) v
+      own_fills = subst (λ (n : Move). FillsValley (first_width w given) laid n (take m.count (drop (length laid) given)) v) (sym same_move) fills
 
       partly_next : IsPartlyLaid (first_width w given) (laid ++ laid_group v.x v.level (take m.count (drop (length laid) given)))
           ((take first numbers ++ numbers_from (length laid + 1) (length (take m.count (drop (length laid) given)))) ++ drop end numbers)
           (after_move (after_moves start (take i w)) m)
       partly_next = record {
         shows = shows_filled (first_width w given) laid (after_moves start (take i w)) (s.partly).shows (s.partly).some m
-            (take m.count (drop (length laid) given)) v own_turn;
+            (take m.count (drop (length laid) given)) v own_fills;
         some = (s.partly).some;
         narrow = (s.partly).narrow;
         numbers_are = numbers_after (first_width w given) laid numbers first end m.signs (take m.count (drop (length laid) given))
@@ -123,7 +123,7 @@ module _ (given : List ℕ) (all_sides : AllByRecursion IsSide given) (few : len
           same_gap : v ≡ valley_gap (first_width w given) laid numbers first end m.signs (take m.count (drop (length laid) given))
               (after_moves start (take i w)) can_lay
           same_gap = only (first_width w given) laid numbers first end m.signs (take m.count (drop (length laid) given))
-              (after_moves start (take i w)) can_lay v turn
+              (after_moves start (take i w)) can_lay v fills
 
       agrees_next : (t : Tiling) → IsLaidWith w given t
           → AgreesAt (first_width w given) t (laid ++ laid_group v.x v.level (take m.count (drop (length laid) given)))
@@ -134,7 +134,7 @@ module _ (given : List ℕ) (all_sides : AllByRecursion IsSide given) (few : len
           (subst (λ (u : Segment). AgreesAt (first_width w given) t
           (laid ++ laid_group u.x u.level (take m.count (drop (length laid) given))) (after_move (after_moves start (take i w)) m)
           (drop (i + 1) w) (drop m.count (drop (length laid) given)))
-          (one_leftmost_valley (first_width w given) laid (agree t l).valley v ((agree t l).filled).found turn.found) (agree t l).next)
+          (one_leftmost_valley (first_width w given) laid (agree t l).valley v ((agree t l).filled).found fills.found) (agree t l).next)
 
       -- with the move laid, the placing has come one move further
       pub placed_more : IsPlacedTo w given (i + 1) (laid ++ laid_group v.x v.level (take m.count (drop (length laid) given)))
@@ -146,7 +146,7 @@ module _ (given : List ℕ) (all_sides : AllByRecursion IsSide given) (few : len
         many = omega (arith, laid_long given laid m.count fits v, s.many, order_is);
         sides = sides_next given laid m.count fits v s.sides;
         laid_moves = λ all p. s.laid_moves all (subst (λ (x : Word). LaidMoves (first_width w given) laid x all) (sym rest_is)
-            (v, (take m.count (drop (length laid) given), (own_turn, p))));
+            (v, (take m.count (drop (length laid) given), (own_fills, p))));
         agrees = λ t l. subst (λ (p : Outline). AgreesAt (first_width w given) t
             (laid ++ laid_group v.x v.level (take m.count (drop (length laid) given))) p (drop (i + 1) w)
             (drop (length (laid ++ laid_group v.x v.level (take m.count (drop (length laid) given)))) given))

@@ -1,4 +1,4 @@
--- One turn of the placing under the names that the code has for its parts.
+-- One step of the placing under the names that the code has for its parts.
 use Rattle.std.specs.List.{AllByRecursion}
 use Rattle.std.proofs.Common.{List, Some, [], ap, arith, drop, length, refl, slice_get, subst, sum, sym, take, ℕ, ◌++◌, ◌+◌, ◌-◌, ◌<◌, ◌∙◌, ◌∷◌, ◌≡◌, ◌≤◌}
 use Rattle.std.proofs.lemmas.List.{length-take-le}
@@ -66,13 +66,13 @@ module _ (w : Word) (legal : IsLegal w) (given : List ℕ) (all_sides : AllByRec
           (can_lay given all_sides few w legal i laid numbers s (get_some w i below).0 at first (first + closed) place end),
     )
 
-    turn_as : (v : Segment) → FillsValley width laid (record { count = length new; signs = signs }) new v
+    fills_as : (v : Segment) → FillsValley width laid (record { count = length new; signs = signs }) new v
         → FillsValley (first_width w given) laid (record {
           count = length (take (get_some w i below).0.count (drop (length laid) given));
           signs =
               (get_some w i below).0.signs;
         }) (take (get_some w i below).0.count (drop (length laid) given)) v
-    turn_as v t = subst (λ (n : ℕ). FillsValley n laid
+    fills_as v t = subst (λ (n : ℕ). FillsValley n laid
         (record { count = length (take (get_some w i below).0.count (drop (length laid) given)); signs = (get_some w i below).0.signs })
         (take (get_some w i below).0.count (drop (length laid) given)) v) width_is
         (subst (λ (gs : List Sign). FillsValley width laid
@@ -80,11 +80,11 @@ module _ (w : Word) (legal : IsLegal w) (given : List ℕ) (all_sides : AllByRec
         (take (get_some w i below).0.count (drop (length laid) given)) v) (sym own_signs)
         (subst (λ (ns : List ℕ). FillsValley width laid (record { count = length ns; signs = signs }) ns v) taken t))
 
-    turn_back : (v : Segment) → FillsValley (first_width w given) laid
+    fills_back : (v : Segment) → FillsValley (first_width w given) laid
         (record { count = length (take (get_some w i below).0.count (drop (length laid) given)); signs = (get_some w i below).0.signs })
         (take (get_some w i below).0.count (drop (length laid) given)) v
         → FillsValley width laid (record { count = length new; signs = signs }) new v
-    turn_back v t = subst (λ (ns : List ℕ). FillsValley width laid (record { count = length ns; signs = signs }) ns v) (sym taken)
+    fills_back v t = subst (λ (ns : List ℕ). FillsValley width laid (record { count = length ns; signs = signs }) ns v) (sym taken)
         (subst (λ (gs : List Sign). FillsValley width laid
         (record { count = length (take (get_some w i below).0.count (drop (length laid) given)); signs = gs })
         (take (get_some w i below).0.count (drop (length laid) given)) v) own_signs
@@ -94,12 +94,12 @@ module _ (w : Word) (legal : IsLegal w) (given : List ℕ) (all_sides : AllByRec
               (get_some w i below).0.signs;
         }) (take (get_some w i below).0.count (drop (length laid) given)) v) (sym width_is) t))
 
-    -- where it has no turn, no tiling has the word with these sides
+    -- where the squares of the next move fill no valley, no tiling has the word with these sides
     pub step_none : ((v : Segment) → FillsValley width laid (record { count = length new; signs = signs }) new v → ⊥) → (t : Tiling) → IsLaidWith w given t → ⊥
     step_none never = placed_none given all_sides few w legal i laid numbers s (get_some w i below).0 at first (first + closed) place end
-        (λ v t. never v (turn_back v t))
+        (λ v t. never v (fills_back v t))
 
-    -- with it laid, the placing has come one move further
+    -- with the squares of the next move laid, the placing has come one move further
     pub step_more : (next : List Square) (next_numbers : List ℕ) → (v : Segment)
         × (FillsValley width laid (record { count = length new; signs = signs }) new v × (next ≡ laid ++ laid_group v.x v.level new))
         → next_numbers ≡ (take first numbers ++ numbers_from (length laid + 1) (length new)) ++ drop (first + closed) numbers
@@ -108,7 +108,7 @@ module _ (w : Word) (legal : IsLegal w) (given : List ℕ) (all_sides : AllByRec
         subst (λ (l : List Square). IsPlacedTo w given (i + 1) l next_numbers) (sym (e ∙ ap (λ (ns : List ℕ). laid ++ laid_group v.x v.level ns) taken))
         (subst (IsPlacedTo w given (i + 1) (laid ++ laid_group v.x v.level (take (get_some w i below).0.count (drop (length laid) given))))
         (sym (f ∙ ap (λ (ns : List ℕ). (take first numbers ++ numbers_from (length laid + 1) (length ns)) ++ drop (first + closed) numbers) taken))
-        (placed_more given all_sides few w legal i laid numbers s (get_some w i below).0 at first (first + closed) place end v (turn_as v t)))
+        (placed_more given all_sides few w legal i laid numbers s (get_some w i below).0 at first (first + closed) place end v (fills_as v t)))
 
 -- a complete word has a first move, and there are as many sides as it hangs
 pub first_is_there : (w : Word) (complete : IsComplete w) (given : List ℕ) → AllByRecursion IsSide given → length given ≤ 200

@@ -16,7 +16,7 @@ use Rattle.bk_word_net.proofs.Outlines.NumberedValley.{Sees, sees}
 use Rattle.bk_skel.specs.PartlyLaid.{CanLay}
 use Rattle.bk_skel.proofs.PlacingNumbers.{bottoms_more, bottoms_new, all_known_more, known_new, CutLeft, cut_left, CutRight, cut_right, Window}
 use Rattle.bk_word_net.specs.LaidOutline.{IsNumber, back_of, bottom_at, front_of}
-use Rattle.bk_skel.proofs.PlacingTurn.{known_numbers, front_is, back_is}
+use Rattle.bk_skel.proofs.PlacingGap.{known_numbers, front_is, back_is}
 use Rattle.bk_skel.proofs.NumbersAfter.{group_long, long}
 
 module _ (width : ℕ) (laid : List Square) (numbers : List ℕ) (first end : ℕ) (signs : List Sign) (new : List ℕ) (o : Outline)
@@ -129,7 +129,7 @@ module _ (width : ℕ) (laid : List Square) (numbers : List ℕ) (first end : �
   window = shown (cut_left laid (front_of o) (depth_before laid gap.x) seen.left)
       (cut_right laid (back_of o) (depth_from width laid (gap.x + gap.width)) seen.right)
 
-  -- it lies within the numbers
+  -- the window lies within the numbers
   pub window_inside : first - 1 + (length signs + 1) ≤ length ((take first numbers ++ numbers_from (length laid + 1) (length new)) ++ drop end numbers)
   window_inside = inside (cut_left laid (front_of o) (depth_before laid gap.x) seen.left)
       (cut_right laid (back_of o) (depth_from width laid (gap.x + gap.width)) seen.right)

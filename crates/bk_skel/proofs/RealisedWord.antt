@@ -7,6 +7,7 @@ use Rattle.bk_flow.specs.RefusedNet.{IsRefusedFor}
 use Rattle.bk_flow.specs.Wide.{IsWide}
 use Rattle.bk_flow.specs.declared.FlowFault.TheVariants.{Loose, NoMemory, Wide}
 use Rattle.bk_flow.specs.declared.FlowFault.{FlowFault}
+use Rattle.bk_tiling.specs.declared.TheConstants.{LONGEST_SIDE}
 use Rattle.bk_word.specs.Outline.{start}
 use Rattle.bk_word.specs.Play.{IsComplete, IsLegal, outline_of}
 use Rattle.bk_word.specs.Word.{Word, order_of}
@@ -30,8 +31,8 @@ module _ (w : Word) (net : Net) (is : net ≡ net_of_word w) where
   wide_net wide = inl (subst IsWide is wide)
 
 -- the currents of a narrow flow are not too large for sides
-pub small_enough : (f : FlowNumbers) → IsNarrowFlow f → (seen : List ℤ) → seen ≡ f.currents → All (λ c. nat_abs c < 10 ^ 15) seen
-small_enough f narrow seen is = subst (λ (cs : List ℤ). All (λ c. nat_abs c < 10 ^ 15) cs) (sym is)
+pub small_enough : (f : FlowNumbers) → IsNarrowFlow f → (seen : List ℤ) → seen ≡ f.currents → All (λ c. nat_abs c ≤ LONGEST_SIDE) seen
+small_enough f narrow seen is = subst (λ (cs : List ℤ). All (λ c. nat_abs c ≤ LONGEST_SIDE) cs) (sym is)
     (λ k d h. let low : nat_abs (get_or f.currents k d) ≤ 2 ^ 34 = narrow.small (suc k) d (omega (arith, h)) in omega (arith, low))
 
 -- where all moves are legal and the word isn't complete, more than one segment is left

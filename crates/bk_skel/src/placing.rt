@@ -55,7 +55,8 @@ pub enum Realised {
 
 /// The tiling of a closed skeleton's word whose squares have these sides, in the order in which the word lays them;
 /// each is 1 to 999,999,999,999,999. It is the only one. `None` comes exactly where no tiling of the word has them:
-/// where the squares of a move don't fill its valley, or their bottoms don't compare as its signs say (own).
+/// where the squares of a move don't fill its valley, or their bottoms don't compare as its signs say. Words are our
+/// own.
 pub fn placed(skel: &Skel, sides: &[u64]) -> Option<Tiling>
     requires closed { IsComplete skel.now }
     requires count { length sides.now ≡ order_of skel.now }
@@ -112,7 +113,7 @@ fn lay_move(laying: &mut LayingRoom, first: usize, end: usize, signs: &[Sign], n
         (record { width = laying.old.width; laid = laying.old.laid.items; numbers = laying.old.numbers.items })
         (record { first = first; end = end; signs = signs.now; sides = new.now }) o }
     ensures width { laying.new.width ≡ laying.old.width }
-    ensures turn { result ≡ true
+    ensures fills { result ≡ true
         → (v : Gap) × (FillsValley laying.old.width laying.old.laid.items
         (record { count = length new.now; signs = signs.now }) new.now v
         × (laying.new.laid.items ≡ laying.old.laid.items ++ laid_group v.x v.level new.now)) }

@@ -3,7 +3,7 @@
 ghost use Rattle.std.specs.List.{AllByRecursion};
 ghost use Rattle.std.specs.Prelude.{All, Any, IfErr, IfNone, IfOk, IfSome, IsErr, IsOk, IsTrue, OnOk, length, map};
 ghost use Rattle.std.specs.Prelude.{nat_abs, pos};
-ghost use Rattle.std.specs.Prelude.{◌<◌, ◌^◌, ◌↔◌, ◌≡◌, ◌≤◌, ◌≤ℤ◌};
+ghost use Rattle.std.specs.Prelude.{◌<◌, ◌↔◌, ◌≡◌, ◌≤◌, ◌≤ℤ◌};
 ghost use Rattle.bk_net.specs.Flow.{IsPrimitiveFlow};
 ghost use Rattle.bk_tiling.specs.KeptTiling.{IsSide};
 ghost use Rattle.bk_word.specs.Play.{IsComplete, IsLegal};
@@ -14,7 +14,7 @@ ghost use Rattle.bk_word_net.specs.Realised.{IsRealised};
 ghost use Rattle.bk_skel.specs.WideWord.{HasLargeCurrent, IsWideWord};
 ghost use Rattle.bk_word_net.specs.WordNet.{net_of_word};
 ghost use Rattle.bk_word.specs.declared.TheConstants.{INLINE_ORDER};
-ghost use Rattle.bk_tiling.specs.declared.TheConstants.{MOST_SQUARES};
+ghost use Rattle.bk_tiling.specs.declared.TheConstants.{LONGEST_SIDE, MOST_SQUARES};
 
 use crate::placing::{LayingRoom, Realised, place};
 use arrayvec::ArrayVec;
@@ -41,8 +41,8 @@ pub enum SolveFault {
 
 /// The primitive tiling whose word is the list of moves of a closed skeleton of at most 16 squares: no other has this
 /// word (Brooks, Smith, Stone and Tutte 1940). `None` comes exactly where the word isn't wide and no tiling has it.
-/// `Wide` comes exactly where the word is wide (own), which no such word is (`no_small_word_is_wide`). It takes no
-/// memory.
+/// `Wide` comes exactly where the word is wide (the limit is our own), which no such word is (`no_small_word_is_wide`).
+/// It takes no memory.
 pub fn realise_small(skel: &Skel) -> Result<Option<Tiling>, Wide>
     requires closed { IsComplete skel.now }
     requires few { order_of skel.now ≤ INLINE_ORDER }
@@ -117,7 +117,7 @@ impl Room {
 /// The primitive tiling that has a word of at least one move; no other has it (Brooks, Smith, Stone and Tutte 1940). It
 /// is refused with the first of these that holds: a move is illegal; more than one segment is left; there is no memory,
 /// never at 16 squares or fewer; the word is wide. `None` comes exactly where the word is complete and not wide, and no
-/// tiling has it (own).
+/// tiling has it. The limit at which a word is wide is our own.
 pub fn realise(alloc: Global, word: &Word) -> Result<Option<Tiling>, SolveFault>
     requires { 0 < length word.now }
     ensures complete { OnOk result (IsComplete word.now) }
@@ -248,7 +248,7 @@ fn realised(
 
 // Whether a current is too large for a side, in magnitude.
 fn has_large(currents: &[i128]) -> bool
-    ensures { IsTrue result ↔ Any (λ c. 10 ^ 15 ≤ nat_abs c) currents.now }
+    ensures { IsTrue result ↔ Any (λ c. LONGEST_SIDE < nat_abs c) currents.now }
 {
     currents.iter().any(|current| current.unsigned_abs() > u128::from(LONGEST_SIDE))
 }
@@ -256,7 +256,7 @@ fn has_large(currents: &[i128]) -> bool
 // The currents as sides, where each is at least 1.
 fn sides_of(currents: &[i128]) -> Option<ArrayVec<u64, MOST_SQUARES>>
     requires few { length currents.now ≤ MOST_SQUARES }
-    requires small { All (λ c. nat_abs c < 10 ^ 15) currents.now }
+    requires small { All (λ c. nat_abs c ≤ LONGEST_SIDE) currents.now }
     ensures sides { IfSome result (λ s. AllByRecursion IsSide s.items) }
     ensures currents { IfSome result (λ s. currents.now ≡ map pos s.items) }
     ensures none { IfNone result (¬ (AllByRecursion (λ c. pos 1 ≤ℤ c) currents.now)) }
@@ -274,7 +274,7 @@ fn sides_of(currents: &[i128]) -> Option<ArrayVec<u64, MOST_SQUARES>>
 // The currents of few squares as sides, where each is at least 1.
 fn sides_of_few(currents: &[i64]) -> Option<ArrayVec<u64, MOST_SMALL_WIRES>>
     requires few { length currents.now ≤ INLINE_ORDER }
-    requires small { All (λ c. nat_abs c < 10 ^ 15) currents.now }
+    requires small { All (λ c. nat_abs c ≤ LONGEST_SIDE) currents.now }
     ensures sides { IfSome result (λ s. AllByRecursion IsSide s.items) }
     ensures currents { IfSome result (λ s. currents.now ≡ map pos s.items) }
     ensures none { IfNone result (¬ (AllByRecursion (λ c. pos 1 ≤ℤ c) currents.now)) }

@@ -18,7 +18,7 @@ use Rattle.bk_sym.specs.declared.Turn.TheVariants.{FlipX, FlipY, Half, Same, Swa
 pub square_same : (p q : Square) → p.x ≡ q.x → p.y ≡ q.y → p.s ≡ q.s → p ≡ q
 square_same p q ex ey es = λ i. record { x = ex i; y = ey i; s = es i }
 
--- that b and then a do to squares and to sizes what c does
+-- the turns b and then a do to squares and to sizes what c does
 pub record Composes (a b c : Turn) : Type 0 where
   pub size : (w h : ℕ) → image_size a (image_size b w h).0 (image_size b w h).1 ≡ image_size c w h
   pub square : (w h : ℕ) (q : Square) → q.x + q.s ≤ w → q.y + q.s ≤ h
@@ -151,6 +151,6 @@ undoing_undoes SwapFlipX = refl
 undoing_undoes SwapFlipY = refl
 undoing_undoes SwapHalf = refl
 
--- so a tiling is an image of each of its images
+-- a tiling is an image of each of its images
 pub images_are_undone : ImagesAreUndone
 images_are_undone t turn tiling = images_of_images t (undoing turn) turn tiling ∙ ap (λ (a : Turn). image a t) (undoing_undoes turn) ∙ image-Same t tiling

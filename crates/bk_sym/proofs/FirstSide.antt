@@ -107,7 +107,7 @@ pub record ComesFirst (turn : Turn) (squares : List Square) (width height k : �
   pub within : k < length squares
   pub corner : IsAtCorner (image_square turn width height (slice_index_or squares k c))
 
--- the same of the squares and the size as they were read
+-- a square of this number comes to the top left corner in an image, by the squares and the size as they were read
 pub begins_with : (t : Tiling) (turn : Turn) (squares : List Square) (width height k : ℕ) (c : Square) → IsTiling t → squares ≡ t.squares
     → width ≡ t.width → height ≡ t.height → ComesFirst turn squares width height k c → BeginsWith (image turn t) (slice_index_or squares k c).s
 begins_with t turn squares width height k c tiling e w h first =

@@ -57,7 +57,7 @@ greatest_from t c none SwapFlipX = none 5 (omega arith)
 greatest_from t c none SwapFlipY = none 6 (omega arith)
 greatest_from t c none SwapHalf = none 7 (omega arith)
 
--- nor is one where the tiling isn't, and no image by another turn
+-- where the flat list of a tiling is at most that of c, and no image by another turn is greater, c is the greatest
 pub greatest_of_others : (t c : Tiling) → IsTiling t → IsAtMost t c → NoneGreater t (drop 1 turns) 7 c → IsGreatestImage t c
 greatest_of_others t c tiling most none Same = λ _. subst (λ (u : Tiling). IsAtMost u c) (sym (image-Same t tiling)) most
 greatest_of_others t c tiling most none FlipX = none 0 (omega arith)

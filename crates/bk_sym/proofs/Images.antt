@@ -19,7 +19,7 @@ from_map f [] p h = absurd h
 from_map f (r ∷ squares) p (inl e) = (r, inl refl, e)
 from_map f (r ∷ squares) p (inr h) = let found = from_map f squares p h in (found.0, inr found.1, found.2)
 
--- and each square, moved, is one of them
+-- each square of a list, moved, is one of the moved ones
 pub in_map : (f : Square → Square) (squares : List Square) (q : Square) → IsOneOf q squares → IsOneOf (f q) (map f squares)
 in_map f [] q h = absurd h
 in_map f (r ∷ squares) q (inl e) = inl (ap f e)

@@ -94,7 +94,7 @@ sides_divided : (g : ℕ) (squares : List Square) → AllByRecursion (λ q. IsSi
 sides_divided g [] sides some = tt
 sides_divided g (q ∷ squares) sides some = ((some.0, omega (arith, sides.0.1, div-le_self q.s g)), sides_divided g squares sides.1 some.1)
 
--- and so is a tiling in lowest terms
+-- a tiling in lowest terms can be a `Tiling` where the tiling is one
 pub kept_scaled : (t : Tiling) → IsKept t → IsKept (scaled_down_tiling t)
 kept_scaled t kept = record {
   tiling = scaled_is_tiling t kept.tiling;

@@ -1,5 +1,4 @@
 pub mod CanonicalTests
-pub mod SquaresWithin
 pub mod ImageExamples
 pub mod Images
 pub mod EnlargedBack

@@ -43,6 +43,6 @@ own_from t tiling lies one greatest = record {
 pub own_one : (t : Tiling) → IsTiling t → IsCanonical t → side_divisor t ≡ 1
 own_one t tiling own = one-scaled t tiling (own_canonical t tiling own)
 
--- and is its greatest image
+-- a canonical tiling is its own greatest image
 pub own_greatest : (t : Tiling) → IsTiling t → IsCanonical t → IsGreatestImage t t
 own_greatest t tiling own = subst (λ (u : Tiling). IsGreatestImage u t) (own_canonical t tiling own) own.greatest

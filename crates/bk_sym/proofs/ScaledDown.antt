@@ -56,6 +56,6 @@ module _ (t : Tiling) (tiling : IsTiling t) where
       heights : t.height ≡ side_divisor t * (t.height / side_divisor t)
       heights = sym (mul-div_cancel' (side_divisor t) (height_divides t tiling (side_divisor t) side_divides))
 
-  -- and that is a tiling
+  -- the tiling in lowest terms is a tiling
   pub scaled_is_tiling : IsTiling (scaled_down_tiling t)
   scaled_is_tiling = scaled_down_is (side_divisor t) (scaled_down_tiling t) some_divisor (subst IsTiling whole_again tiling)

@@ -37,7 +37,7 @@ AlikeTilingsHaveOneCanonical =
     → IsCanonicalOf u d
     → c ≡ d
 
--- and only those: of two tilings with the same canonical tiling each is an image of the other, up to scale
+-- of two tilings with the same canonical tiling each is an image of the other, up to scale
 abbrev pub OneCanonicalMeansAlike : Type 0
 OneCanonicalMeansAlike =
     (t u c : Tiling) → IsTiling t → IsTiling u → IsCanonicalOf t c → IsCanonicalOf u c

@@ -58,7 +58,7 @@ impl Turn {
     ];
 }
 
-/// That image of a tiling: its squares turned or mirrored with the rectangle.
+/// The image of a tiling by a turn: its squares turned or mirrored with the rectangle.
 pub fn image(tiling: &Tiling, which: Turn) -> Tiling
     ensures value { result ≡ image which tiling.now }
     ensures kept { IsKept result }
@@ -66,20 +66,20 @@ pub fn image(tiling: &Tiling, which: Turn) -> Tiling
     let (width, height) = (tiling.width(), tiling.height());
     let mut squares = ArrayVec::new();
     for q in tiling.squares() {
-        squares.push(turned(*q, which, width, height));
+        squares.push(image_square(*q, which, width, height));
     }
     put_in_order(&mut squares);
     let (width, height) = turned_size(which, width, height);
     Tiling::from_known(width, height, squares)
 }
 
-// Where a square of a rectangle of this size stands in the image.
-fn turned(q: Square, which: Turn, width: u64, height: u64) -> Square
-    requires { (q.x + q.s ≤ width) × (q.y + q.s ≤ height) }
+/// Where a square of a rectangle of this size stands in the image. Where the square ends outside the rectangle, the
+/// place from the far side is 0.
+pub fn image_square(q: Square, which: Turn, width: u64, height: u64) -> Square
     ensures { result ≡ image_square which width height q }
 {
-    let right = width - q.x - q.s;
-    let bottom = height - q.y - q.s;
+    let right = width.saturating_sub(q.x).saturating_sub(q.s);
+    let bottom = height.saturating_sub(q.y).saturating_sub(q.s);
     let (x, y) = match which {
         Turn::Same => (q.x, q.y),
         Turn::FlipX => (right, q.y),
@@ -255,10 +255,9 @@ fn begins_shorter(tiling: &Tiling, which: Turn, other: &Tiling) -> bool
 
 // Whether a square of a rectangle of this size comes to the top left corner in the image.
 fn comes_first(q: Square, which: Turn, width: u64, height: u64) -> bool
-    requires { (q.x + q.s ≤ width) × (q.y + q.s ≤ height) }
     ensures { IsTrue result → IsAtCorner (image_square which width height q) }
 {
-    let turned = turned(q, which, width, height);
+    let turned = image_square(q, which, width, height);
     turned.x == 0 && turned.y == 0
 }
 

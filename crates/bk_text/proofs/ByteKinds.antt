@@ -8,21 +8,21 @@ use Rattle.bk_grammar.specs.Grammar.{IsBlank}
 use Rattle.bk_text.specs.LineReading.{line_kind_of}
 use Rattle.bk_text.specs.declared.reader.Bracket.{Bracket}
 use Rattle.bk_text.specs.declared.reader.Bracket.TheVariants.{Round, Square}
-use Rattle.bk_text.specs.declared.reader.Kind.{Kind}
-use Rattle.bk_text.specs.declared.reader.Kind.TheVariants.{Blank, Close, Comma, Cross, Digit, Open, Other, Semicolon, Zero}
+use Rattle.bk_text.specs.declared.reader.ByteKind.{ByteKind}
+use Rattle.bk_text.specs.declared.reader.ByteKind.TheVariants.{Blank, Close, Comma, Cross, Digit, Open, Other, Semicolon, Zero}
 
 -- the bracket that opens a group
 abbrev pub open_byte : Bracket → ℕ
 open_byte Square = 91
 open_byte Round = 40
 
--- and the one that closes it
+-- the bracket that closes a group
 abbrev pub close_byte : Bracket → ℕ
 close_byte Square = 93
 close_byte Round = 41
 
 -- what a byte of each kind is
-abbrev pub Means : Kind → ℕ → Type 0
+abbrev pub Means : ByteKind → ℕ → Type 0
 Means Blank b = IsBlank b
 Means Zero b = b ≡ 48
 Means (Digit d) b = (0 < d) × (d < 10) × (b ≡ 48 + d)
@@ -33,7 +33,7 @@ Means (Close bracket) b = b ≡ close_byte bracket
 Means Semicolon b = b ≡ 59
 Means Other b = Unit {0}
 
-either : (test : Bool) (one two : Kind) (b : ℕ) → (test ≡ true → Means one b) → Means two b → Means (if test then one else two) b
+either : (test : Bool) (one two : ByteKind) (b : ℕ) → (test ≡ true → Means one b) → Means two b → Means (if test then one else two) b
 either true one two b yes' no' = yes' refl
 either false one two b yes' no' = no'
 

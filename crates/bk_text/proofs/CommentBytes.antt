@@ -12,6 +12,6 @@ onward_comment : (bs : List ℕ) (ending : Ending) (g : Gathered) → onward bs 
 onward_comment [] ending g = refl
 onward_comment (b ∷ bs) ending g = onward_comment bs ending g
 
--- so behind all that are left
+-- behind all bytes of a comment that are left the place and what is gathered are as before
 pub comment_to_end : (bs : List ℕ) (ending : Ending) (g : Gathered) → onward (take (length bs) bs) (Comment ending) g ≡ Some (Comment ending, g)
 comment_to_end bs ending g = ap (λ (z : List ℕ). onward z (Comment ending) g) (take_all (length bs) bs (omega arith)) ∙ onward_comment bs ending g

@@ -11,8 +11,8 @@ use Rattle.bk_text.specs.declared.reader.Ending.{Ending}
 use Rattle.bk_text.specs.declared.reader.Ending.TheVariants.{Coded, Empty, Row}
 use Rattle.bk_text.specs.declared.reader.Field.{Field}
 use Rattle.bk_text.specs.declared.reader.Field.TheVariants.{Column, First, Height, Second, Side as SideOf, Third}
-use Rattle.bk_text.specs.declared.reader.Kind.{Kind}
-use Rattle.bk_text.specs.declared.reader.Kind.TheVariants.{Blank, Close, Comma, Cross, Digit, Semicolon, Zero}
+use Rattle.bk_text.specs.declared.reader.ByteKind.{ByteKind}
+use Rattle.bk_text.specs.declared.reader.ByteKind.TheVariants.{Blank, Close, Comma, Cross, Digit, Semicolon, Zero}
 use Rattle.bk_text.specs.declared.reader.Place.{Place}
 use Rattle.bk_text.specs.declared.reader.Place.TheVariants.{BeforeGroup, BeforeHeight, BeforeSide, BehindColumn, BehindFirst, BehindGroup}
 use Rattle.bk_text.specs.declared.reader.Place.TheVariants.{BehindSecond, BehindSide, BehindThird, Comment as InComment, Number as InNumber, Start}
@@ -63,7 +63,7 @@ grown f v d t small h = when (nat_le v (most f / 10)) (λ e. leb-true v (most f 
     when false below = tt
     when true below = let few = below refl in (omega (arith, h.0), tenth (most f) (most-ends_in_nine f) few, h.2)
 
-number_fits : (f : Field) (v : ℕ) (k : Kind) (t : Lists) (b : ℕ) → Means k b → (0 < v) × (v ≤ most f) × FitsField f t
+number_fits : (f : Field) (v : ℕ) (k : ByteKind) (t : Lists) (b : ℕ) → Means k b → (0 < v) × (v ≤ most f) × FitsField f t
     → FitsNext (next_line_place (InNumber f v) k) (lists_after (InNumber f v) k t)
 number_fits First v Zero t b m h = grown First v 0 t (omega arith) h
 number_fits (Second o) v Zero t b m h = grown (Second o) v 0 t (omega arith) h
@@ -93,7 +93,7 @@ number_fits (SideOf g Round) v (Close Square) t b m h = tt
 number_fits f v k t b m h = tt
 
 -- lists that go with a place go with the next one behind a byte
-pub fits_after : (p : Place) (k : Kind) (t : Lists) (b : ℕ) → Means k b → Fits p t → FitsNext (next_line_place p k) (lists_after p k t)
+pub fits_after : (p : Place) (k : ByteKind) (t : Lists) (b : ℕ) → Means k b → Fits p t → FitsNext (next_line_place p k) (lists_after p k t)
 fits_after (InNumber f v) k t b m h = number_fits f v k t b m h
 fits_after Start Blank t b m h = h
 fits_after Start (Digit d) t b m h = (m.0, omega (arith, m.1), h)
@@ -122,7 +122,7 @@ fits_after (InComment ending) k t b m h = h
 fits_after p k t b m h = tt
 
 -- a side that ends is one that a square may have
-pub ended_is_side : (p : Place) (k : Kind) (t : Lists) → Fits p t → (n : ℕ) → ended_side p k ≡ Some n → IsSide n
+pub ended_is_side : (p : Place) (k : ByteKind) (t : Lists) → Fits p t → (n : ℕ) → ended_side p k ≡ Some n → IsSide n
 ended_is_side (InNumber (Column r) v) Zero t h n e = absurd (cc)
 ended_is_side (InNumber (Column r) v) (Digit d) t h n e = absurd (cc)
 ended_is_side (InNumber (Column r) v) k t h n e = let same : v ≡ n = cc in subst IsSide same (h.0, h.1)

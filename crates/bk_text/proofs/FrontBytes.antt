@@ -11,13 +11,13 @@ use Rattle.bk_text.specs.LineReading.{field_with_digit, most, next_line_place}
 use Rattle.bk_text.specs.declared.reader.Bracket.TheVariants.{Round, Square}
 use Rattle.bk_text.specs.declared.reader.Field.{Field}
 use Rattle.bk_text.specs.declared.reader.Field.TheVariants.{Column, First, Height, Second, Side as SideOf, Third}
-use Rattle.bk_text.specs.declared.reader.Kind.TheVariants.{Blank, Close, Comma, Cross, Digit, Open, Semicolon, Zero}
+use Rattle.bk_text.specs.declared.reader.ByteKind.TheVariants.{Blank, Close, Comma, Cross, Digit, Open, Semicolon, Zero}
 use Rattle.bk_text.specs.declared.reader.Place.TheVariants.{BeforeGroup, BeforeHeight, BeforeSide, BehindColumn, BehindFirst, BehindGroup, BehindSecond}
 use Rattle.bk_text.specs.declared.reader.Place.TheVariants.{BehindSide, BehindThird, Comment as InComment, Number as InNumber, Start}
 use Rattle.bk_text.specs.declared.reader.Table.{Table}
 use Rattle.bk_grammar.proofs.FirstByte.{blank_first, comment_first, gap_first, no_blank}
 use Rattle.bk_grammar.proofs.NumbersRead.{Longer, number_read}
-use Rattle.bk_text.specs.declared.reader.Kind.{Kind}
+use Rattle.bk_text.specs.declared.reader.ByteKind.{ByteKind}
 use Rattle.bk_text.specs.declared.reader.Place.{Place}
 use Rattle.bk_text.proofs.ByteKinds.{Means, close_byte}
 use Rattle.bk_text.proofs.KeepingAll.{Lists, and_side, lists_after}
@@ -81,7 +81,7 @@ columns_first r d b t l bs m (n, ds, x, e, longer', (ns, rest, is)) = (
 )
 
 -- a byte, and what completes a line from the place behind it, complete a line
-behind_number : (field : Field) (v : ℕ) (k : Kind) (t : Lists) (l : Line) (b : ℕ) (bs : List ℕ) → Means k b
+behind_number : (field : Field) (v : ℕ) (k : ByteKind) (t : Lists) (l : Line) (b : ℕ) (bs : List ℕ) → Means k b
     → RestAfter (next_line_place (InNumber field v) k) (lists_after (InNumber field v) k t) l bs → Rest (InNumber field v) t l (b ∷ bs)
 behind_number First v Zero t l b bs m h = grown First v 0 b t l bs (omega arith) m h
 behind_number (Second o) v Zero t l b bs m h = grown (Second o) v 0 b t l bs (omega arith) m h
@@ -158,7 +158,7 @@ behind_number (SideOf g Round) v (Close Square) t l b bs m h = absurd h
 behind_number field v k t l b bs m h = absurd h
 
 -- a byte of any kind in front of what completes the line from the place behind it
-pub behind_byte : (p : Place) (k : Kind) (t : Lists) (l : Line) (b : ℕ) (bs : List ℕ) → Means k b → RestAfter (next_line_place p k) (lists_after p k t) l bs
+pub behind_byte : (p : Place) (k : ByteKind) (t : Lists) (l : Line) (b : ℕ) (bs : List ℕ) → Means k b → RestAfter (next_line_place p k) (lists_after p k t) l bs
     → Rest p t l (b ∷ bs)
 behind_byte (InNumber field v) k t l b bs m h = behind_number field v k t l b bs m h
 behind_byte Start Blank t l b bs m (whole, h, is) = (whole, line_blank whole b bs m h, is)

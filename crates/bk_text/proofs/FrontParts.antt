@@ -17,12 +17,12 @@ pub groups_blank : (gs : List (List ℕ)) (b : ℕ) (bs : List ℕ) → IsBlank 
 groups_blank [] b bs blank h = blank_first (Nothing or Comment) b bs blank h
 groups_blank (g ∷ gs) b bs blank h = blank_first ((Nothing or Is (codes ",") then Blanks) then Groups (g ∷ gs) then LineEnd) b bs blank h
 
--- nor does one in front of the columns of a table row
+-- a blank in front of the columns of a table row changes nothing
 pub columns_blank : (ns : List ℕ) (b : ℕ) (bs : List ℕ) → IsBlank b → ColumnsAfterBlanks ns bs → Columns ns (b ∷ bs)
 columns_blank [] b bs blank h = blank_first (Nothing or Comment) b bs blank h
 columns_blank (n ∷ ns) b bs blank h = gap_first (Side n then Columns ns) b bs blank h
 
--- nor one behind a column
+-- a blank behind a column of a table row changes nothing
 pub more_blank : (ns : List ℕ) (b : ℕ) (bs : List ℕ) → IsBlank b → ColumnsAfterBlanks ns bs → ColumnsAfterBlanks ns (b ∷ bs)
 more_blank [] b bs blank h = blank_first (Nothing or Comment) b bs blank h
 more_blank (n ∷ ns) b bs blank h = blank_first (Side n then Columns ns) b bs blank h
@@ -32,12 +32,12 @@ sides_blank [] b bs blank h = h
 sides_blank (n ∷ []) b bs blank h = blank_first (Side n then Blanks) b bs blank h
 sides_blank (n ∷ m ∷ ns) b bs blank h = blank_first (Side n then Blanks then Is (codes ",") then Sides (m ∷ ns)) b bs blank h
 
--- nor one in front of the sides of an open group and what follows
+-- a blank in front of the sides of an open group and what follows changes nothing
 pub sides_rest_blank : (bracket : Bracket) (ns : List ℕ) (gs : List (List ℕ)) (b : ℕ) (bs : List ℕ) → IsBlank b → SidesRest bracket ns gs bs
     → SidesRest bracket ns gs (b ∷ bs)
 sides_rest_blank bracket ns gs b bs blank (s, x, e, sides, rest) = (b ∷ s, x, ap (λ z. b ∷ z) e, sides_blank ns b s blank sides, rest)
 
--- nor one behind the blanks after a first number
+-- a blank behind the blanks after a first number changes nothing
 pub first_blank : (n : ℕ) (t : Lists) (l : Line) (b : ℕ) (bs : List ℕ) → IsBlank b → FirstRest Blanks n t l bs → FirstRest Blanks n t l (b ∷ bs)
 first_blank n t l b bs blank (inl (code, h, e)) = inl (code, blank_first (Groups code then LineEnd) b bs blank h, e)
 first_blank n t l b bs blank (inr (inl (w, k, code, h, e))) =

@@ -10,7 +10,7 @@ use Rattle.bk_text.specs.declared.reader.Bracket.{Bracket}
 use Rattle.bk_text.specs.declared.reader.Bracket.TheVariants.{Round, Square}
 use Rattle.bk_text.specs.declared.reader.Field.TheVariants.{Side}
 use Rattle.bk_text.specs.declared.reader.Header.{Header}
-use Rattle.bk_text.specs.declared.reader.Kind.TheVariants.{Close, Comma, Open}
+use Rattle.bk_text.specs.declared.reader.ByteKind.TheVariants.{Close, Comma, Open}
 use Rattle.bk_text.specs.declared.reader.Place.{Place}
 use Rattle.bk_text.specs.declared.reader.Place.TheVariants.{BeforeGroup, BeforeSide, BehindGroup, Number}
 use Rattle.bk_text.proofs.NumberBytes.{side_begins, step}
@@ -26,7 +26,7 @@ pub comma_ends : (b side : ℕ) (bracket : Bracket) → 0 < side → line_kind_o
 comma_ends b zero bracket some kind h g = absurd (omega (arith, some))
 comma_ends b (suc n) bracket some kind h g = ap (step (Number (Side h bracket) (suc n)) g) kind
 
--- its own bracket ends a side and the group
+-- a group's own bracket ends a side and the group
 pub bracket_ends : (b side : ℕ) (bracket : Bracket) → 0 < side → line_kind_of b ≡ Close bracket → Ends b bracket side true
 bracket_ends b zero bracket some kind h g = absurd (omega (arith, some))
 bracket_ends b (suc n) Square some kind h g = ap (step (Number (Side h Square) (suc n)) g) kind

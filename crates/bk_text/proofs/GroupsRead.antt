@@ -10,7 +10,7 @@ use Rattle.bk_text.specs.declared.reader.Bracket.TheVariants.{Round, Square}
 use Rattle.bk_text.specs.declared.reader.Ending.TheVariants.{Coded}
 use Rattle.bk_text.specs.declared.reader.Field.TheVariants.{Side as SideOf}
 use Rattle.bk_text.specs.declared.reader.Header.{Header}
-use Rattle.bk_text.specs.declared.reader.Kind.TheVariants.{Open}
+use Rattle.bk_text.specs.declared.reader.ByteKind.TheVariants.{Open}
 use Rattle.bk_text.specs.declared.reader.Place.{Place}
 use Rattle.bk_text.specs.declared.reader.Place.TheVariants.{BeforeGroup, BeforeSide, BehindGroup, BehindSide, Number as InNumber}
 use Rattle.bk_text.proofs.ByteKinds.{close_byte, open_byte}
@@ -68,7 +68,8 @@ kind_open Square = refl
 kind_open Round = refl
 
 bracket_reads : (c : Bracket) (p : Place) (g : Header) (ns : List ℕ) (gs : List (List ℕ)) (text one two y : List ℕ) → Opens p g (whole_groups gs)
-    → text ≡ open_byte c ∷ one → Reads (Sides ns) one two → two ≡ close_byte c ∷ y → line_read_from text p (whole_groups gs) ≡ line_read_from y (BehindGroup g) (whole_groups (gs ++ ns ∷ []))
+    → text ≡ open_byte c ∷ one → Reads (Sides ns) one two → two ≡ close_byte c ∷ y
+    → line_read_from text p (whole_groups gs) ≡ line_read_from y (BehindGroup g) (whole_groups (gs ++ ns ∷ []))
 bracket_reads c p g ns gs text one two y opens begins sides ends =
     let k = opens c in
     ap (λ z. line_read_from z p (whole_groups gs)) begins
@@ -100,7 +101,8 @@ groups_reads p g (ns ∷ ms ∷ code) gs text y opens r =
     ∙ ap (λ z. line_read_from y (BehindGroup g) (whole_groups z)) (append_assoc gs (ns ∷ []) (ms ∷ code))
   where
     separated : (one two : List ℕ) → Reads (Nothing or Is (codes ",") then Blanks) one two
-        → ((q : Place) → Opens q g (whole_groups (gs ++ ns ∷ [])) → line_read_from two q (whole_groups (gs ++ ns ∷ [])) ≡ line_read_from y (BehindGroup g) (whole_groups ((gs ++ ns ∷ []) ++ ms ∷ code)))
+        → ((q : Place) → Opens q g (whole_groups (gs ++ ns ∷ []))
+        → line_read_from two q (whole_groups (gs ++ ns ∷ [])) ≡ line_read_from y (BehindGroup g) (whole_groups ((gs ++ ns ∷ []) ++ ms ∷ code)))
         → line_read_from one (BehindGroup g) (whole_groups (gs ++ ns ∷ [])) ≡ line_read_from y (BehindGroup g) (whole_groups ((gs ++ ns ∷ []) ++ ms ∷ code))
     separated one two (a, inl none, e) rest = ap (λ z. line_read_from z (BehindGroup g) (whole_groups (gs ++ ns ∷ []))) (e ∙ ap (λ z. z ++ two) none)
         ∙ rest (BehindGroup g) (λ c. (refl, refl))

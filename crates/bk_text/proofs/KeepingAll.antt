@@ -4,7 +4,7 @@ use Rattle.bk_text.specs.CodeLine.{Flat, Item, Line, Skip}
 use Rattle.bk_text.specs.LineReading.{closes_group, ended_side, last_side, line_ending_at, line_kind_of, next_line_place}
 use Rattle.bk_text.specs.declared.reader.Ending.{Ending}
 use Rattle.bk_text.specs.declared.reader.Ending.TheVariants.{Coded, Empty, Row}
-use Rattle.bk_text.specs.declared.reader.Kind.{Kind}
+use Rattle.bk_text.specs.declared.reader.ByteKind.{ByteKind}
 use Rattle.bk_text.specs.declared.reader.Place.{Place}
 
 -- the groups that were closed, and the sides of the open group or of the table row
@@ -27,7 +27,7 @@ and_group false t = t
 and_group true t = record { groups = t.groups ++ t.sides ∷ []; sides = [] }
 
 -- behind a further byte
-abbrev pub lists_after : Place → Kind → Lists → Lists
+abbrev pub lists_after : Place → ByteKind → Lists → Lists
 lists_after p k t = and_group (closes_group p k) (and_side (ended_side p k) t)
 
 -- what a line stands for

@@ -77,9 +77,9 @@ at-table = stops_at_end (codes "9 33 32") (Number (Third 9 33) 32) no_lists (λ 
 -- what is read of that table row is in range, and an item without groups is not
 in_range-table : IsInRange (Flat 3 3 2 (2 ∷ 1 ∷ 1 ∷ []))
 in_range-table = (
-  (lit< tt, lit< tt),
-  (lit< tt, lit< tt),
-  (lit< tt, lit< tt),
+  (lit< tt, lit≤ tt),
+  (lit< tt, lit≤ tt),
+  (lit< tt, lit≤ tt),
   lit< tt,
   lit≤ tt,
   ((lit< tt, lit≤ tt), ((lit< tt, lit≤ tt), ((lit< tt, lit≤ tt), tt))),

@@ -5,7 +5,7 @@ use Rattle.std.proofs.Common.{arith, subst, sym}
 use Rattle.bk_grammar.specs.Grammar.{Number}
 use Rattle.bk_tiling.specs.KeptTiling.{IsSide}
 use Rattle.bk_text.specs.CodeLine.{Flat, IsLine, Item, Line, Skip, TableSides}
-use Rattle.bk_text.specs.ReadLine.{IsInRange, IsTextFaultOf, sides_of_line}
+use Rattle.bk_text.specs.ReadLine.{IsHeaderNumber, IsInRange, IsTextFaultOf, sides_of_line}
 use Rattle.bk_text.specs.GatheredSides.{Gathered, line_gathered}
 use Rattle.bk_text.specs.declared.reader.Ending.{Ending}
 use Rattle.bk_text.specs.declared.TextFault.{TextFault}
@@ -14,6 +14,9 @@ use Rattle.bk_grammar.proofs.NumbersRead.{number_range}
 
 side_range : (n : ℕ) (bs : List ℕ) → Number 15 n bs → IsSide n
 side_range n bs h = let range = number_range 15 n bs h in (range.0, omega (arith, range.1))
+
+header_range : (n : ℕ) (bs : List ℕ) → Number 18 n bs → IsHeaderNumber n
+header_range n bs h = let range = number_range 18 n bs h in (range.0, omega (arith, range.1))
 
 column_range : (ns bs : List ℕ) → TableSides ns bs → (0 < length ns) × AllByRecursion IsSide ns
 column_range [] bs h = absurd h
@@ -29,7 +32,7 @@ line_range (Item order size (g ∷ gs)) bs h few = omega arith
 line_range (Flat n w h ns) bs
     (a, x, e, blanks, (f, x1, e1, num, (g, x2, e2, gap, (f', x3, e3, num', (g', x4, e4, gap', (f'', x5, e5, num'', (s, x6, e6, sides, end))))))) few =
     let column = column_range ns s sides in
-    (number_range 18 n f num, number_range 18 w f' num', number_range 18 h f'' num'', column.0, few, column.1)
+    (header_range n f num, header_range w f' num', header_range h f'' num'', column.0, few, column.1)
 
 -- from what was gathered to what is answered
 pub read_is : (r : Result Ending TextFault) (ending : Ending) (g : Gathered) (bs : List ℕ) → IfOk r (λ e. (e ≡ ending) × (g.many ≡ false))
@@ -38,7 +41,7 @@ pub read_is : (r : Result Ending TextFault) (ending : Ending) (g : Gathered) (bs
 read_is (Ok e) ending g bs is line = subst (λ (x : Ending). IsLine (line_gathered x g) bs) (sym is.0) (line is.1)
 read_is (Err fault) ending g bs is line = tt
 
--- so the numbers of a line that was read are in range
+-- the numbers of a line that was read are in range
 pub range_is : (r : Result Ending TextFault) (g : Gathered) (bs : List ℕ) → IfOk r (λ e. IsLine (line_gathered e g) bs)
     → IfOk r (λ e. length (sides_of_line (line_gathered e g)) ≤ 200)
     → IfOk r (λ e. IsInRange (line_gathered e g))

@@ -8,7 +8,7 @@ use Rattle.bk_text.specs.LineReading.{most, next_line_place}
 use Rattle.bk_text.specs.declared.reader.Ending.TheVariants.{Empty, Row}
 use Rattle.bk_text.specs.declared.reader.Field.{Field}
 use Rattle.bk_text.specs.declared.reader.Field.TheVariants.{Column, First, Height, Second, Third}
-use Rattle.bk_text.specs.declared.reader.Kind.TheVariants.{Cross}
+use Rattle.bk_text.specs.declared.reader.ByteKind.TheVariants.{Cross}
 use Rattle.bk_text.specs.declared.reader.Place.{Place}
 use Rattle.bk_text.specs.declared.reader.Place.TheVariants.{BeforeGroup, BeforeHeight, BehindColumn, BehindFirst, BehindSecond, BehindThird}
 use Rattle.bk_text.specs.declared.reader.Place.TheVariants.{Number as InNumber, Start}

@@ -12,14 +12,14 @@ use Rattle.bk_text.specs.declared.reader.Bracket.{Bracket}
 use Rattle.bk_text.specs.declared.reader.Field.{Field}
 use Rattle.bk_text.specs.declared.reader.Field.TheVariants.{Column, First, Height, Second, Side, Third}
 use Rattle.bk_text.specs.declared.reader.Header.{Header}
-use Rattle.bk_text.specs.declared.reader.Kind.{Kind}
-use Rattle.bk_text.specs.declared.reader.Kind.TheVariants.{Blank, Cross, Digit, Open, Zero}
+use Rattle.bk_text.specs.declared.reader.ByteKind.{ByteKind}
+use Rattle.bk_text.specs.declared.reader.ByteKind.TheVariants.{Blank, Cross, Digit, Open, Zero}
 use Rattle.bk_text.specs.declared.reader.Place.{Place}
 use Rattle.bk_text.specs.declared.reader.Place.TheVariants.{BeforeHeight, BeforeSide, BehindFirst, Number, Start}
 use Rattle.bk_text.proofs.Strides.{onward-append}
 
 -- what one byte of a kind makes of a place
-abbrev pub step : Place → Gathered → Kind → Option (Place × Gathered)
+abbrev pub step : Place → Gathered → ByteKind → Option (Place × Gathered)
 step p g k = option_and_then (λ q. Some (q, gathered_after p k g)) (next_line_place p k)
 
 -- where numbers begin
@@ -100,7 +100,7 @@ one_digit greatest byte (suc n) (suc m) low high is some small = record {
         ∙ ap (λ h. Some (Number field (suc m), h)) (keeps_digit field (suc n) (byte - 48) g)
 
 -- a byte that ends a number of the header gathers nothing
-behind_header : (field : Field) (n : ℕ) (k : Kind) (q : Place) → most field ≡ 999_999_999_999_999_999 → behind_number field n k ≡ Some q → (g : Gathered)
+behind_header : (field : Field) (n : ℕ) (k : ByteKind) (q : Place) → most field ≡ 999_999_999_999_999_999 → behind_number field n k ≡ Some q → (g : Gathered)
     → step (Number field n) g k ≡ Some (q, g)
 behind_header First n Blank q m e g = ap (option_and_then (λ p. Some (p, g))) e
 behind_header First n Cross q m e g = ap (option_and_then (λ p. Some (p, g))) e
@@ -115,7 +115,7 @@ behind_header (Side h bracket) n k q m e g = absurd (omega (arith, m))
 behind_header field n k q m e g = absurd (cc)
 
 -- a number of the header, and the byte that ends it
-pub number_taken : (place : Place) (field : Field) (bytes : List ℕ) (number digits : ℕ) (kind : Kind) (next : Place)
+pub number_taken : (place : Place) (field : Field) (bytes : List ℕ) (number digits : ℕ) (kind : ByteKind) (next : Place)
     → BeginsFieldNumber place field → most field ≡ 999_999_999_999_999_999 → SpellOn 999_999_999_999_999_999 (take digits bytes) 0 number → 0 < number
     → digits < length bytes → line_kind_of (get_or bytes digits 0) ≡ kind → behind_number field number kind ≡ Some next
     → (g : Gathered) → onward (take (digits + 1) bytes) place g ≡ Some (next, g)

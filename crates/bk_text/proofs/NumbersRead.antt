@@ -17,14 +17,14 @@ use Rattle.bk_text.specs.LineReading.{field_with_digit, line_kind_of, most, next
 use Rattle.bk_text.specs.declared.reader.Ending.{Ending}
 use Rattle.bk_text.specs.declared.reader.Field.{Field}
 use Rattle.bk_text.specs.declared.reader.Field.TheVariants.{Column, First, Height, Second, Side as SideOf, Third}
-use Rattle.bk_text.specs.declared.reader.Kind.{Kind}
-use Rattle.bk_text.specs.declared.reader.Kind.TheVariants.{Blank, Digit, Semicolon, Zero}
+use Rattle.bk_text.specs.declared.reader.ByteKind.{ByteKind}
+use Rattle.bk_text.specs.declared.reader.ByteKind.TheVariants.{Blank, Digit, Semicolon, Zero}
 use Rattle.bk_text.specs.declared.reader.Place.{Place}
 use Rattle.bk_text.specs.declared.reader.Place.TheVariants.{Comment as InComment, Number as InNumber}
 use Rattle.bk_text.proofs.KeepingAll.{Lists, line_of, lists_after, line_read_from}
 
 -- a further byte of a known kind
-pub read_next : (p q : Place) (k : Kind) (t u : Lists) (b : ℕ) (bs : List ℕ) → line_kind_of b ≡ k → next_line_place p k ≡ Some q → lists_after p k t ≡ u
+pub read_next : (p q : Place) (k : ByteKind) (t u : Lists) (b : ℕ) (bs : List ℕ) → line_kind_of b ≡ k → next_line_place p k ≡ Some q → lists_after p k t ≡ u
     → line_read_from (b ∷ bs) p t ≡ line_read_from bs q u
 read_next p q k t u b bs kind next lists =
     ap (λ k. option_and_then (λ q. line_read_from bs q (lists_after p k t)) (next_line_place p k)) kind
@@ -135,13 +135,15 @@ abbrev pub Ends_at : Place → Place → Lists → Lists → Type 0
 Ends_at p q t u = (next_line_place p Blank ≡ Some q) × (lists_after p Blank t ≡ u)
 
 -- some blanks behind a number lead to the place behind it
-pub gap_reads : (p q : Place) (t u : Lists) (text x : List ℕ) → Ends_at p q t u → Skips_blanks q u → Reads SomeBlanks text x → line_read_from text p t ≡ line_read_from x q u
-gap_reads p q t u text x ends skips ([], h, e) = absurd (omega (arith, h.0))
-gap_reads p q t u text x ends skips (b ∷ a, h, e) = ap (λ z. line_read_from z p t) e ∙ blank_read p q t u b (a ++ x) h.1.0 ends.0 ends.1 ∙ skipped q u a x skips h.1.1
-
--- and so do blanks, also none, where what follows is read alike from both places
-pub behind_reads : (p q : Place) (t u : Lists) (text x : List ℕ) → Ends_at p q t u → Skips_blanks q u → line_read_from x p t ≡ line_read_from x q u → Reads Blanks text x
+pub gap_reads : (p q : Place) (t u : Lists) (text x : List ℕ) → Ends_at p q t u → Skips_blanks q u → Reads SomeBlanks text x
     → line_read_from text p t ≡ line_read_from x q u
+gap_reads p q t u text x ends skips ([], h, e) = absurd (omega (arith, h.0))
+gap_reads p q t u text x ends skips (b ∷ a, h, e) =
+    ap (λ z. line_read_from z p t) e ∙ blank_read p q t u b (a ++ x) h.1.0 ends.0 ends.1 ∙ skipped q u a x skips h.1.1
+
+-- blanks behind a number, also none, lead to the place behind it, where what follows is read alike from both places
+pub behind_reads : (p q : Place) (t u : Lists) (text x : List ℕ) → Ends_at p q t u → Skips_blanks q u
+    → line_read_from x p t ≡ line_read_from x q u → Reads Blanks text x → line_read_from text p t ≡ line_read_from x q u
 behind_reads p q t u text x ends skips same ([], h, e) = ap (λ z. line_read_from z p t) e ∙ same
 behind_reads p q t u text x ends skips same (b ∷ a, h, e) = gap_reads p q t u text x ends skips (b ∷ a, (omega arith, h), e)
 

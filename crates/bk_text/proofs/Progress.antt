@@ -13,8 +13,8 @@ use Rattle.bk_text.specs.LineReading.{closes_group, ended_side, last_side, line_
 use Rattle.bk_text.specs.declared.reader.Ending.{Ending}
 use Rattle.bk_text.specs.declared.reader.Ending.TheVariants.{Coded, Empty, Row}
 use Rattle.bk_text.specs.declared.reader.Field.TheVariants.{Side as SideOf}
-use Rattle.bk_text.specs.declared.reader.Kind.{Kind}
-use Rattle.bk_text.specs.declared.reader.Kind.TheVariants.{Close}
+use Rattle.bk_text.specs.declared.reader.ByteKind.{ByteKind}
+use Rattle.bk_text.specs.declared.reader.ByteKind.TheVariants.{Close}
 use Rattle.bk_text.specs.declared.reader.Place.{Place}
 use Rattle.bk_text.specs.declared.reader.Place.TheVariants.{BehindSide, Number as InNumber}
 use Rattle.bk_text.proofs.ByteKinds.{line_kind_of-means}
@@ -94,7 +94,7 @@ keeps_closed false g t keeps = keeps
 keeps_closed true g t keeps = keeps_group g t keeps
 
 -- what the code asks before a byte is taken
-pub side_fits : (front : List ℕ) (p : Place) (g : Gathered) (k : Kind) → Progress front p g → (n : ℕ) → ended_side p k ≡ Some n → IsSide n
+pub side_fits : (front : List ℕ) (p : Place) (g : Gathered) (k : ByteKind) → Progress front p g → (n : ℕ) → ended_side p k ≡ Some n → IsSide n
 side_fits front p g k progress n e = ended_is_side p k progress.lists progress.fits n e
 
 -- a side that ends here is one that a square may have
@@ -114,7 +114,7 @@ side_added n g few = cases (nat_lt (kept_side_count g) 200) few
     cases false few' = absurd (cc)
 
 -- a group that closes here has a side
-pub group_fits : (front : List ℕ) (p : Place) (g : Gathered) (k : Kind) → Progress front p g → closes_group p k ≡ true
+pub group_fits : (front : List ℕ) (p : Place) (g : Gathered) (k : ByteKind) → Progress front p g → closes_group p k ≡ true
     → (with_ended (ended_side p k) g).many ≡ false → 0 < length (with_ended (ended_side p k) g).sides
 group_fits front (InNumber (SideOf h c) v) g (Close d) progress closes few = side_added v g few
 group_fits front (BehindSide h c) g (Close d) progress closes few =
@@ -134,7 +134,7 @@ one_more front p q g b progress is next = record {
       (keeps_ended (ended_side p (line_kind_of b)) g progress.lists is progress.keeps);
 }
 
--- the same behind a place of the bytes
+-- one byte further, behind a place of the bytes
 pub one_further : (bs : List ℕ) (i : ℕ) (p q : Place) (g : Gathered) → i < length bs → Progress (take i bs) p g → IsGathered g
     → next_line_place p (line_kind_of (get_or bs i 0)) ≡ Some q
     → Progress (take (i + 1) bs) q (gathered_after p (line_kind_of (get_or bs i 0)) g)
@@ -172,7 +172,7 @@ line_found bs p g ending progress is ends few =
     (keeps_ended (last_side p) g progress.lists is progress.keeps) few)
     (whole_line bs p g ending progress ends)
 
--- and where not all sides were kept, a line of more than 200 sides
+-- bytes that end where a line may end, of which not all sides were kept, are a line of more than 200 sides
 pub many_found : (bs : List ℕ) (p : Place) (g : Gathered) (ending : Ending) → Progress bs p g → IsGathered g → line_ending_at p ≡ Some ending
     → (with_ended (last_side p) g).many ≡ true → (line : Line) × IsLine line bs × (200 < length (sides_of_line line))
 many_found bs p g ending progress is ends many =

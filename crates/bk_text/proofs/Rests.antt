@@ -61,7 +61,7 @@ abbrev pub Columns : List ℕ → List ℕ → Type 0
 Columns [] = LineEnd
 Columns (n ∷ ns) = SomeBlanks then Side n then Columns ns
 
--- the same where blanks were read
+-- the sides of a table row behind a number, where the blanks after it were read
 abbrev pub ColumnsAfterBlanks : List ℕ → List ℕ → Type 0
 ColumnsAfterBlanks [] = LineEnd
 ColumnsAfterBlanks (n ∷ ns) = Blanks then Side n then Columns ns

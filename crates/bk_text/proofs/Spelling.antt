@@ -43,7 +43,7 @@ short_group (n ∷ ns) group =
     ∙ length-append (decimal n) (flat_map side_text ns) in
     omega (arith, all, parts, short_side n group.1.0, short_sides ns group.1.1)
 
--- and so has a code
+-- a code has at most 17 bytes a side
 pub short_code : (code : Code) → AllByRecursion IsSideGroup code → length (code_text code) ≤ 17 * length (flat code)
 short_code [] groups = omega arith
 short_code (g ∷ code) groups =

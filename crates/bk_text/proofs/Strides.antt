@@ -9,7 +9,7 @@ use Rattle.bk_tiling.specs.KeptTiling.{IsSide}
 use Rattle.bk_text.specs.GatheredSides.{Gathered, IsGathered, gathered_after, kept_side_count, with_closed, with_ended, with_gathered_side, with_group}
 use Rattle.bk_text.specs.Onward.{SpellOn, at_number, onward}
 use Rattle.bk_text.specs.LineReading.{closes_group, ended_side, line_kind_of, next_line_place}
-use Rattle.bk_text.specs.declared.reader.Kind.{Kind}
+use Rattle.bk_text.specs.declared.reader.ByteKind.{ByteKind}
 use Rattle.bk_text.specs.declared.reader.Place.{Place}
 use Rattle.bk_text.proofs.Progress.{Progress, flat-of_closed_group, one_more, side_fits}
 
@@ -86,7 +86,7 @@ gathered_closed : (closes : Bool) (g : Gathered) → IsGathered g → IsGathered
 gathered_closed false g is = is
 gathered_closed true g is = gathered_group g is
 
-still_gathered : (front : List ℕ) (p : Place) (g : Gathered) (k : Kind) → Progress front p g → IsGathered g → IsGathered (gathered_after p k g)
+still_gathered : (front : List ℕ) (p : Place) (g : Gathered) (k : ByteKind) → Progress front p g → IsGathered g → IsGathered (gathered_after p k g)
 still_gathered front p g k progress is =
     gathered_closed (closes_group p k) (with_ended (ended_side p k) g) (gathered_ended (ended_side p k) g (side_fits front p g k progress) is)
 
@@ -110,7 +110,7 @@ several_more (b ∷ bs) front p q g h progress is e =
     by_next None next e' rest = absurd (cc)
     by_next (Some r) next e' rest = subst (λ (z : List ℕ). Progress z q h) (append_assoc front (b ∷ []) bs) (rest r next e')
 
--- the same behind a place of the bytes
+-- several bytes further, behind a place of the bytes
 pub several_further : (bs : List ℕ) (i n : ℕ) (p q : Place) (g h : Gathered) → Progress (take i bs) p g → IsGathered g
     → onward (take n (from i bs)) p g ≡ Some (q, h) → Progress (take (i + n) bs) q h
 several_further bs i n p q g h progress is e =

@@ -34,7 +34,8 @@ rest-of_read (b ∷ bs) p t l e =
     behind_byte p (line_kind_of b) t l b bs (line_kind_of-means b)
     (from (next_line_place p (line_kind_of b)) (λ q k. rest-of_read bs q (lists_after p (line_kind_of b) t) l k) e)
   where
-    from : (next : Option Place) → ((q : Place) → line_read_from bs q (lists_after p (line_kind_of b) t) ≡ Some l → Rest q (lists_after p (line_kind_of b) t) l bs)
+    from : (next : Option Place)
+        → ((q : Place) → line_read_from bs q (lists_after p (line_kind_of b) t) ≡ Some l → Rest q (lists_after p (line_kind_of b) t) l bs)
         → option_and_then (λ q. line_read_from bs q (lists_after p (line_kind_of b) t)) next ≡ Some l → RestAfter next (lists_after p (line_kind_of b) t) l bs
     from None each h = absurd (cc)
     from (Some q) each h = each q h

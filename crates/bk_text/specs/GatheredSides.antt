@@ -9,7 +9,7 @@ use Rattle.bk_text.specs.CodeLine.{Flat, Item, Line, Skip}
 use Rattle.bk_text.specs.declared.reader.Ending.{Ending}
 use Rattle.bk_text.specs.declared.reader.Ending.TheVariants.{Coded, Empty, Row}
 use Rattle.bk_text.specs.LineReading.{closes_group, ended_side}
-use Rattle.bk_text.specs.declared.reader.Kind.{Kind}
+use Rattle.bk_text.specs.declared.reader.ByteKind.{ByteKind}
 use Rattle.bk_text.specs.declared.reader.Place.{Place}
 use Rattle.bk_tiling.specs.declared.TheConstants.{MOST_SQUARES}
 
@@ -52,7 +52,7 @@ with_closed false g = g
 with_closed true g = with_group g
 
 -- behind a further byte: a side that ends before it, and then a group that it closes
-abbrev pub gathered_after : Place → Kind → Gathered → Gathered
+abbrev pub gathered_after : Place → ByteKind → Gathered → Gathered
 gathered_after place kind g = with_closed (closes_group place kind) (with_ended (ended_side place kind) g)
 
 -- what a line stands for that ends here

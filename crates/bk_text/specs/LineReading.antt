@@ -9,19 +9,19 @@ use Rattle.bk_text.specs.declared.reader.Ending.TheVariants.{Coded, Empty, Row}
 use Rattle.bk_text.specs.declared.reader.Field.{Field}
 use Rattle.bk_text.specs.declared.reader.Field.TheVariants.{Column, First, Height, Second, Side, Third}
 use Rattle.bk_text.specs.declared.reader.Header.{Header}
-use Rattle.bk_text.specs.declared.reader.Kind.{Kind}
-use Rattle.bk_text.specs.declared.reader.Kind.TheVariants.{Blank, Close, Comma, Cross, Digit, Open, Other, Semicolon}
-use Rattle.bk_text.specs.declared.reader.Kind.TheVariants.{Zero}
+use Rattle.bk_text.specs.declared.reader.ByteKind.{ByteKind}
+use Rattle.bk_text.specs.declared.reader.ByteKind.TheVariants.{Blank, Close, Comma, Cross, Digit, Open, Other}
+use Rattle.bk_text.specs.declared.reader.ByteKind.TheVariants.{Semicolon, Zero}
 use Rattle.bk_text.specs.declared.reader.Place.{Place}
 use Rattle.bk_text.specs.declared.reader.Place.TheVariants.{BeforeGroup, BeforeHeight, BeforeSide, BehindColumn}
 use Rattle.bk_text.specs.declared.reader.Place.TheVariants.{BehindFirst, BehindGroup}
 use Rattle.bk_text.specs.declared.reader.Place.TheVariants.{BehindSecond, BehindSide, BehindThird, Comment, Number}
 use Rattle.bk_text.specs.declared.reader.Place.TheVariants.{Start}
-use Rattle.bk_text.specs.declared.reader.TheConstants.{LARGEST_HEADER_NUMBER}
+use Rattle.bk_code.specs.declared.TheConstants.{LARGEST_HEADER_NUMBER}
 use Rattle.bk_tiling.specs.declared.TheConstants.{LONGEST_SIDE}
 
 -- what a byte is to the grammar
-abbrev pub line_kind_of : ℕ → Kind
+abbrev pub line_kind_of : ℕ → ByteKind
 line_kind_of b =
     if b == 48 then Zero
     else if nat_le 49 b && nat_le b 57 then Digit (b - 48)
@@ -61,7 +61,7 @@ close_group header Round Round = Some (BehindGroup header)
 close_group header left right = None
 
 -- behind a number and a byte that is no digit
-abbrev pub behind_number : Field → ℕ → Kind → Option Place
+abbrev pub behind_number : Field → ℕ → ByteKind → Option Place
 behind_number First n Blank = Some (BehindFirst n)
 behind_number First n Cross = Some (BeforeHeight None n)
 behind_number First n (Open bracket) = Some (BeforeSide (order_alone n) bracket)
@@ -78,8 +78,8 @@ behind_number (Side header bracket) n Comma = Some (BeforeSide header bracket)
 behind_number (Side header bracket) n (Close other) = close_group header bracket other
 behind_number field n kind = None
 
--- behind a further byte, or nothing where no line goes on with it
-abbrev pub next_line_place : Place → Kind → Option Place
+-- where the reader stands behind a further byte, or nothing where no line goes on with it
+abbrev pub next_line_place : Place → ByteKind → Option Place
 next_line_place Start Blank = Some Start
 next_line_place Start (Digit digit) = Some (Number First digit)
 next_line_place Start (Open bracket) = Some (BeforeSide no_header bracket)
@@ -113,7 +113,7 @@ next_line_place (Comment ending) kind = Some (Comment ending)
 next_line_place place kind = None
 
 -- the side that ends before a further byte
-abbrev pub ended_side : Place → Kind → Option ℕ
+abbrev pub ended_side : Place → ByteKind → Option ℕ
 ended_side (Number field value) Zero = None
 ended_side (Number field value) (Digit digit) = None
 ended_side (Number (Column table) value) kind = Some value
@@ -121,7 +121,7 @@ ended_side (Number (Side header bracket) value) kind = Some value
 ended_side place kind = None
 
 -- whether a further byte closes a group
-abbrev pub closes_group : Place → Kind → Bool
+abbrev pub closes_group : Place → ByteKind → Bool
 closes_group (Number (Side header bracket) value) (Close other) = true
 closes_group (BehindSide header bracket) (Close other) = true
 closes_group place kind = false

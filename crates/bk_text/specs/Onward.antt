@@ -8,11 +8,11 @@ use Rattle.bk_text.specs.LineReading.{line_kind_of, most, next_line_place}
 use Rattle.bk_text.specs.declared.reader.Bracket.{Bracket}
 use Rattle.bk_text.specs.declared.reader.Field.{Field}
 use Rattle.bk_text.specs.declared.reader.Header.{Header}
-use Rattle.bk_text.specs.declared.reader.Kind.TheVariants.{Digit, Open}
+use Rattle.bk_text.specs.declared.reader.ByteKind.TheVariants.{Digit, Open}
 use Rattle.bk_text.specs.declared.reader.Place.{Place}
 use Rattle.bk_text.specs.declared.reader.Place.TheVariants.{BeforeSide, BehindGroup, Number}
-use Rattle.bk_text.specs.declared.sides.Front.{Front}
-use Rattle.bk_text.specs.declared.sides.Front.TheVariants.{Inner, Last, Other}
+use Rattle.bk_text.specs.declared.sides.SideInFront.{SideInFront}
+use Rattle.bk_text.specs.declared.sides.SideInFront.TheVariants.{Inner, Last, Other}
 
 -- behind several bytes: the place, and what is gathered; nothing where no line goes on with them
 abbrev pub onward : List ℕ → Place → Gathered → Option (Place × Gathered)
@@ -52,7 +52,7 @@ abbrev pub with_last_side : ℕ → Bool → Gathered → Gathered
 with_last_side side false g = with_gathered_side side g
 with_last_side side true g = with_group (with_gathered_side side g)
 
--- the first bytes are a side of a group that such a bracket opened, and a comma, or the bracket that closes the group
+-- the first bytes are a side of a group that this bracket opened, and a comma, or the bracket that closes the group
 pub record IsFrontSide (bracket : Bracket) (bytes : List ℕ) (side len : ℕ) (closed : Bool) : Type 0 where
   pub side_fits : IsSide side
   pub some : 0 < len
@@ -61,7 +61,7 @@ pub record IsFrontSide (bracket : Bracket) (bytes : List ℕ) (side len : ℕ) (
       → onward (take len bytes) (BeforeSide header bracket) g
       ≡ Some (behind_sides header bracket closed, with_last_side side closed g)
 
-abbrev pub IsFront : Bracket → List ℕ → Front → Type 0
+abbrev pub IsFront : Bracket → List ℕ → SideInFront → Type 0
 IsFront bracket bytes (Inner side len) = IsFrontSide bracket bytes side len false
 IsFront bracket bytes (Last side len) = IsFrontSide bracket bytes side len true
 IsFront bracket bytes Other = ⊤

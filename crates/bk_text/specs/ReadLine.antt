@@ -2,7 +2,7 @@
 -- Example (LineExamples): `[18,,15]` is refused as `Text` at 4, and a table row of 201 sides of 1 as `Many`; the table
 -- row `3 3 2 2 1 1` is in range.
 use Rattle.std.specs.List.{AllByRecursion}
-use Rattle.std.specs.Prelude.{List, [], length, ℕ, ◌<◌, ◌^◌, ◌≤◌}
+use Rattle.std.specs.Prelude.{List, [], length, ℕ, ◌<◌, ◌≤◌}
 use Rattle.bk_code.specs.Code.{flat}
 use Rattle.bk_tiling.specs.KeptTiling.{IsSide}
 use Rattle.bk_text.specs.CodeLine.{Flat, IsLine, IsNoLine, Item, Line, Skip}
@@ -10,6 +10,7 @@ use Rattle.bk_text.specs.declared.Line.{Line as LineRead}
 use Rattle.bk_text.specs.declared.Line.TheVariants as read
 use Rattle.bk_text.specs.declared.TextFault.{TextFault}
 use Rattle.bk_text.specs.declared.TextFault.TheVariants.{Many, Text}
+use Rattle.bk_code.specs.declared.TheConstants.{LARGEST_HEADER_NUMBER}
 use Rattle.bk_tiling.specs.declared.TheConstants.{MOST_SQUARES}
 
 -- what a line that was read stands for
@@ -26,7 +27,7 @@ sides_of_line (Flat order width height sides) = sides
 
 -- a number that a header may have
 abbrev pub IsHeaderNumber : ℕ → Type 0
-IsHeaderNumber n = (0 < n) × (n < 10 ^ 18)
+IsHeaderNumber n = (0 < n) × (n ≤ LARGEST_HEADER_NUMBER)
 
 -- what the grammar tells of a line: a code has a group, and a table row has a size and sides of their kinds
 abbrev pub IsInRange : Line → Type 0

@@ -24,7 +24,8 @@ AWrittenSizeAndCodeAreRead =
     → LineEnd end
     → IsLine (Item None (Some (w, h)) code) (size_text w h ++ 32 ∷ (code_text code ++ end))
 
--- the same with an order and a blank before them
+-- a written order, size and code, with a blank between each two, and the end of a line stand for the order, the size
+-- and the code
 abbrev pub AWrittenItemIsRead : Type 0
 AWrittenItemIsRead =
     (order w h : ℕ) (code : Code) (end : List ℕ) → IsHeaderNumber order → IsHeaderNumber w → IsHeaderNumber h

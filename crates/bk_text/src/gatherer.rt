@@ -7,11 +7,11 @@ ghost use Rattle.bk_text.specs.Onward.{BeginsFieldNumber, onward};
 ghost use Rattle.bk_text.specs.LineReading.{most};
 ghost use Rattle.bk_tiling.specs.KeptTiling.{IsSide};
 
-use crate::reader::{Bracket, Ending, Field, Header, Kind, LARGEST_HEADER_NUMBER, Place, kind_of};
-use crate::sides::{Front, front_of, number_in_front};
+use crate::reader::{Bracket, ByteKind, Ending, Field, Header, Place, kind_of};
+use crate::sides::{SideInFront, number_in_front, side_in_front};
 use crate::{Line, TextFault};
 use arrayvec::ArrayVec;
-use bk_code::{Code, flat};
+use bk_code::{Code, LARGEST_HEADER_NUMBER, flat};
 use bk_tiling::MOST_SQUARES;
 use std::marker::Model;
 
@@ -79,7 +79,7 @@ impl Gatherer {
     }
 
     // Takes the side that ends before a byte, and closes the group that the byte closes.
-    pub(crate) fn take(&mut self, place: Place, kind: Kind)
+    pub(crate) fn take(&mut self, place: Place, kind: ByteKind)
         requires side { ForSome (ended_side place kind) IsSide }
         requires group { closes_group place kind ≡ true → (with_ended (ended_side place kind) self.old).many ≡ false
             → 0 < length (with_ended (ended_side place kind) self.old).sides }
@@ -135,7 +135,7 @@ impl Gatherer {
         if bytes.is_empty() {
             return 0;
         }
-        let Kind::Open(bracket) = kind_of(bytes[0]) else {
+        let ByteKind::Open(bracket) = kind_of(bytes[0]) else {
             return 0;
         };
         let (taken, closed) = self.take_group(bracket, &bytes[1..]);
@@ -157,17 +157,17 @@ impl Gatherer {
     {
         let mut taken = 0;
         'sides: while taken < bytes.len() {
-            match front_of(bracket, &bytes[taken..]) {
-                Front::Inner { side, len } => {
+            match side_in_front(bracket, &bytes[taken..]) {
+                SideInFront::Inner { side, len } => {
                     self.add_side(side);
                     taken += len;
                 }
-                Front::Last { side, len } => {
+                SideInFront::Last { side, len } => {
                     self.add_side(side);
                     self.close_group();
                     return (taken + len, true);
                 }
-                Front::Other => return (taken, false),
+                SideInFront::Other => return (taken, false),
             }
         }
         (taken, false)
@@ -185,7 +185,7 @@ impl Gatherer {
         }
     }
 
-    // That a line ends so, if no side was left out.
+    // The given ending of a line if no side was left out, and else that the line has too many.
     pub(crate) fn ended(&self, ending: Ending) -> Result<Ending, TextFault>
         ensures few { IfOk result (λ e. (e ≡ ending) × (self.now.many ≡ false)) }
         ensures fits { IfOk result (λ e. length (sides_of_line (line_gathered e self.now)) ≤ MOST_SQUARES) }

@@ -8,10 +8,8 @@ ghost use Rattle.bk_text.specs.LineReading.{field_with_digit, next_line_place};
 ghost use Rattle.bk_text.specs.LineReading.{order_alone as only_order};
 ghost use Rattle.bk_text.specs.LineReading.{most as most_of};
 
+use bk_code::LARGEST_HEADER_NUMBER;
 use bk_tiling::LONGEST_SIDE;
-
-/// The greatest number of a header.
-pub const LARGEST_HEADER_NUMBER: u64 = 999_999_999_999_999_999;
 
 /// The two kinds of brackets round a group.
 #[derive(Clone, Copy)]
@@ -22,7 +20,7 @@ pub enum Bracket {
 
 /// What a byte is to the grammar of lines.
 #[derive(Clone, Copy)]
-pub enum Kind {
+pub enum ByteKind {
     Blank,
     Zero,
     /// A digit but 0, with its value.
@@ -122,21 +120,21 @@ pub enum Place {
 }
 
 // What a byte is to the grammar.
-pub fn kind_of(byte: u8) -> Kind
+pub fn kind_of(byte: u8) -> ByteKind
     ensures { result ≡ kind_of_byte byte }
 {
     match byte {
-        b'0' => Kind::Zero,
-        b'1'..=b'9' => Kind::Digit(byte - b'0'),
-        b' ' | b'\t' | b'\r' => Kind::Blank,
-        b',' => Kind::Comma,
-        b'x' => Kind::Cross,
-        b'[' => Kind::Open(Bracket::Square),
-        b'(' => Kind::Open(Bracket::Round),
-        b']' => Kind::Close(Bracket::Square),
-        b')' => Kind::Close(Bracket::Round),
-        b';' => Kind::Semicolon,
-        _ => Kind::Other,
+        b'0' => ByteKind::Zero,
+        b'1'..=b'9' => ByteKind::Digit(byte - b'0'),
+        b' ' | b'\t' | b'\r' => ByteKind::Blank,
+        b',' => ByteKind::Comma,
+        b'x' => ByteKind::Cross,
+        b'[' => ByteKind::Open(Bracket::Square),
+        b'(' => ByteKind::Open(Bracket::Round),
+        b']' => ByteKind::Close(Bracket::Square),
+        b')' => ByteKind::Close(Bracket::Round),
+        b';' => ByteKind::Semicolon,
+        _ => ByteKind::Other,
     }
 }
 
@@ -152,12 +150,12 @@ impl Field {
     }
 
     // The place behind a number and a further byte.
-    fn next(self, value: u64, kind: Kind) -> Option<Place>
+    fn next(self, value: u64, kind: ByteKind) -> Option<Place>
         ensures { result ≡ next_line_place (Place.Number self value) kind }
     {
         match kind {
-            Kind::Zero => self.with_digit(value, 0),
-            Kind::Digit(digit) => self.with_digit(value, digit),
+            ByteKind::Zero => self.with_digit(value, 0),
+            ByteKind::Digit(digit) => self.with_digit(value, digit),
             _ => self.behind(value, kind),
         }
     }
@@ -173,39 +171,46 @@ impl Field {
     }
 
     // The place behind a number and a byte that is no digit.
-    pub(crate) fn behind(self, value: u64, kind: Kind) -> Option<Place>
+    pub(crate) fn behind(self, value: u64, kind: ByteKind) -> Option<Place>
         ensures { result ≡ behind_number self value kind }
     {
         match (self, kind) {
-            (Field::First, Kind::Blank) => Some(Place::BehindFirst(value)),
-            (Field::First, Kind::Cross) => Some(Place::BeforeHeight(None, value)),
-            (Field::First, Kind::Open(bracket)) => Some(Place::BeforeSide(
+            (Field::First, ByteKind::Blank) => Some(Place::BehindFirst(value)),
+            (Field::First, ByteKind::Cross) => Some(Place::BeforeHeight(None, value)),
+            (Field::First, ByteKind::Open(bracket)) => Some(Place::BeforeSide(
                 Header::order_alone(value),
                 bracket,
             )),
-            (Field::Second(order), Kind::Blank) => Some(Place::BehindSecond(order, value)),
-            (Field::Second(order), Kind::Cross) => Some(Place::BeforeHeight(Some(order), value)),
-            (Field::Height(order, width), Kind::Blank) => Some(Place::BeforeGroup(Header {
+            (Field::Second(order), ByteKind::Blank) => Some(Place::BehindSecond(order, value)),
+            (Field::Second(order), ByteKind::Cross) => Some(Place::BeforeHeight(
+                Some(order),
+                value,
+            )),
+            (Field::Height(order, width), ByteKind::Blank) => Some(Place::BeforeGroup(Header {
                 order,
                 size: Some((width, value)),
             })),
-            (Field::Height(order, width), Kind::Open(bracket)) => Some(Place::BeforeSide(
+            (Field::Height(order, width), ByteKind::Open(bracket)) => Some(Place::BeforeSide(
                 Header {
                     order,
                     size: Some((width, value)),
                 },
                 bracket,
             )),
-            (Field::Third(order, width), Kind::Blank) => Some(Place::BehindThird(Table {
+            (Field::Third(order, width), ByteKind::Blank) => Some(Place::BehindThird(Table {
                 order,
                 width,
                 height: value,
             })),
-            (Field::Column(table), Kind::Blank) => Some(Place::BehindColumn(table)),
-            (Field::Column(table), Kind::Semicolon) => Some(Place::Comment(Ending::Row(table))),
-            (Field::Side(header, bracket), Kind::Blank) => Some(Place::BehindSide(header, bracket)),
-            (Field::Side(header, bracket), Kind::Comma) => Some(Place::BeforeSide(header, bracket)),
-            (Field::Side(header, bracket), Kind::Close(other)) => close_group(
+            (Field::Column(table), ByteKind::Blank) => Some(Place::BehindColumn(table)),
+            (Field::Column(table), ByteKind::Semicolon) => Some(Place::Comment(Ending::Row(table))),
+            (Field::Side(header, bracket), ByteKind::Blank) => Some(Place::BehindSide(
+                header, bracket,
+            )),
+            (Field::Side(header, bracket), ByteKind::Comma) => Some(Place::BeforeSide(
+                header, bracket,
+            )),
+            (Field::Side(header, bracket), ByteKind::Close(other)) => close_group(
                 header, bracket, other,
             ),
             _ => None,
@@ -227,7 +232,7 @@ fn close_group(header: Header, left: Bracket, right: Bracket) -> Option<Place>
 
 impl Place {
     // The place behind a further byte, or `None` where no line goes on with it.
-    pub fn next(self, kind: Kind) -> Option<Place>
+    pub fn next(self, kind: ByteKind) -> Option<Place>
         ensures { result ≡ next_line_place self kind }
     {
         match self {
@@ -235,29 +240,32 @@ impl Place {
             Place::Number(field, value) => field.next(value, kind),
             Place::BehindFirst(order) => behind_first(order, kind),
             Place::BehindSecond(order, width) => match kind {
-                Kind::Blank => Some(self),
-                Kind::Digit(digit) => Some(Place::Number(
+                ByteKind::Blank => Some(self),
+                ByteKind::Digit(digit) => Some(Place::Number(
                     Field::Third(order, width),
                     u64::from(digit),
                 )),
                 _ => None,
             },
             Place::BeforeHeight(order, width) => match kind {
-                Kind::Digit(digit) => Some(Place::Number(
+                ByteKind::Digit(digit) => Some(Place::Number(
                     Field::Height(order, width),
                     u64::from(digit),
                 )),
                 _ => None,
             },
             Place::BehindThird(table) => match kind {
-                Kind::Blank => Some(self),
-                Kind::Digit(digit) => Some(Place::Number(Field::Column(table), u64::from(digit))),
+                ByteKind::Blank => Some(self),
+                ByteKind::Digit(digit) => Some(Place::Number(
+                    Field::Column(table),
+                    u64::from(digit),
+                )),
                 _ => None,
             },
             Place::BehindColumn(table) => behind_column(table, kind),
             Place::BeforeGroup(header) => match kind {
-                Kind::Blank => Some(self),
-                Kind::Open(bracket) => Some(Place::BeforeSide(header, bracket)),
+                ByteKind::Blank => Some(self),
+                ByteKind::Open(bracket) => Some(Place::BeforeSide(header, bracket)),
                 _ => None,
             },
             Place::BeforeSide(header, bracket) => before_side(header, bracket, kind),
@@ -268,25 +276,25 @@ impl Place {
     }
 
     // The side that ends before a further byte.
-    pub fn ended_side(self, kind: Kind) -> Option<u64>
+    pub fn ended_side(self, kind: ByteKind) -> Option<u64>
         ensures { result ≡ ended_before self kind }
     {
         match (self, kind) {
-            (_, Kind::Zero | Kind::Digit(_)) => None,
+            (_, ByteKind::Zero | ByteKind::Digit(_)) => None,
             (Place::Number(Field::Column(_) | Field::Side(_, _), value), _) => Some(value),
             _ => None,
         }
     }
 
     // Whether a further byte closes a group.
-    pub fn closes_group(self, kind: Kind) -> bool
+    pub fn closes_group(self, kind: ByteKind) -> bool
         ensures { result ≡ closes self kind }
     {
         matches!(
             (self, kind),
             (
                 Place::Number(Field::Side(_, _), _) | Place::BehindSide(_, _),
-                Kind::Close(_)
+                ByteKind::Close(_)
             )
         )
     }
@@ -317,69 +325,72 @@ impl Place {
     }
 }
 
-fn at_start(kind: Kind) -> Option<Place>
+fn at_start(kind: ByteKind) -> Option<Place>
     ensures { result ≡ next_line_place Place.Start kind }
 {
     match kind {
-        Kind::Blank => Some(Place::Start),
-        Kind::Digit(digit) => Some(Place::Number(Field::First, u64::from(digit))),
-        Kind::Open(bracket) => Some(Place::BeforeSide(Header::NONE, bracket)),
-        Kind::Semicolon => Some(Place::Comment(Ending::Empty)),
+        ByteKind::Blank => Some(Place::Start),
+        ByteKind::Digit(digit) => Some(Place::Number(Field::First, u64::from(digit))),
+        ByteKind::Open(bracket) => Some(Place::BeforeSide(Header::NONE, bracket)),
+        ByteKind::Semicolon => Some(Place::Comment(Ending::Empty)),
         _ => None,
     }
 }
 
-fn behind_first(order: u64, kind: Kind) -> Option<Place>
+fn behind_first(order: u64, kind: ByteKind) -> Option<Place>
     ensures { result ≡ next_line_place (Place.BehindFirst order) kind }
 {
     match kind {
-        Kind::Blank => Some(Place::BehindFirst(order)),
-        Kind::Digit(digit) => Some(Place::Number(Field::Second(order), u64::from(digit))),
-        Kind::Open(bracket) => Some(Place::BeforeSide(Header::order_alone(order), bracket)),
+        ByteKind::Blank => Some(Place::BehindFirst(order)),
+        ByteKind::Digit(digit) => Some(Place::Number(Field::Second(order), u64::from(digit))),
+        ByteKind::Open(bracket) => Some(Place::BeforeSide(Header::order_alone(order), bracket)),
         _ => None,
     }
 }
 
-fn behind_column(table: Table, kind: Kind) -> Option<Place>
+fn behind_column(table: Table, kind: ByteKind) -> Option<Place>
     ensures { result ≡ next_line_place (Place.BehindColumn table) kind }
 {
     match kind {
-        Kind::Blank => Some(Place::BehindColumn(table)),
-        Kind::Digit(digit) => Some(Place::Number(Field::Column(table), u64::from(digit))),
-        Kind::Semicolon => Some(Place::Comment(Ending::Row(table))),
+        ByteKind::Blank => Some(Place::BehindColumn(table)),
+        ByteKind::Digit(digit) => Some(Place::Number(Field::Column(table), u64::from(digit))),
+        ByteKind::Semicolon => Some(Place::Comment(Ending::Row(table))),
         _ => None,
     }
 }
 
-fn before_side(header: Header, bracket: Bracket, kind: Kind) -> Option<Place>
+fn before_side(header: Header, bracket: Bracket, kind: ByteKind) -> Option<Place>
     ensures { result ≡ next_line_place (Place.BeforeSide header bracket) kind }
 {
     match kind {
-        Kind::Blank => Some(Place::BeforeSide(header, bracket)),
-        Kind::Digit(digit) => Some(Place::Number(Field::Side(header, bracket), u64::from(digit))),
+        ByteKind::Blank => Some(Place::BeforeSide(header, bracket)),
+        ByteKind::Digit(digit) => Some(Place::Number(
+            Field::Side(header, bracket),
+            u64::from(digit),
+        )),
         _ => None,
     }
 }
 
-fn behind_side(header: Header, bracket: Bracket, kind: Kind) -> Option<Place>
+fn behind_side(header: Header, bracket: Bracket, kind: ByteKind) -> Option<Place>
     ensures { result ≡ next_line_place (Place.BehindSide header bracket) kind }
 {
     match kind {
-        Kind::Blank => Some(Place::BehindSide(header, bracket)),
-        Kind::Comma => Some(Place::BeforeSide(header, bracket)),
-        Kind::Close(other) => close_group(header, bracket, other),
+        ByteKind::Blank => Some(Place::BehindSide(header, bracket)),
+        ByteKind::Comma => Some(Place::BeforeSide(header, bracket)),
+        ByteKind::Close(other) => close_group(header, bracket, other),
         _ => None,
     }
 }
 
-fn behind_group(header: Header, kind: Kind) -> Option<Place>
+fn behind_group(header: Header, kind: ByteKind) -> Option<Place>
     ensures { result ≡ next_line_place (Place.BehindGroup header) kind }
 {
     match kind {
-        Kind::Blank => Some(Place::BehindGroup(header)),
-        Kind::Comma => Some(Place::BeforeGroup(header)),
-        Kind::Open(bracket) => Some(Place::BeforeSide(header, bracket)),
-        Kind::Semicolon => Some(Place::Comment(Ending::Coded(header))),
+        ByteKind::Blank => Some(Place::BehindGroup(header)),
+        ByteKind::Comma => Some(Place::BeforeGroup(header)),
+        ByteKind::Open(bracket) => Some(Place::BeforeSide(header, bracket)),
+        ByteKind::Semicolon => Some(Place::Comment(Ending::Coded(header))),
         _ => None,
     }
 }

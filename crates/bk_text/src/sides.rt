@@ -2,13 +2,13 @@
 
 ghost use Rattle.std.specs.Prelude.{[], IfSome, length, take, true, ◌∷◌, ◌≡◌, ◌≤◌};
 ghost use Rattle.bk_text.specs.Onward.{IsFront, SpellOn};
-ghost use Rattle.bk_text.specs.declared.reader.TheConstants.{LARGEST_HEADER_NUMBER};
+ghost use Rattle.bk_code.specs.declared.TheConstants.{LARGEST_HEADER_NUMBER};
 
-use crate::reader::{Bracket, Kind, kind_of};
+use crate::reader::{Bracket, ByteKind, kind_of};
 use bk_tiling::LONGEST_SIDE;
 
 /// What stands in front of bytes, before a side of a group.
-pub(crate) enum Front {
+pub(crate) enum SideInFront {
     /// A side and the comma right behind it, so many bytes.
     Inner { side: u64, len: usize },
     /// A side and right behind it the bracket that closes the group, so many bytes.
@@ -18,18 +18,21 @@ pub(crate) enum Front {
 }
 
 // What stands in front of the bytes, before a side of a group that such a bracket opened.
-pub(crate) fn front_of(bracket: Bracket, bytes: &[u8]) -> Front
+pub(crate) fn side_in_front(bracket: Bracket, bytes: &[u8]) -> SideInFront
     ensures { IsFront bracket bytes.now result }
 {
     let (side, digits) = number_in_front(LONGEST_SIDE, bytes);
     if side == 0 || digits >= bytes.len() {
-        return Front::Other;
+        return SideInFront::Other;
     }
     let len = digits + 1;
     match kind_of(bytes[digits]) {
-        Kind::Comma => Front::Inner { side, len },
-        Kind::Close(other) if are_of_one_kind(bracket, other) => Front::Last { side, len },
-        _ => Front::Other,
+        ByteKind::Comma => SideInFront::Inner { side, len },
+        ByteKind::Close(other) if are_of_one_kind(bracket, other) => SideInFront::Last {
+            side,
+            len,
+        },
+        _ => SideInFront::Other,
     }
 }
 

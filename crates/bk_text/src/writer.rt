@@ -31,12 +31,12 @@ pub fn write_code(code: &Code, line: &mut AnswerBuffer)
     ensures short { length (code_text code.now) ≤ LONGEST_CODE_TEXT }
 {
     for g in 0..code.groups() {
-        write_group(code.group(g), line);
+        spell_group(code.group(g), line);
     }
 }
 
 // Appends a group, for which there must be room.
-fn write_group(sides: &[u64], line: &mut AnswerBuffer)
+fn spell_group(sides: &[u64], line: &mut AnswerBuffer)
     requires some { 0 < length sides.now }
     requires sides { AllByRecursion IsSide sides.now }
     requires room { array_vec_len line.old + (LONGEST_SIDE_TEXT + 2) * length sides.now ≤ ANSWER_ROOM }

@@ -24,7 +24,7 @@ area_more (q ∷ squares) (suc k) d h =
     let next : suc k + 1 ≡ suc (k + 1) = omega arith in
     ap (λ (n : ℕ). area_of (take n (q ∷ squares))) next ∙ omega (arith, area_more squares k d (omega (arith, h)))
 
--- so the area of so many squares stays small
+-- the area of one square is small
 pub area_small : (squares : List Square) (k : ℕ) (d : Square) → k < length squares → HaveSides squares
     → (get_or squares k d).s * (get_or squares k d).s ≤ 999999999999999 * 999999999999999
 area_small squares k d h sides =

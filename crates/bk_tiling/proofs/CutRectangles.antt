@@ -10,11 +10,11 @@ rectangle x y w h = record { x = x; y = y; width = w; height = h }
 
 -- columns a and b side by side, the right part at column m
 module _ (x m y n a b h : ℕ) (at : m ≡ x + a) (sum : n ≡ a + b) where
-  -- its left part lies in it
+  -- the left part of a rectangle lies in it
   pub left_part : IsPart (rectangle x y n h) (rectangle x y a h)
   left_part = record { left = omega arith; right = omega arith; top = omega arith; bottom = omega arith }
 
-  -- so does its right part
+  -- the right part of a rectangle lies in it
   pub right_part : IsPart (rectangle x y n h) (rectangle m y b h)
   right_part = record { left = omega arith; right = omega arith; top = omega arith; bottom = omega arith }
 
@@ -36,11 +36,11 @@ turned_part x y w h z v m n part = record { left = part.top; right = part.bottom
 
 -- levels a and b one above the other, the lower part at level m
 module _ (x y m w n a b : ℕ) (at : m ≡ y + a) (sum : n ≡ a + b) where
-  -- its upper part lies in it
+  -- the upper part of a rectangle lies in it
   pub upper_part : IsPart (rectangle x y w n) (rectangle x y w a)
   upper_part = turned_part y x n w y x a w (left_part y m x n a b w at sum)
 
-  -- so does its lower part
+  -- the lower part of a rectangle lies in it
   pub lower_part : IsPart (rectangle x y w n) (rectangle x m w b)
   lower_part = turned_part y x n w m x b w (right_part y m x n a b w at sum)
 

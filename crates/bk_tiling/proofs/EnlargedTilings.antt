@@ -19,7 +19,7 @@ pub list_once : (squares : List Square) → map (enlarged_square 1) squares ≡ 
 list_once [] = refl
 list_once (q ∷ squares) = λ i. record { x = one_times_number q.x i; y = one_times_number q.y i; s = one_times_number q.s i } ∷ list_once squares i
 
--- and so is a tiling
+-- a tiling enlarged by 1 is the same tiling
 pub enlarged-once : (t : Tiling) → enlarged 1 t ≡ t
 enlarged-once t = λ i. record { width = one_times_number t.width i; height = one_times_number t.height i; squares = list_once t.squares i }
 

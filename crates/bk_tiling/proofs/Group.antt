@@ -128,14 +128,14 @@ group_top x level [] q h = absurd h
 group_top x level (s ∷ sides) q (inl same) = ap (λ (r : Square). r.y) same
 group_top x level (s ∷ sides) q (inr h) = group_top (x + s) level sides q h
 
--- and lies between the group's left end and its right end
+-- each square of a group lies between the group's left end and its right end
 pub group_within : (x level : ℕ) (sides : List ℕ) (q : Square) → IsOneOf q (laid_group x level sides) → (x ≤ q.x) × (q.x + q.s ≤ x + total sides)
 group_within x level [] q h = absurd h
 group_within x level (s ∷ sides) q (inl same) = let a : q.x ≡ x = ap (λ (r : Square). r.x) same in let b : q.s ≡ s =
     ap (λ (r : Square). r.s) same in (omega arith, omega arith)
 group_within x level (s ∷ sides) q (inr h) = let r = group_within (x + s) level sides q h in (omega (arith, r.0), omega (arith, r.1))
 
--- and has a side, where all sides of the group are positive
+-- each square of a group has a side, where all sides of the group are positive
 pub group_sides : (x level : ℕ) (sides : List ℕ) → AllByRecursion (λ s. 0 < s) sides → (q : Square) → IsOneOf q (laid_group x level sides) → 0 < q.s
 group_sides x level [] some q h = absurd h
 group_sides x level (s ∷ sides) some q (inl same) = subst (λ (n : ℕ). 0 < n) (sym (ap (λ (r : Square). r.s) same)) some.0

@@ -5,7 +5,7 @@ use Rattle.std.proofs.lemmas.Bool.Decides.{nat_tests}
 use Rattle.std.proofs.lemmas.List.Sums.{sum_by-cons}
 use Rattle.bk_laws.proofs.TestsAsNumbers.{cond_count-of_true}
 use Rattle.bk_tiling.proofs.Cells.{count-cons, covers_from, in_all, none_counted, one_counted}
-use Rattle.bk_tiling.proofs.PairCounts.{pairs_cons, pairs_turned}
+use Rattle.bk_tiling.proofs.PairCounts.{pairs_cons, pairs_exchanged}
 use Rattle.bk_tiling.specs.CodeOrder.{InCodeOrder, comes_before, stands_beside}
 use Rattle.bk_tiling.specs.SquareGroups.{square_groups}
 use Rattle.bk_tiling.specs.Tiling.{IsOneOf, covers}
@@ -21,7 +21,7 @@ pub groups_some : (q : Square) (squares : List Square) → 0 < length (square_gr
 groups_some q [] = omega arith
 groups_some q (r ∷ squares) = put_some (stands_beside q r) q (square_groups (r ∷ squares))
 
--- so where there are squares there is a group
+-- where there are squares there is a group
 pub some_group : (squares : List Square) → 0 < length squares → 0 < length (square_groups squares)
 some_group [] h = absurd (omega arith)
 some_group (q ∷ squares) h = groups_some q squares
@@ -112,4 +112,4 @@ groups_by_first (q ∷ r ∷ squares) laid = omega (
 -- the groups and the pairs of squares of which one stands beside the other are together as many as the squares
 pub groups_counted : (squares : List Square) → AreLaid squares
     → length (square_groups squares) + sum_by (λ r. count_by (λ p. stands_beside p r) squares) squares ≡ length squares
-groups_counted squares laid = omega (arith, groups_by_first squares laid, pairs_turned stands_beside squares squares)
+groups_counted squares laid = omega (arith, groups_by_first squares laid, pairs_exchanged stands_beside squares squares)

@@ -22,7 +22,7 @@ pub record IsRow (squares group : List Square) : Type 0 where
   pub tops : AllByRecursion (λ q. q.y ≡ first.y) group
   pub right : (z : Square) → IsOneOf z squares → z.y ≡ first.y → z.x ≡ end → ⊥
 
--- nor at its left
+-- a group: a row of squares on one level, with no square of the list at its right nor at its left
 pub record IsGroup (squares group : List Square) : Type 0 where
   pub row : IsRow squares group
   pub left : (z : Square) → IsOneOf z squares → z.y ≡ row.first.y → z.x + z.s ≡ row.first.x → ⊥
@@ -51,7 +51,7 @@ pub record Split (p : Square) (squares : List Square) : Type 0 where
 pub beside_from : (p r : Square) → p.y ≡ r.y → p.x + p.s ≡ r.x → stands_beside p r ≡ true
 beside_from p r a b = grind (arith, nat_tests)
 
--- and one that stands beside another is level with it and begins at its right edge
+-- a square that stands beside another is level with it and begins at its right edge
 pub beside_to : (p r : Square) → stands_beside p r ≡ true → (p.y ≡ r.y) × (p.x + p.s ≡ r.x)
 beside_to p r e = (grind (arith, nat_tests), grind (arith, nat_tests))
 

@@ -12,7 +12,7 @@ in_front [] more q h = absurd h
 in_front (r ∷ front) more q (inl same) = inl same
 in_front (r ∷ front) more q (inr h) = inr (in_front front more q h)
 
--- and so is one of the list behind it
+-- a square of the list behind is in the whole list
 pub in_back : (front more : List Square) (q : Square) → IsOneOf q more → IsOneOf q (front ++ more)
 in_back [] more q h = h
 in_back (r ∷ front) more q h = inr (in_back front more q h)

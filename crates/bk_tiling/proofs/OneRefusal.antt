@@ -46,7 +46,7 @@ module _ (width height : ℕ) (squares : List Square) where
   pub tiles_within : Tiles (sized width height) squares → AreWithin width height squares
   tiles_within tiles = All-from_recursion (IsWithin (sized width height)) squares tiles.within
 
-  -- and no two of them share a cell
+  -- no two squares that tile the rectangle share a cell
   pub tiles_apart : Tiles (sized width height) squares → ShareNoCell squares
   tiles_apart tiles a b d up below shares =
       let over = over_from shares.column shares.level (slice_index_or squares a d) shares.in_first in
@@ -85,7 +85,7 @@ module _ (width height : ℕ) (squares : List Square) where
   accepted_from few cells sides within apart covered =
       record { few = few; sides = recursion_from_All (λ q. IsSide q.s) squares sides; tiles = tiles_from cells sides within apart covered }
 
-  -- so no list is refused and accepted
+  -- no list is refused and accepted
   pub refused_or_accepted : (r : NotTiling) → IsRefusal width height squares r → ¬ (IsAccepted width height squares)
   refused_or_accepted (Many n) refusal accepted = omega (arith, refusal.0, accepted.few)
   refused_or_accepted Empty refusal accepted = no_cells (tiles_cells accepted.tiles) refusal.1

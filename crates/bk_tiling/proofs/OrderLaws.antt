@@ -92,7 +92,7 @@ with_square-length q (p ∷ qs) =
       | false ↦ ap suc (with_square-length q qs)
     ]
 
--- and how many there are
+-- squares put in order are as many
 pub in_code_order-length : (qs : List Square) → length (in_code_order qs) ≡ length qs
 in_code_order-length [] = refl
 in_code_order-length (q ∷ qs) = with_square-length q (in_code_order qs) ∙ ap suc (in_code_order-length qs)

@@ -18,10 +18,10 @@ pairs_cons f q (p ∷ ps) rs = omega (
 )
 
 -- as many pairs pass counted by their first square as counted by their second
-pub pairs_turned : (f : Square → Square → Bool) (ps rs : List Square) → sum_by (λ p. count_by (f p) rs) ps ≡ sum_by (λ r. count_by (λ p. f p r) ps) rs
-pairs_turned f ps [] = none ps
+pub pairs_exchanged : (f : Square → Square → Bool) (ps rs : List Square) → sum_by (λ p. count_by (f p) rs) ps ≡ sum_by (λ r. count_by (λ p. f p r) ps) rs
+pairs_exchanged f ps [] = none ps
   where
     none : (ps : List Square) → sum_by (λ p. count_by (f p) []) ps ≡ 0
     none [] = refl
     none (p ∷ ps) = omega (arith, sum_by-cons (λ p. count_by (f p) []) p ps, none ps)
-pairs_turned f ps (r ∷ rs) = omega (arith, pairs_cons f r ps rs, pairs_turned f ps rs, sum_by-cons (λ r. count_by (λ p. f p r) ps) r rs)
+pairs_exchanged f ps (r ∷ rs) = omega (arith, pairs_cons f r ps rs, pairs_exchanged f ps rs, sum_by-cons (λ r. count_by (λ p. f p r) ps) r rs)

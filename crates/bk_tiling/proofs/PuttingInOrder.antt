@@ -45,7 +45,7 @@ from_order (q ∷ squares) p h = cases (from_with q (in_code_order squares) p h)
     cases (inl e) rest = inl e
     cases (inr k) rest = inr (rest k)
 
--- and a square of the list is in it put in order
+-- a square of the list is in it put in order
 pub in_order : (squares : List Square) (p : Square) → IsOneOf p squares → IsOneOf p (in_code_order squares)
 in_order [] p h = h
 in_order (q ∷ squares) p (inl e) = in_with q (in_code_order squares) p (inl e)

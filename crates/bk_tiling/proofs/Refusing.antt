@@ -59,7 +59,7 @@ first_apart q squares apart r h = in_all (λ r. ¬ (SharesCell q r)) squares
 rest_apart : (q : Square) (squares : List Square) → ShareNoCell (q ∷ squares) → ShareNoCell squares
 rest_apart q squares apart a b d up below = apart (suc a) (suc b) d (omega arith) (omega arith)
 
--- then no cell lies in two
+-- where no two squares share a cell, no cell lies in two
 pub at_most_one : (squares : List Square) → ShareNoCell squares → (i j : ℕ) → count_by (covers i j) squares ≤ 1
 at_most_one [] apart i j = omega arith
 at_most_one (q ∷ squares) apart i j = cases (covers i j q) refl (at_most_one squares (rest_apart q squares apart) i j)

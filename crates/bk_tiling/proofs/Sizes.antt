@@ -47,7 +47,7 @@ width_of_sides t tiling = reach (λ q. q.x) t.width t.squares over
         let o = over_from i 0 found.0 found.2 in
         one_counted (λ q. spans q.x q.s i) t.squares found.0 found.1 (and_from _ _ (le-leb _ _ o.left) (lt-ltb _ _ o.right))
 
--- and is no higher than all its sides laid end to end
+-- a tiling is no higher than all its sides laid end to end
 pub height_of_sides : (t : Tiling) → IsTiling t → t.height ≤ sum_by (λ (q : Square). q.s) t.squares
 height_of_sides t tiling = reach (λ q. q.y) t.height t.squares over
   where
@@ -71,10 +71,10 @@ width_of_few t tiling few sides = omega (arith, width_of_sides t tiling, sides_e
 pub height_of_few : (t : Tiling) → IsTiling t → length t.squares ≤ 200 → AllByRecursion (λ q. IsSide q.s) t.squares → t.height ≤ 199999999999999800
 height_of_few t tiling few sides = omega (arith, height_of_sides t tiling, sides_end_to_end t.squares sides)
 
--- so a kept tiling has at most this width
+-- a kept tiling has at most this width
 pub most_width : (t : Tiling) → IsKept t → t.width ≤ 199999999999999800
 most_width t kept = width_of_few t kept.tiling kept.few kept.sides
 
--- and at most this height
+-- a kept tiling has at most this height
 pub most_height : (t : Tiling) → IsKept t → t.height ≤ 199999999999999800
 most_height t kept = height_of_few t kept.tiling kept.few kept.sides

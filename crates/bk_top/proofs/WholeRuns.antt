@@ -69,7 +69,7 @@ pub ask_for : (words : List (String Global)) (ask : Ask) (done work : Work) → 
 ask_for words ask done work asked does is = record { ask = ask; asked = asked; is = sym does ∙ is }
 
 module _ (words : List (String Global)) (work : Work) (a : AskFor words work) where
-  -- they ask what the work says again
+  -- the words ask what the work says again
   pub asked_work : IsAskedAs words work
   asked_work = subst (IsAskedAs words) a.is (asked_as words a.ask a.asked)
 

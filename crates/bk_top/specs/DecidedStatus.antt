@@ -19,5 +19,5 @@ pub record IsDecided (command : Command) (lines : List (List ℕ)) (status : ℕ
   pub one_of : (status ≡ 0) ⊎ ((status ≡ 1) ⊎ (status ≡ 6))
   -- memory is wanting only at a line whose item has more than 16 squares or wires
   pub wanting : status ≡ 6 → HasWanting (replies_of command) lines
-  -- else the status is 1 exactly where some line is refused
+  -- where memory isn't wanting, the status is 1 exactly where some line is refused
   pub refused : status ≢ 6 → status ≡ 1 ↔ HasRefused (replies_of command) lines

@@ -14,7 +14,7 @@ pub record Port : Type 0 where
   pub bytes : Option (List ℕ)
   pub faults : ℕ
 
--- what is seen of one, by what tells its bytes and what counts its faults
+-- what is seen of a source or a sink, by what tells its bytes and what counts its faults
 abbrev pub port : {A : Type 0} → (A → Option (List ℕ)) → (A → ℕ) → A → Port
 port tells counts a = record { bytes = tells a; faults = counts a }
 
@@ -24,7 +24,7 @@ pub record Outside : Type 0 where
   pub out : Port
   pub err : Port
 
--- the three, by what is seen of each
+-- the source, `out` and `err`, by what is seen of each
 abbrev pub outside : Port → Port → Port → Outside
 outside source out err = record { source = source; out = out; err = err }
 

@@ -79,7 +79,7 @@ module _ (n : ℕ) (class : Class) (place next : Word) (up : Follows next place)
   after_on : (w : Word) → IsTreeWord n w → (Follows next w → ⊥) → Follows w cursor
   after_on w tree from = p.after w tree (λ f. from (follows_trans w place next f up))
 
-  -- it has passed what it had, and met as many words
+  -- a search that moved on, over what no member's word is among, has passed what it had, and met as many words
   pub moved_on : HasPassed n class cursor next met
   moved_on = record { passed = passed_on; after = after_on; words = p.words; each = each_on p.words p.each; ascending = p.ascending; count = p.count }
 
@@ -88,7 +88,7 @@ module _ (n : ℕ) (class : Class) (place next : Word) (up : Follows next place)
     in_tree : IsInTree n cursor None word
     in_tree = record { legal = tree.legal; some = some; small = tree.small; after = p.after word tree from; within = tt }
 
-    -- it has met one word more
+    -- a search that goes on past a word of the tree, which is met, has met one word more
     pub met_on : HasPassed n class cursor next (met + 1)
     met_on = record {
       passed = passed_on;
@@ -116,7 +116,7 @@ module _ (n : ℕ) (class : Class) (place word : Word) (tree : IsTreeWord n word
     each_to words all.1,
   )
 
-  -- it meets the word, as one more
+  -- a search that goes on up to a word of the tree meets it, as one more
   pub met_at : IsMet n class cursor word (met + 1)
   met_at = record {
     after = p.after word tree from;

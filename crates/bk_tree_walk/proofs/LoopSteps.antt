@@ -5,7 +5,8 @@ use Rattle.bk_word.specs.declared.Class.{Class}
 use Rattle.bk_catalogue.specs.Catalogue.{IsEntry}
 use Rattle.bk_tree_walk.proofs.MemberEntries.{same_entry}
 use Rattle.bk_catalogue.proofs.TreeOfWords.Ranks.{left_after}
-use Rattle.bk_tree_walk.proofs.SearchLoop.{Continues, continues_none, continues_on, counts_known, counts_none, counts_then, ends_then, meets_then, later_is_nearer}
+use Rattle.bk_tree_walk.proofs.SearchLoop.{Continues, continues_none, continues_on, counts_known, counts_none, counts_then, ends_then}
+use Rattle.bk_tree_walk.proofs.SearchLoop.{later_is_nearer, meets_then}
 use Rattle.bk_tree_walk.specs.Search.{Finds, IsKeptSearch, IsSearchState, SearchState, StaysOf, StepLeadsTo, place_of}
 use Rattle.bk_tree_walk.specs.declared.Went.{Went}
 use Rattle.bk_tree_walk.specs.declared.Went.TheVariants.{End, Met, On}

@@ -43,7 +43,7 @@ module _ (n : ℕ) (class : Class) (front : Word) (x m : Move) (least : IsLeastF
       cases (inl e) = follows_trans (front ++ x ∷ []) (front ++ m ∷ []) w (up_by_move front x m [] [] e) f
       cases (inr e) = subst (λ (k : Move). Follows w (front ++ k ∷ [])) (sym e) f
 
-  -- so a step leads where it leads from there
+  -- where what is behind one place is behind another, a step from the one leads where it leads from the other
   pub step_from : (pushes : ℕ) (last : SearchState) (met : ℕ) (went : Went)
       → StepLeadsTo (record { order = n; class = class; front = front; next = m; pushes = pushes }) last met went
       → StepLeadsTo (record { order = n; class = class; front = front; next = x; pushes = pushes }) last met went
@@ -87,7 +87,7 @@ module _ {s now : SearchState} (view : s ≡ now) (kept : IsKeptSearch s) (m : M
   abbrev moved : Word → Move → SearchState
   moved front next = record { order = s.order; class = s.class; front = front; next = next; pushes = s.pushes }
 
-  -- there, where it is ready
+  -- a search whose next move fits stands there with it, where it is ready
   pub settled_stand : order_of s.front + m.count ≤ s.order → IsSearchState s.order s.front m
   settled_stand few = legal_stand s.order s.front s.next m kept.most kept.stand least.legal few
 

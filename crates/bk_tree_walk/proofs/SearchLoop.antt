@@ -52,7 +52,8 @@ counts_known p q s t a = omega (arith, a.counted)
 -- a later place is nearer to the end
 pub later_is_nearer : (n : ℕ) (front then : Word) (x y : Move) → n ≤ 16 → IsSearchState n front x → IsSearchState n then y
     → Follows (then ++ y ∷ []) (front ++ x ∷ []) → left_after (then ++ y ∷ []) < left_after (front ++ x ∷ [])
-later_is_nearer n front then x y few s t up = less_left (front ++ x ∷ []) (then ++ y ∷ []) (small n front x few s).0 (small n then y few t).0 (small n then y few t).1 up
+later_is_nearer n front then x y few s t up =
+    less_left (front ++ x ∷ []) (then ++ y ∷ []) (small n front x few s).0 (small n then y few t).0 (small n then y few t).1 up
   where
     small : (n : ℕ) (front : Word) (x : Move) → n ≤ 16 → IsSearchState n front x
         → AllByRecursion IsSmallMove (front ++ x ∷ []) × (length (front ++ x ∷ []) ≤ 18)

@@ -78,7 +78,7 @@ climbs n class front l x met legal last few =
     none : (e : Entry) → IsEntry n class e → (Follows ((front ++ l ∷ []) ++ x ∷ []) e.word → ⊥) → Follows (front ++ move_after l ∷ []) e.word → ⊥
     none e is from to = climb_over n front l x e.word (entry_word n class e is) legal last from to
 
--- it goes on over moves that are cut
+-- a search goes on over moves that are cut
 pub cuts : (n : ℕ) (class : Class) (front : Word) (x m next : Move) (met : ℕ) → IsLeastFrom (outline_of front) x m → IsCut n class front m next → met ≤ 0
     → Advances n class (front ++ x ∷ []) (front ++ next ∷ []) met
 cuts n class front x m next met least cut few =
@@ -163,7 +163,7 @@ module _ (n : ℕ) (class : Class) (front : Word) (x m : Move) (met : ℕ) (lega
               same : o.other ≡ m
               same = one_legal (outline_of front) m o.other least.legal o.legal (moves_between m o.other o.from o.to).0 (moves_between m o.other o.from o.to).1
 
-  -- it meets this word
+  -- a search meets the word of the next move, which it pushes
   pub meets_pushed : Meets n class (front ++ x ∷ []) (front ++ m ∷ []) met
   meets_pushed cursor before p = fewer_at n class cursor (front ++ m ∷ []) (before + 1) (before + met) (omega arith)
       (met_at n class (front ++ x ∷ []) (front ++ m ∷ []) pushed_tree pushed_some pushed_from none cursor before p)

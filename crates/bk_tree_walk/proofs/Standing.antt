@@ -48,7 +48,7 @@ count_up a b from = cases (cases_lt b.count a.count)
     cases (inl h) = absurd (from (less_from b a (inl h)))
     cases (inr h) = h
 
--- where it hangs too many squares, no legal move is left
+-- where the move that fits hangs too many squares, no legal move is left
 pub last_from_fit : (n : ℕ) (front : Word) (x : Move) → 0 < x.count → n < order_of front + (fitted (open_sides (outline_of front)) x).count → IsLast n front x
 last_from_fit n front x some many m legal from few =
     omega (arith, count_up (fitted (open_sides (outline_of front)) x) m ((fit_least (outline_of front) x some).least m legal from))
@@ -149,7 +149,7 @@ module _ (n : ℕ) (class : Class) (front : Word) (m : Move) (few : n ≤ 16) (s
   least : IsLeastFrom (outline_of front) m m
   least = least_itself front m legal
 
-  -- it has at most one sign more than squares
+  -- a legal move has at most one sign more than squares
   pub step_signs : length m.signs ≤ m.count + 1
   step_signs = few_signs (outline_of front) m legal
 

@@ -26,7 +26,7 @@ stays_none s then steps kept order of_class pushes = record {
   counts = record { more = omega arith; counted = omega (arith, pushes, kept.known) };
 }
 
--- so where the search goes on from other moves, or looks for another next one
+-- where nothing is pushed, a search that goes on from other moves, or looks for another next one, keeps its order and class
 pub stays_put : {s now : SearchState} → IsKeptSearch s → s ≡ now → (front : Word) (next : Move) (steps : ℕ)
     → StaysOf now (record { order = s.order; class = s.class; front = front; next = next; pushes = s.pushes }) steps steps
 stays_put {s = s} {now = now} kept view front next steps =
@@ -62,7 +62,7 @@ module _ (s : SearchState) (kept : IsKeptSearch s) (ready : IsReady s) where
   pub signs_few : length s.next.signs ≤ 18
   signs_few = omega (arith, ready.few, kept.most, few_signs (outline_of s.front) s.next ready.legal)
 
-  -- where it is pushed, the moves are a word of the tree
+  -- where the next move of a ready search is pushed, the moves are a word of the tree
   pub stand_down : IsSearchState s.order (s.front ++ s.next ∷ []) s.next
   stand_down = played_stand s.order s.front s.next s.next kept.stand ready.legal ready.few
 
@@ -102,7 +102,7 @@ pub stays_played : (s t : SearchState) (m : Move) (steps then : ℕ) → t ≡ d
 stays_played s t m steps then is one = stays_one s t steps then (ap (λ (u : SearchState). u.order) is) (ap (λ (u : SearchState). u.class) is)
     (ap (λ (u : SearchState). u.pushes) is) one
 
--- it goes on from there
+-- where a move was played, a search that goes on from there has counted one push and keeps its order and class
 pub stays_down : {s now t : SearchState} → s ≡ now → (m : Move) → t ≡ down_from s m → (front : Word) (next : Move) (steps then : ℕ) → then ≡ steps + 1
     → StaysOf now (record { order = t.order; class = t.class; front = front; next = next; pushes = t.pushes }) steps then
 stays_down {s = s} {now = now} {t = t} view m is front next steps then one =
@@ -141,7 +141,7 @@ module _ (s t : SearchState) (kept : IsKeptSearch s) (ready : IsReady s) (m : Mo
   pub walked_to : (next : Move) → StepLeadsTo s (record t { next = next }) (then - steps) Met
   walked_to next = leads_to s kept ready t.front steps then front_is one next
 
-  -- that of an entry of its order and class
+  -- an entry of the order and class that a search has after a push is one of those that it had
   pub walked_entry : (tiling : Tiling) → IsEntry t.order t.class (record { tiling = tiling; word = t.front })
       → IsEntry s.order s.class (record { tiling = tiling; word = t.front })
   walked_entry tiling entry = same_entry s.order t.order s.class t.class t.front t.front tiling order_is (ap (λ (u : SearchState). u.class) is) refl entry

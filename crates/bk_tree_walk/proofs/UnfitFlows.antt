@@ -34,7 +34,7 @@ abbrev pub AreApartTo : List ℤ → ℕ → Type 0
 AreApartTo numbers n = (first second : ℕ) (number : ℤ) → first < second → second < n → slice_get numbers first ≡ Some number
     → slice_get numbers second ≡ Some number → ⊥
 
--- nor are any two
+-- no two of all numbers are the same, where no two of the first ones are
 pub apart_all : (numbers : List ℤ) (n : ℕ) → AreApartTo numbers n → length numbers ≤ n → HasTwoAlike numbers → ⊥
 apart_all numbers n apart all two =
     let low = slice_get_within numbers two.second two.number two.at_second in

@@ -54,7 +54,8 @@ fn fit_flow(skel: &Skel, class: Class) -> Option<NarrowFlow>
     }
 }
 
-// The same by the word's flow.
+// Whether a member of the class has a complete word, by the word's flow, which is fit. Where one has, `tiling` becomes
+// that member.
 fn find_by_flow(
     skel: &Skel,
     flow: &NarrowFlow,

@@ -160,7 +160,8 @@ impl TreeWalk {
         }
     }
 
-    /// Takes moves back until so many are left, for moves that are known to lead to a member's word.
+    /// Takes moves back until so many are left, where the next member's word is known, or that there is none. From then
+    /// on fewer moves are cut.
     pub fn shorten(&mut self, moves: usize)
         requires { moves ≤ length self.old.front }
         ensures state { self.new ≡ record self.old { front = take moves self.old.front } }

@@ -105,7 +105,7 @@ module _ (n : ℕ) (last : Verifying) (left left_after a b : Option (List ℕ))
   pub last_order : (last.entries).order ≡ n
   last_order = ((lines_done n last _ a b r.refused (r.whole).written).followed).order
 
-  -- its report was written
+  -- the report of a list that was read to its end was written
   pub ends_whole : (c : Option (List ℕ)) (differs told : Bool) → told ≡ differs → ClosesReport (last.entries).order last told b c
       → IsReadWhole (λ lines. (report_of n).whole lines differs) (record { left = left; left_after = left_after; written = a; written_after = c })
   ends_whole c differs told e k =

@@ -27,7 +27,7 @@ pub from_start : (n : ℕ) (s last : Verifying) (streams : Streams) (e : Ended) 
     → EndsWith (entries_of (entering_from rules s 1) last) streams e → EndsWith (entries_of (entering_from rules (none_entered n) 1) last) streams e
 from_start n s last streams e is enters = subst (λ (t : Verifying). EndsWith (entries_of (entering_from rules t 1) last) streams e) is enters
 
--- it is that before the first line
+-- what is kept where no line is entered is that before the first line
 pub at_first : (n : ℕ) → IsAfter n [] 1 (none_entered n)
 at_first n = record { keeps = a_verifier_tells_the_truth.at_first n; order = refl; before = tt }
 

@@ -32,7 +32,7 @@ next_such n pairs cursor t word next = record {
   least = λ f is new after below. next.least f is after below new;
 }
 
--- its word has a move
+-- the word of the next member that isn't kept has a move
 pub word_some : (n : ℕ) (pairs : List Kept) (cursor : Word) (t : Tiling) (word : Word) → IsNextMissing n pairs cursor t word → 0 < length word
 word_some n pairs cursor t word next = ((tiling_word_is_complete t word (next.member).tiling next.word_is).0).some
 

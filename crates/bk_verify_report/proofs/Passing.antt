@@ -103,7 +103,7 @@ module _ (first : WalkState) (pairs : List Kept) (walk : WalkState) (members : �
   passing_end cursor stays = subst (HasNoneAfter first.order Perfect) (sym stays) (subst (λ (k : ℕ). HasNoneAfter k Perfect walk.cursor) p.order
       (subst (λ (one : Class). HasNoneAfter walk.order one walk.cursor) p.class none))
 
-  -- then each one from the start on is kept
+  -- where no member follows the walk, each member from the start on is kept
   pub passing_all : AreKeptAfter first.order pairs first.cursor
   passing_all e is after new = p.passed.kept e is after (passing_end walk.cursor refl e is) new
 
@@ -123,7 +123,7 @@ module _ (first : WalkState) (pairs : List Kept) (walk : WalkState) (members : �
   the_next_any : IsNextSuch first.order any walk.cursor (record { tiling = t; word = word })
   the_next_any = next_any first.order walk.cursor t word the_next
 
-  -- it has few squares
+  -- a member that the walk goes on to has few squares
   pub passing_few : first.order ≤ 16 → length t.squares ≤ 16
   passing_few most = omega (arith, ((the_next.is).member).order, most)
 
@@ -131,7 +131,7 @@ module _ (first : WalkState) (pairs : List Kept) (walk : WalkState) (members : �
   pub passing_missing : IsNotKept pairs t → IsNextMissing first.order pairs first.cursor t word
   passing_missing new = next_is_missing first.order pairs first.cursor walk.cursor p.passed t word the_next new
 
-  -- it is counted
+  -- a member that the walk goes on to is counted
   pub passing_counted : (after : WalkState) → after.order ≡ walk.order → after.cursor ≡ word → CountsMembers after.order (IsUpTo after.cursor) (members + 1)
   passing_counted after order cursor =
       subst (λ (n : ℕ). CountsMembers n (IsUpTo after.cursor) (members + 1)) (sym (order ∙ p.order))

@@ -127,7 +127,7 @@ module _ (s : EntriesState) (t u : Tiling) (line : ℕ) (pairs : List Kept) (sta
   now_is : pairs ≡ s.pairs ++ record { line = line; tiling = u } ∷ [] → record { order = s.order; pairs = pairs } ≡ with_kept s line u
   now_is e = λ i. record { order = s.order; pairs = e i }
 
-  -- it is taken in
+  -- an entry that is the first one to stand for a member is taken in
   pub taken_in : pairs ≡ s.pairs ++ record { line = line; tiling = u } ∷ [] → IsTakenIn s line t (record { order = s.order; pairs = pairs })
   taken_in e = record { sight = first_sight; taken = now_is e }
 

@@ -109,7 +109,7 @@ pub record AreUpTo (n : ℕ) (Is : Tiling → Type 0) (cursor : Word) (entries :
   pub ascending : AreAscending entries
   pub all : (e : Entry) → IsEntry n Perfect e → Is e.tiling → IsUpTo cursor e.word → Contains entries e
 
--- so many members of the order have such words
+-- so many members of the order have a word that is counted: a list of their entries, each once
 pub record CountsMembers (n : ℕ) (IsCounted : Word → Type 0) (count : ℕ) : Type 0 where
   pub entries : List Entry
   pub each : AllByRecursion (IsEntry n Perfect) entries

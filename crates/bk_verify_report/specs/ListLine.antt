@@ -23,7 +23,7 @@ fed_pieces number New = []
 fed_pieces number (Repeats first) = repeats_line number first ∷ []
 fed_pieces number Foreign = foreign_line number ∷ []
 
--- what is kept after it: the entries, and the counts
+-- what is kept after an entry of which this is told: the entries, and the counts
 abbrev pub after_fed : Verifying → EntriesState → Fed → Verifying
 after_fed s v New = record s { entries = v }
 after_fed s v (Repeats first) = record s { entries = v; repeated = s.repeated + 1 }

@@ -15,7 +15,7 @@ use Rattle.bk_verify_report.specs.KeptEntries.{IsNextMissing, IsNotKept}
 use Rattle.bk_verify_report.specs.Report.{missing_line_of}
 use Rattle.bk_verify_report.specs.declared.entering.Verifying.{Verifying}
 
--- the lines of those up to the cursor were written, so many
+-- the lines of the members up to the cursor that aren't kept were written, so many
 pub record AreMissingListed (s : EntriesState) (cursor : Word) (missing : ℕ)
     (written written_after : Option (List ℕ)) : Type 0 where
   pub entries : List Entry
@@ -24,7 +24,7 @@ pub record AreMissingListed (s : EntriesState) (cursor : Word) (missing : ℕ)
   pub few : missing + 1 < 2 ^ 64
   pub appends : Appends written written_after (flat_map missing_line_of entries)
 
--- a beginning of the lines of those up to some cursor was written
+-- a beginning of the lines of the members up to some cursor that aren't kept was written
 pub record IsListingBegun (n : ℕ) (pairs : List Kept) (written written_after : Option (List ℕ)) : Type 0 where
   pub cursor : Word
   pub entries : List Entry
@@ -39,7 +39,7 @@ pub record IsMissingBegun (n : ℕ) (pairs : List Kept) (cursor : Word)
   pub next : IsNextMissing n pairs cursor tiling word
   pub begins : AppendsPrefix written written_after (missing_line tiling word)
 
--- what stands behind the lines: those that aren't kept, and the five counts
+-- what closes a report: the lines of the members that aren't kept, and the last line with the five counts
 pub record IsClosing (n : ℕ) (s : Verifying) (counts : ReportCounts) (bytes : List ℕ) : Type 0 where
   pub cursor : Word
   pub entries : List Entry
@@ -52,7 +52,7 @@ pub record IsClosing (n : ℕ) (s : Verifying) (counts : ReportCounts) (bytes : 
   pub refused : counts.refused ≡ s.refused
   pub text : bytes ≡ flat_map missing_line_of entries ++ verified_line End n counts []
 
--- it was written, and it is told whether something is missing, foreign, repeated or refused
+-- what closes a report was written, and it is told whether something is missing, foreign, repeated or refused
 pub record ClosesReport (n : ℕ) (s : Verifying) (differs : Bool)
     (written written_after : Option (List ℕ)) : Type 0 where
   pub counts : ReportCounts
@@ -61,7 +61,7 @@ pub record ClosesReport (n : ℕ) (s : Verifying) (differs : Bool)
   pub appends : Appends written written_after bytes
   pub verdict : IsTrue differs ↔ 0 < faults counts
 
--- a beginning of it was written
+-- a beginning of what closes a report was written
 pub record IsWholeBegun (n : ℕ) (s : Verifying) (written written_after : Option (List ℕ)) : Type 0 where
   pub counts : ReportCounts
   pub bytes : List ℕ

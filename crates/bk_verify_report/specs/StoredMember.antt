@@ -6,14 +6,14 @@ use Rattle.bk_verify_report.specs.KeptEntries.{Kept}
 use Rattle.bk_verify_report.specs.declared.kept.Flat.{Flat}
 use Rattle.bk_verify_report.specs.declared.kept.Seen.{Seen}
 
--- the member that is stored so
+-- the member that is stored under a key, with what was seen of it
 abbrev pub kept_member : Flat × Seen → Kept
 kept_member (key, seen) = record {
   line = seen.line;
   tiling = record { width = key.width; height = seen.height; squares = seen.squares.items };
 }
 
--- it is stored under its own width and flat list
+-- a member is stored under its own width and flat list
 pub record IsStoredMember (e : Flat × Seen) : Type 0 where
   pub tiling : IsTiling (kept_member e).tiling
   pub sides : (e.0).sides.items ≡ sides_of (kept_member e).tiling

@@ -17,7 +17,7 @@ pub data Told : Type 0 where
   repeats : ℕ → Told
   refused : Refused → Told
 
--- the text of it, for the line of this number
+-- the text of what is told of a line, for the line of this number
 abbrev pub told_text : ℕ → Told → List ℕ
 told_text number nothing = []
 told_text number foreign = foreign_line number
@@ -29,7 +29,7 @@ abbrev pub texts_from : ℕ → List Told → List ℕ
 texts_from number [] = []
 texts_from number (told ∷ tolds) = told_text number told ++ texts_from (number + 1) tolds
 
--- which lines a count is of
+-- whether a line counts by what is told of it: as foreign, as repeated, as refused
 abbrev pub is_foreign : Told → Bool
 is_foreign nothing = false
 is_foreign foreign = true
@@ -48,7 +48,7 @@ is_line_refused foreign = false
 is_line_refused (repeats first) = false
 is_line_refused (refused cause) = true
 
--- the line has a tiling, whose entry is such
+-- the line has a tiling, of whose entry this holds
 pub record HasEntry (number : ℕ) (line : List ℕ) (Is : Accepted → Type 0) : Type 0 where
   pub tiling : Tiling
   pub has : HasTiling line tiling

@@ -19,7 +19,7 @@ pub record Accepted : Type 0 where
 abbrev pub IsOf : Tiling → Accepted → Type 0
 IsOf u e = IsCanonicalOf e.tiling u
 
--- none of the entries is
+-- none of the entries is of this tiling, up to scale, turns and mirrors
 abbrev pub AreNotOf : Tiling → List Accepted → Type 0
 AreNotOf u entries = AllByRecursion (λ e. IsOf u e → ⊥) entries
 

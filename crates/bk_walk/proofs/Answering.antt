@@ -22,7 +22,7 @@ module _ (n : ℕ) (class : Class) (cursor place : Word) (p : HasPassed n class 
   pub steps_to_end : Ends n class place (ended - began) → IsAtMostTree n cursor None (ended - start)
   steps_to_end e = at_least_fewer n cursor None (0 + (ended - began)) (ended - start - 16) (omega arith) (e cursor 0 p).count
 
-  -- where it finds a word, they are at most 16 more than there are up to this word
+  -- where the search finds a word, all steps are at most 16 more than the tree has words after the cursor up to this word
   pub steps_to_word : (word found : Word) → found ≡ word → Meets n class place word (ended - began) → IsAtMostTree n cursor (Some found) (ended - start)
   steps_to_word word found same m = subst (λ (w : Word). IsAtMostTree n cursor (Some w) (ended - start)) (sym same)
       (at_least_fewer n cursor (Some word) (0 + (ended - began)) (ended - start - 16) (omega arith) (m cursor 0 p).count)

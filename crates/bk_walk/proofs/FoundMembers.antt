@@ -75,7 +75,7 @@ the_member n class t u c turn member same canonical =
     let of_member = each_image_is_a_members n class t turn member in
     (a_canonical_tiling_is_one (image turn t) c t of_member.tiling (subst (λ v. IsCanonicalOf v c) same canonical) of_member.canonical).1
 
--- it has as many squares
+-- the canonical tiling of a tiling has as many squares as the tiling
 pub as_many : (t c : Tiling) → IsCanonicalOf t c → length c.squares ≡ length t.squares
 as_many t c canonical =
     let scaled : Tiling = scaled_down_tiling t in

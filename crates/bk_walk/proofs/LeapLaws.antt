@@ -144,7 +144,7 @@ module _ (n : ℕ) (class : Class) (word : Word) (tree : IsTreeWord n word) wher
         cases Equal e = s.most (omega (arith, many, long)) rest (is ∙ ap (λ (m : Move). take moves front ++ m ∷ rest) (move_same k l e)
             ∙ sym (append_assoc (take moves front) (l ∷ []) rest) ∙ sym (ap (λ (v : Word). v ++ rest) one_more))
 
-    -- so the search meets the word, and each word on the way
+    -- a search that leaps to a word meets it, and each word on the way
     pub leap_meets : HasNoneUpTo (front ++ x ∷ []) → moves ≤ length front → order_of front < order_of word → (met : ℕ) → met + moves ≤ length word
         → Meets n class (front ++ x ∷ []) word met
     leap_meets none within longer met count = cases s.rest s.is

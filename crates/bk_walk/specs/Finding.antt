@@ -28,11 +28,11 @@ IsHeld from numbers t = (w : Word) → IsWordOf t w → from ≤ packed w → Ho
 abbrev pub IsMembersNumber : Finding → ℕ → Type 0
 IsMembersNumber s x = (e : Entry) × IsEntry s.order s.class e × (packed e.word ≡ x) × (s.from ≤ x)
 
--- all that are kept are such numbers
+-- each number that is kept is that of a member's word, and not below the one from which words are kept
 abbrev pub HasOnlyMembers : Finding → Type 0
 HasOnlyMembers s = (x : ℕ) → Contains s.numbers.kept x → IsMembersNumber s x
 
--- there are more such numbers than there is room for
+-- there are more numbers of members' words, not below the one from which words are kept, than there is room for
 pub record HasMoreMembers (room : ℕ) (s : Finding) : Type 0 where
   pub numbers : List ℕ
   pub ascending : AreAscendingNumbers numbers
@@ -54,7 +54,7 @@ pub record Wanted : Type 0 where
 abbrev pub wanted : Finding → Wanted
 wanted s = record { order = s.order; class = s.class; from = s.from }
 
--- a later state: it looks for the same, what was put is there, and what was kept still is
+-- a later state of a search: it looks for the same, what was put is there, and what was kept still is
 pub record Puts (s after : Finding) (What : Type 0) : Type 0 where
   pub fixed : wanted after ≡ wanted s
   pub put : What

@@ -50,7 +50,7 @@ pub record GoesToWord (n : ℕ) (front : Word) (number : ℕ) : Type 0 where
   pub order : order_of word ≡ n
   pub number_is : packed word ≡ number
 
--- it is that of these moves, a legal word of the order
+-- the number is that of these moves, a legal word of the order
 pub record IsAtNumber (n : ℕ) (front : Word) (number : ℕ) : Type 0 where
   pub legal : IsLegal front
   pub order : order_of front ≡ n

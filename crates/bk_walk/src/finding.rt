@@ -159,8 +159,8 @@ impl<const N: usize> Finder<N> {
         }
     }
 
-    // The same of a tiling of the order that isn't its own canonical tiling. Hardly one is met, and the room for its
-    // images is needed only here.
+    // Puts the word of a tiling's canonical tiling into the table, where this is a member, for a tiling of the order
+    // that isn't its own canonical tiling. Hardly one is met, and the room for its images is needed only here.
     #[inline(never)]
     fn meet_image(&mut self, tiling: &Tiling)
         requires tiling { IsTiling tiling.now }

@@ -83,7 +83,7 @@ impl<const N: usize> MemberTable<N> {
         self.seeker.finder.order()
     }
 
-    /// Their class.
+    /// The class of the members.
     pub fn class(&self) -> Class
         ensures { result ≡ self.now.class }
     {

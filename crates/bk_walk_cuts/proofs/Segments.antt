@@ -47,7 +47,7 @@ module _ (segments : List (List ℕ)) (sizes ends : List ℕ) (start i : ℕ) (s
   within : i < length segments
   within = omega (arith, h, ap length sizes_are, length-map segments (length {A = ℕ}))
 
-  -- its squares are the slice at their place
+  -- a segment's squares are the slice at their place
   pub part_is : slice_range ends start (start + get_or sizes i 0) ≡ get_or segments i []
   part_is = (λ j. slice_range (ends_are j) ((start_is ∙ ap (λ (l : List ℕ). sum (take i l)) sizes_are) j)
       ((start_is ∙ ap (λ (l : List ℕ). sum (take i l)) sizes_are) j + get_or (sizes_are j) i 0)) ∙ segment_is segments i within

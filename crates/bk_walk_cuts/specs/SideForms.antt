@@ -35,7 +35,7 @@ abbrev pub left_level : Outline → List Form → List Form
 left_level o bottoms = cond (has_left_wall o) []
     (level_of bottoms (slice_index_or o.segments (valley_place o.signs - 1) []) ∷ [])
 
--- the level of the segment right of it
+-- the level of the segment right of the valley, where there is one
 abbrev pub right_level : Outline → List Form → List Form
 right_level o bottoms = cond (has_right_wall o) []
     (level_of bottoms (slice_index_or o.segments (valley_place o.signs + 1) []) ∷ [])

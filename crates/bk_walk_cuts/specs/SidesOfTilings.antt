@@ -60,7 +60,7 @@ pub record MoveHolds (o : Outline) (m : Move) (bottoms : List Form) (laid : List
   pub signs : AgreeWith m.signs (levels_along o m bottoms) sides
   pub bottoms_then : AllZip (IsBottomOf sides) (bottoms ++ new_bottoms o m bottoms) laid
 
--- it does for each tiling whose word goes on by the move
+-- what is asked of the sides of a move's squares holds for each tiling whose word goes on by the move
 abbrev pub MovesHold : Type 0
 MovesHold = (front : Word) (m : Move) (bottoms : List Form) (t : Tiling) (laid laid_then : List Square) (sides : List ℕ)
     → IsTiling t → LaidBy t [] front laid → LaidBy t laid (m ∷ []) laid_then → AreSidesOf laid_then sides

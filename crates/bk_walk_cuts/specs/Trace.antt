@@ -20,7 +20,7 @@ IsSmall most form = AllByRecursion (λ a. nat_abs a ≤ most) form
 abbrev pub AreSmall : List Form → Type 0
 AreSmall bottoms = (i : ℕ) (form : Form) → slice_get bottoms i ≡ Some form → IsSmall (suc i) form
 
--- at most 5 bottoms with such levels, as many as squares of the first moves that are followed
+-- at most 5 bottoms whose levels have small coefficients, as many as squares of the first moves that are followed
 pub record AreFewSmall (bottoms : List Form) : Type 0 where
   pub few : length bottoms ≤ FOLLOWED
   pub small : AreSmall bottoms

@@ -51,7 +51,8 @@ fn cut_front(lined: &LinedSkel, class: Class, order: u8, m: &Move) -> Option<usi
     by_signs
 }
 
-// The same, where counts and signs alone rule the moves out.
+// With how many of the move's signs those moves of its count begin by which, by counts and signs alone, it is plain
+// that no member's word goes on.
 fn cut_by_signs(skel: &Skel, class: Class, order: u8, m: &Move) -> Option<usize>
     requires legal { IsLegalMove (outline_of skel.now) m.now }
     requires small { order_of skel.now + m.now.count ≤ order }
@@ -70,8 +71,8 @@ fn cut_by_signs(skel: &Skel, class: Class, order: u8, m: &Move) -> Option<usize>
     cut_owing(skel, order, m)
 }
 
-// The same for moves with two equal squares side by side under one segment. Where the class isn't perfect, this is a
-// cut at orders of at least 3.
+// With how many of the move's signs those moves of its count begin by which no member's word goes on, since two equal
+// squares stand side by side under one segment. Where the class isn't perfect, this is a cut at orders of at least 3.
 fn cut_even(skel: &Skel, class: Class, order: u8, m: &Move) -> Option<usize>
     ensures { IfSome result (λ kept. IsCut order class skel.now m.now (passed kept m.now)) }
 {

@@ -89,8 +89,8 @@ impl LinedSkel {
         self.lines.truncate(self.skel.order());
     }
 
-    /// Takes moves back until so many are left, for moves that are known to lead to a member's word: no cut is asked of
-    /// those, so the sides are followed no further.
+    /// Takes moves back until so many are left. From then on the sides are followed no further: it is for a search that
+    /// knows the next member's word, or that there is none, and so asks no cut of the moves that it plays.
     pub fn shorten(&mut self, moves: usize)
         requires { moves ≤ length self.old }
         ensures { self.new ≡ take moves self.old }
@@ -125,7 +125,6 @@ impl LinedSkel {
 // Appends of the squares of a move whether their left edges lie on a vertical line that runs from the top between
 // squares of the first move: of the first square what is said of the valley's left edge, of the others whether the move
 // is the first.
-//
 fn push_lines<const N: usize>(
     lines: &mut ArrayVec<bool, N>,
     valley: bool,

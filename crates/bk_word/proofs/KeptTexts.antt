@@ -4,7 +4,7 @@ use Rattle.std.specs.Prelude.{List, [], length, ℕ, ◌∷◌, ◌<◌, ◌≡�
 use Rattle.std.proofs.Common.{ap, arith, inl, inr, subst, sym, ◌∙◌}
 use Rattle.std.proofs.lemmas.Bool.{cases_lt}
 use Rattle.bk_word.specs.KeptWord.{CanStand, IsKeptWord}
-use Rattle.bk_word.specs.StoredWord.{IsStoredWord, moves_in, stored}
+use Rattle.bk_word.specs.StoredWord.{IsStoredWord, stored, word_in}
 use Rattle.bk_word.specs.Taken.{KeepsTextOf}
 use Rattle.bk_word.specs.Word.{Word, order_of}
 use Rattle.bk_word.specs.WordText.{IsTextOf, IsWrittenMove}
@@ -17,9 +17,9 @@ all_stand (m ∷ w) all = (all.0.stands, all_stand w all.1)
 
 -- the word of a text, of at most 200 squares, and its bytes
 pub record HasBytes (text bytes : List ℕ) : Type 0 where
-  pub is : IsTextOf text (moves_in bytes)
+  pub is : IsTextOf text (word_in bytes)
   pub are_stored : IsStoredWord bytes
-  pub few : order_of (moves_in bytes) ≤ 200
+  pub few : order_of (word_in bytes) ≤ 200
 
 -- the bytes taken of a text of at most 200 squares store the word that it is the text of
 pub bytes_kept : (text bytes : List ℕ) (t : Taken) → KeepsTextOf text t → t.order ≤ 200 → bytes ≡ t.bytes.items → HasBytes text bytes
@@ -37,11 +37,11 @@ many_squares w h = elim (cases_lt 16 (order_of w)) [
 ]
 
 -- a word of more than 64 bytes is stored in more than 64 bytes
-pub many_bytes : (bytes : List ℕ) → IsStoredWord bytes → (length bytes ≤ 64 → ⊥) → 64 < length (stored (moves_in bytes))
+pub many_bytes : (bytes : List ℕ) → IsStoredWord bytes → (length bytes ≤ 64 → ⊥) → 64 < length (stored (word_in bytes))
 many_bytes bytes are h = elim (cases_lt 64 (length bytes)) [
   | inl more ↦ omega (arith, more, same)
   | inr few ↦ absurd (h few)
 ]
   where
-    same : length bytes ≡ length (stored (moves_in bytes))
+    same : length bytes ≡ length (stored (word_in bytes))
     same = ap (λ (z : List ℕ). length z) are.same

@@ -6,7 +6,7 @@ use Rattle.bk_word.specs.Play.{numbers_from, parts}
 use Rattle.bk_word.specs.declared.Sign.{Sign}
 use Rattle.bk_word.specs.declared.Sign.TheVariants.{Above, Even, Under}
 
--- so many numbers are as many as said
+-- numbers in a row are as many as said
 pub numbers-length : (n k : ℕ) → length (numbers_from n k) ≡ k
 numbers-length n zero = refl
 numbers-length n (suc k) = ap suc (numbers-length (n + 1) k)

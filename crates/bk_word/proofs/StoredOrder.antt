@@ -7,7 +7,7 @@ use Rattle.std.specs.declared.cmp.Ordering.TheVariants.{Greater, Less}
 use Rattle.std.proofs.Common.{ap, arith, sym, ◌∙◌}
 use Rattle.std.proofs.lemmas.Bool.{cond-true, lt-ltb}
 use Rattle.bk_laws.proofs.Orderings.{nat_cmp-greater, ordering_then-assoc}
-use Rattle.bk_word.specs.StoredWord.{IsStoredWord, moves_in, sign_byte, stored}
+use Rattle.bk_word.specs.StoredWord.{IsStoredWord, sign_byte, stored, word_in}
 use Rattle.bk_word.specs.Word.{Word, sign_cmp, word_cmp}
 use Rattle.bk_word.specs.declared.Sign.{Sign}
 use Rattle.bk_word.specs.declared.Sign.TheVariants.{Above, Even, Under}
@@ -61,8 +61,8 @@ words_then (m ∷ v) (n ∷ w) a b =
     ∙ sym (ordering_then-assoc (nat_cmp m.count n.count) (slice_cmp sign_cmp m.signs n.signs) (word_cmp v w))
 
 -- stored words compare as words do
-pub stored_cmp : (a b : List ℕ) (v w : Word) → IsStoredWord a → IsStoredWord b → moves_in a ≡ v → moves_in b ≡ w → slice_cmp nat_cmp a b ≡ word_cmp v w
+pub stored_cmp : (a b : List ℕ) (v w : Word) → IsStoredWord a → IsStoredWord b → word_in a ≡ v → word_in b ≡ w → slice_cmp nat_cmp a b ≡ word_cmp v w
 stored_cmp a b v w sa sb ia ib =
     (λ i. slice_cmp nat_cmp (sa.same i) (sb.same i))
-    ∙ words_then (moves_in a) (moves_in b) (few_low (moves_in a) sa.kept.few) (few_low (moves_in b) sb.kept.few)
+    ∙ words_then (word_in a) (word_in b) (few_low (word_in a) sa.kept.few) (few_low (word_in b) sb.kept.few)
     ∙ (λ i. word_cmp (ia i) (ib i))

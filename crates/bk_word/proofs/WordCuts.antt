@@ -29,7 +29,7 @@ outline_more o (n ∷ w) (suc i) m e = ap (λ (k : ℕ). after_moves o (take k (
     step : suc i + 1 ≡ suc (i + 1)
     step = omega arith
 
--- it is legal where it is played
+-- a move of a legal word is legal where it is played
 pub legal_at : (o : Outline) (w : Word) (i : ℕ) (m : Move) → AreLegalFrom o w → slice_get w i ≡ Some m → IsLegalMove (after_moves o (take i w)) m
 legal_at o [] i m legal e = absurd (cc)
 legal_at o (n ∷ w) zero m legal e = subst (IsLegalMove o) same legal.0

@@ -10,8 +10,8 @@ use Rattle.bk_word.specs.WordReading.{may_end, next_word_place, word_kind_of}
 use Rattle.bk_word.specs.Taken.{Before, Count, KeepsTextOf, KeepsWord, Reading, Signs, bare, moves_counted, reader_place, step, taken, with_sign}
 use Rattle.bk_word.specs.Word.{Move, Word, order_of}
 use Rattle.bk_word.specs.WordText.{IsNoWordText, IsTextOf, IsWordText, IsWrittenMove}
-use Rattle.bk_word.specs.declared.reader.Kind.{Kind}
-use Rattle.bk_word.specs.declared.reader.Kind.TheVariants.{Digit, Dot, Letter, Other}
+use Rattle.bk_word.specs.declared.reader.ByteKind.{ByteKind}
+use Rattle.bk_word.specs.declared.reader.ByteKind.TheVariants.{Digit, Dot, Letter, Other}
 use Rattle.bk_word.specs.declared.reader.Place.{Place}
 use Rattle.bk_word.specs.declared.reader.Place.TheVariants.{BeforeCount, InCount, InSigns}
 use Rattle.bk_word.specs.declared.reading.Taken.{Taken}
@@ -27,7 +27,7 @@ place_when : (test : Bool) (next : Reading) (p : Place) → (test ≡ true → r
 place_when true next p f = ap (λ (q : Place). Some q) (f refl)
 place_when false next p f = refl
 
-steps_place : (r : Reading) (k : Kind) → CanBeRead r → option_map reader_place (step r k) ≡ next_word_place (reader_place r) k
+steps_place : (r : Reading) (k : ByteKind) → CanBeRead r → option_map reader_place (step r k) ≡ next_word_place (reader_place r) k
 steps_place (Before w) (Digit d) can = place_when (nat_lt 0 d) (Count w d) (InCount d) (λ h. refl)
 steps_place (Before w) (Letter s) can = refl
 steps_place (Before w) Dot can = refl
@@ -89,7 +89,7 @@ from_none : (o : Option Reading) → option_map reader_place o ≡ None → o �
 from_none None e = refl
 from_none (Some next) e = absurd (cc)
 
-step_at : (p next : Place) (r : Reading) (k : Kind) → CanBeRead r → p ≡ reader_place r → next_word_place p k ≡ Some next
+step_at : (p next : Place) (r : Reading) (k : ByteKind) → CanBeRead r → p ≡ reader_place r → next_word_place p k ≡ Some next
     → (to : Reading) × (step r k ≡ Some to) × (next ≡ reader_place to)
 step_at p next r k can place e = from_some (step r k) next (steps_place r k can ∙ ap (λ (q : Place). next_word_place q k) (sym place) ∙ e)
 
@@ -138,7 +138,8 @@ stops_at_end bs p t g e =
     no_text : ¬ (IsWordText bs)
     no_text (w, text) =
         let found : word_read_from bs (Before []) ≡ Some w = text_is_read bs w text in
-        let led : word_read_from bs (Before []) ≡ ended_word g.r = ap (λ (z : List ℕ). word_read_from z (Before [])) (sym g.spells ∙ sym (append-nil (spelled g.r)))
+        let led : word_read_from bs (Before []) ≡ ended_word g.r =
+        ap (λ (z : List ℕ). word_read_from z (Before [])) (sym g.spells ∙ sym (append-nil (spelled g.r)))
         ∙ leads g.r [] g.can in
         let stuck : ended_word g.r ≡ None = no_end g.r (ap may_end (sym g.place) ∙ e) in
         absurd (cc)

@@ -12,8 +12,8 @@ use Rattle.bk_word.specs.Word.{Move, Word}
 use Rattle.bk_word.specs.WordText.{IsTextOf, IsWrittenMove, letter, move_text, word_text}
 use Rattle.bk_word.specs.declared.Sign.{Sign}
 use Rattle.bk_word.specs.declared.Sign.TheVariants.{Above, Even, Under}
-use Rattle.bk_word.specs.declared.reader.Kind.{Kind}
-use Rattle.bk_word.specs.declared.reader.Kind.TheVariants.{Digit, Dot, Letter}
+use Rattle.bk_word.specs.declared.reader.ByteKind.{ByteKind}
+use Rattle.bk_word.specs.declared.reader.ByteKind.TheVariants.{Digit, Dot, Letter}
 
 -- the word that was read, where it may end
 abbrev pub ended_word : Reading → Option Word
@@ -27,8 +27,10 @@ word_read_from [] r = ended_word r
 word_read_from (b ∷ bytes) r = option_and_then (word_read_from bytes) (step r (word_kind_of b))
 
 -- a further byte of a known kind
-pub read_next : (r next : Reading) (k : Kind) (b : ℕ) (bytes : List ℕ) → word_kind_of b ≡ k → step r k ≡ Some next → word_read_from (b ∷ bytes) r ≡ word_read_from bytes next
-read_next r next k b bytes kind e = ap (λ (k : Kind). option_and_then (word_read_from bytes) (step r k)) kind ∙ ap (option_and_then (word_read_from bytes)) e
+pub read_next : (r next : Reading) (k : ByteKind) (b : ℕ) (bytes : List ℕ) → word_kind_of b ≡ k → step r k ≡ Some next
+    → word_read_from (b ∷ bytes) r ≡ word_read_from bytes next
+read_next r next k b bytes kind e =
+    ap (λ (k : ByteKind). option_and_then (word_read_from bytes) (step r k)) kind ∙ ap (option_and_then (word_read_from bytes)) e
 
 -- the byte of a digit is read as that digit
 pub kind_digit : (d : ℕ) → d < 10 → word_kind_of (48 + d) ≡ Digit d
@@ -58,7 +60,8 @@ one_digit w n x some few =
     ap (λ (z : List ℕ). word_read_from (z ++ x) (Before w)) (decimal_digit n few)
     ∙ read_next (Before w) (Count w n) (Digit n) (48 + n) x (kind_digit n few) (first_digit w n some)
 
-one_more : (w : Word) (n : ℕ) (x : List ℕ) → 10 ≤ n → n < 1000 → ((y : List ℕ) → word_read_from (decimal (n / 10) ++ y) (Before w) ≡ word_read_from y (Count w (n / 10)))
+one_more : (w : Word) (n : ℕ) (x : List ℕ) → 10 ≤ n → n < 1000
+    → ((y : List ℕ) → word_read_from (decimal (n / 10) ++ y) (Before w) ≡ word_read_from y (Count w (n / 10)))
     → word_read_from (decimal n ++ x) (Before w) ≡ word_read_from x (Count w n)
 one_more w n x some few fewer =
     ap (λ (z : List ℕ). word_read_from (z ++ x) (Before w)) (decimal_step n some (omega arith))
@@ -87,7 +90,8 @@ behind w m [] = Count w m.count
 behind w m (s ∷ ss) = Signs w m
 
 letters_read : (w : Word) (c : ℕ) (before ss : List Sign) (x : List ℕ) → length before + length ss ≤ c + 1
-    → word_read_from (map letter ss ++ x) (Signs w (record { count = c; signs = before })) ≡ word_read_from x (Signs w (record { count = c; signs = before ++ ss }))
+    → word_read_from (map letter ss ++ x) (Signs w (record { count = c; signs = before }))
+    ≡ word_read_from x (Signs w (record { count = c; signs = before ++ ss }))
 letters_read w c before [] x few = ap (λ (l : List Sign). word_read_from x (Signs w (record { count = c; signs = l }))) (sym (append-nil before))
 letters_read w c before (s ∷ ss) x few =
     read_next (Signs w (record { count = c; signs = before })) (Signs w (record { count = c; signs = before ++ s ∷ [] })) (Letter s) (letter s)
@@ -125,7 +129,8 @@ end_behind w c [] least = cond-true _ _ _ (le-leb c 1 (omega arith))
 end_behind w c (s ∷ ss) least = cond-true _ _ _ (eq-eqb (c - 1 - length (s ∷ ss)) 0 (omega arith))
 
 -- a move and a dot
-pub dotted_read : (w : Word) (m : Move) (x : List ℕ) → IsWrittenMove m → word_read_from (move_text m ++ 46 ∷ x) (Before w) ≡ word_read_from x (Before (w ++ m ∷ []))
+pub dotted_read : (w : Word) (m : Move) (x : List ℕ) → IsWrittenMove m
+    → word_read_from (move_text m ++ 46 ∷ x) (Before w) ≡ word_read_from x (Before (w ++ m ∷ []))
 dotted_read w m x h =
     move_read w m (46 ∷ x) h.stands.some h.digits h.stands.most
     ∙ read_next (behind w m m.signs) (Before (w ++ m ∷ [])) Dot 46 x refl (dot_behind w m.count m.signs h.stands.least)

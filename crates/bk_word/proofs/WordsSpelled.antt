@@ -14,8 +14,8 @@ use Rattle.bk_word.specs.Word.{Move, Word}
 use Rattle.bk_word.specs.WordText.{IsTextOf, IsWrittenMove, letter, move_text, word_text}
 use Rattle.bk_word.specs.declared.Sign.{Sign}
 use Rattle.bk_word.specs.declared.Sign.TheVariants.{Above, Even, Under}
-use Rattle.bk_word.specs.declared.reader.Kind.{Kind}
-use Rattle.bk_word.specs.declared.reader.Kind.TheVariants.{Digit, Dot, Letter, Other}
+use Rattle.bk_word.specs.declared.reader.ByteKind.{ByteKind}
+use Rattle.bk_word.specs.declared.reader.ByteKind.TheVariants.{Digit, Dot, Letter, Other}
 use Rattle.bk_word.proofs.WordsRead.{ended_word}
 
 -- moves with a dot behind each
@@ -65,13 +65,13 @@ is_text w m all one = record { some = omega (arith, length-append w (m ∷ []));
 
 -- ---- what each byte is
 
-abbrev Means : Kind → ℕ → Type 0
+abbrev Means : ByteKind → ℕ → Type 0
 Means (Digit d) b = (b ≡ 48 + d) × (d < 10)
 Means (Letter s) b = b ≡ letter s
 Means Dot b = b ≡ 46
 Means Other b = Unit {0}
 
-either : (test : Bool) (one two : Kind) (b : ℕ) → (test ≡ true → Means one b) → Means two b → Means (if test then one else two) b
+either : (test : Bool) (one two : ByteKind) (b : ℕ) → (test ≡ true → Means one b) → Means two b → Means (if test then one else two) b
 either true one two b yes' no' = yes' refl
 either false one two b yes' no' = no'
 
@@ -113,7 +113,7 @@ bare_written count c one = record { stands = record { some = c.0; least = omega 
 move_written : (m : Move) → IsCount m.count → length m.signs ≤ m.count + 1 → m.count ≤ length m.signs + 1 → IsWrittenMove m
 move_written m c most least = record { stands = record { some = c.0; least = least; most = most }; digits = c.1 }
 
-one_further : (r : Reading) (k : Kind) (b : ℕ) → CanBeRead r → Means k b → FurtherBy (step r k) r b
+one_further : (r : Reading) (k : ByteKind) (b : ℕ) → CanBeRead r → Means k b → FurtherBy (step r k) r b
 one_further (Before w) (Digit d) b can is = when (nat_lt 0 d) (Count w d) (Before w) b (λ h. record {
   can = (can, (ltb-true 0 d h, omega (arith, is.1)));
   spells = ap (λ (z : List ℕ). dotted w ++ z) (decimal_digit d is.1 ∙ ap (λ (n : ℕ). n ∷ []) (sym is.0));

@@ -5,19 +5,19 @@ use Rattle.std.specs.Prelude.{Bool, false, true}
 use Rattle.bk_word.specs.declared.Sign.{Sign}
 use Rattle.bk_word.specs.declared.Sign.TheVariants.{Above, Even, Under}
 
--- the left one is higher
+-- of two neighbouring bottoms the left one is higher
 abbrev pub is_above : Sign → Bool
 is_above Above = true
 is_above Even = false
 is_above Under = false
 
--- both are level
+-- two neighbouring bottoms are level
 abbrev pub is_even : Sign → Bool
 is_even Above = false
 is_even Even = true
 is_even Under = false
 
--- the left one is lower
+-- of two neighbouring bottoms the left one is lower
 abbrev pub is_under : Sign → Bool
 is_under Above = false
 is_under Even = false

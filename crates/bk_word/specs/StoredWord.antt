@@ -7,6 +7,7 @@ use Rattle.bk_word.specs.Word.{Move, Word}
 use Rattle.bk_word.specs.WordText.{letter}
 use Rattle.bk_word.specs.declared.Sign.{Sign}
 use Rattle.bk_word.specs.declared.Sign.TheVariants.{Above, Even, Under}
+use Rattle.bk_word.specs.declared.TheConstants.{INLINE_BYTES}
 
 -- the byte of a sign
 abbrev pub sign_byte : Sign → ℕ
@@ -31,15 +32,15 @@ abbrev pub sign_of : ℕ → Sign
 sign_of b = cond (b == 201) Above (cond (b == 202) Even Under)
 
 -- the signs before the first count
-abbrev pub front_signs : List ℕ → List Sign
-front_signs [] = []
-front_signs (b ∷ bytes) = cond (is_count b) [] (sign_of b ∷ front_signs bytes)
+abbrev pub leading_signs : List ℕ → List Sign
+leading_signs [] = []
+leading_signs (b ∷ bytes) = cond (is_count b) [] (sign_of b ∷ leading_signs bytes)
 
 -- the word that is stored
-abbrev pub moves_in : List ℕ → Word
-moves_in [] = []
-moves_in (b ∷ bytes) =
-    cond (is_count b) (record { count = b; signs = front_signs bytes } ∷ moves_in bytes) (moves_in bytes)
+abbrev pub word_in : List ℕ → Word
+word_in [] = []
+word_in (b ∷ bytes) =
+    cond (is_count b) (record { count = b; signs = leading_signs bytes } ∷ word_in bytes) (word_in bytes)
 
 -- what is written of a byte, where it isn't the first
 abbrev pub piece : ℕ → List ℕ
@@ -47,10 +48,10 @@ piece b = cond (is_count b) (46 ∷ decimal b) (letter (sign_of b) ∷ [])
 
 -- the bytes are those of a word that can be kept
 pub record IsStoredWord (bytes : List ℕ) : Type 0 where
-  pub same : bytes ≡ stored (moves_in bytes)
-  pub kept : IsKeptWord (moves_in bytes)
+  pub same : bytes ≡ stored (word_in bytes)
+  pub kept : IsKeptWord (word_in bytes)
 
--- they stand in a buffer of so many bytes, which has at least those that need no memory
+-- the bytes of a word that can be kept stand in a buffer of so many bytes, which has at least those that need no memory
 pub record IsKeptBuffer (bytes : List ℕ) (capacity : ℕ) : Type 0 where
   pub stored : IsStoredWord bytes
-  pub room : 64 ≤ capacity
+  pub room : INLINE_BYTES ≤ capacity

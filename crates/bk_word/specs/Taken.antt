@@ -6,8 +6,8 @@ use Rattle.bk_word.specs.StoredWord.{stored}
 use Rattle.bk_word.specs.Word.{Move, Word, order_of}
 use Rattle.bk_word.specs.WordText.{IsTextOf, capped_order}
 use Rattle.bk_word.specs.declared.Sign.{Sign}
-use Rattle.bk_word.specs.declared.reader.Kind.{Kind}
-use Rattle.bk_word.specs.declared.reader.Kind.TheVariants.{Digit, Dot, Letter}
+use Rattle.bk_word.specs.declared.reader.ByteKind.{ByteKind}
+use Rattle.bk_word.specs.declared.reader.ByteKind.TheVariants.{Digit, Dot, Letter}
 use Rattle.bk_word.specs.declared.reader.Place.{Place}
 use Rattle.bk_word.specs.declared.reader.Place.TheVariants.{BeforeCount, InCount, InSigns}
 use Rattle.bk_word.specs.declared.reading.Taken.{Taken}
@@ -34,7 +34,7 @@ reader_place (Count w count) = InCount count
 reader_place (Signs w m) = InSigns (m.count - 1 - length m.signs) (m.count + 1 - length m.signs)
 
 -- what was read with a further byte, or nothing where no word goes on with it
-abbrev pub step : Reading → Kind → Option Reading
+abbrev pub step : Reading → ByteKind → Option Reading
 step (Before w) (Digit digit) = if nat_lt 0 digit then Some (Count w digit) else None
 step (Count w count) (Digit digit) = if nat_lt count 100 then Some (Count w (count * 10 + digit)) else None
 step (Count w count) (Letter sign) = Some (Signs w (with_sign (bare count) sign))
@@ -61,6 +61,6 @@ pub record KeepsWord (w : Word) (t : Taken) : Type 0 where
   pub order : t.order ≡ capped_order w
   pub bytes : order_of w ≤ LARGEST_ORDER → t.bytes.items ≡ stored w
 
--- it is kept of the word that the bytes are the text of
+-- what is kept is that of the word that the bytes are the text of
 abbrev pub KeepsTextOf : List ℕ → Taken → Type 0
 KeepsTextOf bytes t = (w : Word) × IsTextOf bytes w × KeepsWord w t

@@ -4,13 +4,13 @@
 use Rattle.std.specs.Prelude.{Bool, None, Option, Some, false, if◌then◌else◌, nat_le, nat_lt, ℕ, ◌&&◌, ◌*◌, ◌+◌, ◌-◌}
 use Rattle.std.specs.Prelude.{◌==◌}
 use Rattle.bk_word.specs.declared.Sign.TheVariants.{Above, Even, Under}
-use Rattle.bk_word.specs.declared.reader.Kind.{Kind}
-use Rattle.bk_word.specs.declared.reader.Kind.TheVariants.{Digit, Dot, Letter, Other}
+use Rattle.bk_word.specs.declared.reader.ByteKind.{ByteKind}
+use Rattle.bk_word.specs.declared.reader.ByteKind.TheVariants.{Digit, Dot, Letter, Other}
 use Rattle.bk_word.specs.declared.reader.Place.{Place}
 use Rattle.bk_word.specs.declared.reader.Place.TheVariants.{BeforeCount, InCount, InSigns}
 
 -- what a byte is to the grammar
-abbrev pub word_kind_of : ℕ → Kind
+abbrev pub word_kind_of : ℕ → ByteKind
 word_kind_of b =
     if nat_le 48 b && nat_le b 57 then Digit (b - 48)
     else if b == 97 then Letter Above
@@ -19,8 +19,8 @@ word_kind_of b =
     else if b == 46 then Dot
     else Other
 
--- behind a further byte, or nothing where no word goes on with it
-abbrev pub next_word_place : Place → Kind → Option Place
+-- where the reader stands behind a further byte, or nothing where no word goes on with it
+abbrev pub next_word_place : Place → ByteKind → Option Place
 next_word_place BeforeCount (Digit digit) = if nat_lt 0 digit then Some (InCount digit) else None
 next_word_place (InCount count) (Digit digit) = if nat_lt count 100 then Some (InCount (count * 10 + digit)) else None
 next_word_place (InCount count) (Letter sign) = Some (InSigns (count - 2) count)

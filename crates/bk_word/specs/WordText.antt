@@ -15,11 +15,11 @@ letter Above = 97
 letter Even = 101
 letter Under = 117
 
--- the count, then the letters
+-- the text of a move: the count, then the letters of its signs
 abbrev pub move_text : Move → List ℕ
 move_text m = decimal m.count ++ map letter m.signs
 
--- the moves, with a dot between each two
+-- the text of a word: that of each move, with a dot between each two
 abbrev pub word_text : Word → List ℕ
 word_text w = join_with_byte 46 (map move_text w)
 

@@ -14,10 +14,8 @@ pub fn word_item(line: &[u8]) -> Option<(usize, usize)>
     ensures some { IfSome result (λ ends. IsItemAt line.now ends.0 ends.1) }
 {
     let text = &line[..comment_start(line)];
-    match item_start(text) {
-        Some(start) => Some((start, item_end(text, start))),
-        None => None,
-    }
+    let start = item_start(text)?;
+    Some((start, item_end(text, start)))
 }
 
 // Where the comment of a line begins; without one, the end.
@@ -26,12 +24,9 @@ fn comment_start(line: &[u8]) -> usize
     ensures bare { AllByRecursion (λ b. b ≢ 59) (take result line.now) }
     ensures comment { (Nothing or Comment) (drop result line.now) }
 {
-    for (i, byte) in line.iter().enumerate() {
-        if *byte == b';' {
-            return i;
-        }
-    }
-    line.len()
+    line.iter()
+        .position(|byte| *byte == b';')
+        .unwrap_or(line.len())
 }
 
 // The place of the first byte that is no blank.
@@ -41,12 +36,7 @@ fn item_start(text: &[u8]) -> Option<usize>
     ensures blanks { IfSome result (λ start. Blanks (take start text.now)) }
     ensures bare { IfSome result (λ start. IsBlank (slice_index text.now start) → ⊥) }
 {
-    for (i, byte) in text.iter().enumerate() {
-        if !is_blank(*byte) {
-            return Some(i);
-        }
-    }
-    None
+    text.iter().position(|byte| !is_blank(*byte))
 }
 
 // Where the blanks at the end of a text begin, in which a byte that is no blank stands at `start`.

@@ -4,7 +4,7 @@
 ghost use Rattle.std.specs.Prelude.{IfOk, IsOk, OnErr, OnOk, Some, [], length, slice_get, take, ◌+◌, ◌++◌, ◌-◌, ◌<◌};
 ghost use Rattle.std.specs.Prelude.{◌∷◌, ◌≡◌, ◌≤◌};
 ghost use Rattle.bk_word.specs.KeptWord.{CanStand, IsKeptWord};
-ghost use Rattle.bk_word.specs.StoredWord.{IsStoredWord, moves_in, stored, stored_move};
+ghost use Rattle.bk_word.specs.StoredWord.{IsStoredWord, stored, stored_move, word_in};
 ghost use Rattle.bk_word.specs.Word.{order_of, word_cmp};
 
 mod item;
@@ -107,11 +107,11 @@ pub struct Word {
 
 impl Model for Word {
     ghost use Rattle.bk_word.specs.Word.{Word as Moves};
-    ghost use Rattle.bk_word.specs.StoredWord.{IsKeptBuffer, moves_in};
+    ghost use Rattle.bk_word.specs.StoredWord.{IsKeptBuffer, word_in};
 
     ghost Value = { Moves };
 
-    ghost view = { λ w. moves_in w.bytes.items };
+    ghost view = { λ w. word_in w.bytes.items };
 
     ghost invariant = { λ w. IsKeptBuffer w.bytes.items w.bytes.capacity };
 }
@@ -206,17 +206,13 @@ impl Word {
     // The word that is stored so.
     pub(crate) fn from_bytes(alloc: Global, bytes: &[u8]) -> Result<Word, NoMemory>
         requires { IsStoredWord bytes.now }
-        ensures ok { IfOk result (λ w. w ≡ moves_in bytes.now) }
-        ensures inline { order_of (moves_in bytes.now) ≤ INLINE_ORDER → IsOk result }
+        ensures ok { IfOk result (λ w. w ≡ word_in bytes.now) }
+        ensures inline { order_of (word_in bytes.now) ≤ INLINE_ORDER → IsOk result }
         ensures bytes { length bytes.now ≤ INLINE_BYTES → IsOk result }
     {
-        match SmallVec::from_slice(alloc, bytes) {
-            Ok(bytes) => {
-                let _fits = bytes.len();
-                Ok(Word { bytes })
-            }
-            Err(_) => Err(NoMemory),
-        }
+        let bytes = SmallVec::from_slice(alloc, bytes).map_err(|_| NoMemory)?;
+        let _fits = bytes.len();
+        Ok(Word { bytes })
     }
 
     // The bytes in which the word is stored.

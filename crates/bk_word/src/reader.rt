@@ -8,7 +8,7 @@ use crate::Sign;
 
 /// What a byte is to the grammar of words; a digit with its value.
 #[derive(Clone, Copy)]
-pub enum Kind {
+pub enum ByteKind {
     Digit(u8),
     Letter(Sign),
     Dot,
@@ -27,22 +27,22 @@ pub enum Place {
 }
 
 // What a byte is to the grammar.
-pub(crate) fn kind_of(byte: u8) -> Kind
+pub(crate) fn kind_of(byte: u8) -> ByteKind
     ensures { result ≡ kind_of_byte byte }
 {
     match byte {
-        b'0'..=b'9' => Kind::Digit(byte - b'0'),
-        b'a' => Kind::Letter(Sign::Above),
-        b'e' => Kind::Letter(Sign::Even),
-        b'u' => Kind::Letter(Sign::Under),
-        b'.' => Kind::Dot,
-        _ => Kind::Other,
+        b'0'..=b'9' => ByteKind::Digit(byte - b'0'),
+        b'a' => ByteKind::Letter(Sign::Above),
+        b'e' => ByteKind::Letter(Sign::Even),
+        b'u' => ByteKind::Letter(Sign::Under),
+        b'.' => ByteKind::Dot,
+        _ => ByteKind::Other,
     }
 }
 
 impl Place {
     // The place behind a further byte, or `None` where no word goes on with it.
-    pub(crate) fn next(self, kind: Kind) -> Option<Place>
+    pub(crate) fn next(self, kind: ByteKind) -> Option<Place>
         ensures { result ≡ next_word_place self kind }
     {
         match self {
@@ -64,32 +64,34 @@ impl Place {
     }
 }
 
-fn before_count(kind: Kind) -> Option<Place>
+fn before_count(kind: ByteKind) -> Option<Place>
     ensures { result ≡ next_word_place Place.BeforeCount kind }
 {
     match kind {
-        Kind::Digit(digit) if digit > 0 => Some(Place::InCount(u16::from(digit))),
+        ByteKind::Digit(digit) if digit > 0 => Some(Place::InCount(u16::from(digit))),
         _ => None,
     }
 }
 
-fn in_count(count: u16, kind: Kind) -> Option<Place>
+fn in_count(count: u16, kind: ByteKind) -> Option<Place>
     ensures { result ≡ next_word_place (Place.InCount count) kind }
 {
     match kind {
-        Kind::Digit(digit) if count < 100 => Some(Place::InCount(count * 10 + u16::from(digit))),
-        Kind::Letter(_) => Some(Place::InSigns(count.saturating_sub(2), count)),
-        Kind::Dot if count <= 1 => Some(Place::BeforeCount),
+        ByteKind::Digit(digit) if count < 100 => Some(Place::InCount(
+            count * 10 + u16::from(digit),
+        )),
+        ByteKind::Letter(_) => Some(Place::InSigns(count.saturating_sub(2), count)),
+        ByteKind::Dot if count <= 1 => Some(Place::BeforeCount),
         _ => None,
     }
 }
 
-fn in_signs(least: u16, most: u16, kind: Kind) -> Option<Place>
+fn in_signs(least: u16, most: u16, kind: ByteKind) -> Option<Place>
     ensures { result ≡ next_word_place (Place.InSigns least most) kind }
 {
     match kind {
-        Kind::Letter(_) if most > 0 => Some(Place::InSigns(least.saturating_sub(1), most - 1)),
-        Kind::Dot if least == 0 => Some(Place::BeforeCount),
+        ByteKind::Letter(_) if most > 0 => Some(Place::InSigns(least.saturating_sub(1), most - 1)),
+        ByteKind::Dot if least == 0 => Some(Place::BeforeCount),
         _ => None,
     }
 }

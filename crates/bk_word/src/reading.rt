@@ -8,7 +8,7 @@ ghost use Rattle.bk_word.specs.Taken.{with_sign};
 ghost use Rattle.bk_word.specs.Word.{Move as SeenMove, Word as Moves};
 ghost use Rattle.bk_word.specs.WordText.{IsNoWordText, IsTextOf, IsWordText, capped_order};
 
-use crate::reader::{Kind, Place, kind_of};
+use crate::reader::{ByteKind, Place, kind_of};
 use crate::storage::byte_of;
 use crate::{LARGEST_ORDER, NoMemory, Sign, Word};
 use arrayvec::ArrayVec;
@@ -38,10 +38,7 @@ pub fn read_word(alloc: Global, text: &[u8]) -> Result<Word, WordFault>
     ensures read { IfOk result (λ w. IsTextOf text.now w) }
     ensures fault { IfErr result (λ fault. IsWordFaultOf fault text.now) }
 {
-    let taken = match take_text(text) {
-        Ok(taken) => taken,
-        Err(at) => return Err(WordFault::Text { at }),
-    };
+    let taken = take_text(text).map_err(|at| WordFault::Text { at })?;
     if usize::from(taken.order) > LARGEST_ORDER {
         return Err(WordFault::Many);
     }
@@ -57,10 +54,7 @@ pub fn text_order(text: &[u8]) -> Option<u8>
     ensures none { IfNone result ((w : Moves) → IsTextOf text.now w → ⊥) }
     ensures some { IfSome result (λ order. (w : Moves) × IsTextOf text.now w × (order ≡ capped_order w)) }
 {
-    match take_text(text) {
-        Ok(taken) => Some(taken.order),
-        Err(_) => None,
-    }
+    take_text(text).ok().map(|taken| taken.order)
 }
 
 // What stands for every order above 200.
@@ -109,18 +103,18 @@ impl Taken {
     }
 
     // Takes a further byte.
-    fn take(&mut self, place: Place, kind: Kind)
+    fn take(&mut self, place: Place, kind: ByteKind)
         requires room { self.old.order ≤ LARGEST_ORDER → length self.old.bytes.items ≤ 3 * LARGEST_ORDER }
         ensures { (r next : Reading) → place ≡ reader_place r → step r kind ≡ Some next → KeepsWord (taken r) self.old
             → KeepsWord (taken next) self.new }
     {
         match kind {
-            Kind::Letter(sign) => {
+            ByteKind::Letter(sign) => {
                 self.end_count(place);
                 self.add_sign(sign);
             }
-            Kind::Dot => self.end_count(place),
-            Kind::Digit(_) | Kind::Other => {}
+            ByteKind::Dot => self.end_count(place),
+            ByteKind::Digit(_) | ByteKind::Other => {}
         }
     }
 

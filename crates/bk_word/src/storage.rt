@@ -5,7 +5,7 @@ ghost use Rattle.std.specs.Prelude.{count_by, drop, length, map, slice_index, tr
 ghost use Rattle.smallvec.specs.SmallVec.{HasRoomFor};
 ghost use Rattle.bk_word.specs.Word.{order_of};
 ghost use Rattle.bk_word.specs.declared.TheConstants.{LARGEST_ORDER};
-ghost use Rattle.bk_word.specs.StoredWord.{front_signs, is_count, moves_in, sign_byte, sign_of as sign_of_byte};
+ghost use Rattle.bk_word.specs.StoredWord.{is_count, leading_signs, sign_byte, sign_of as sign_of_byte, word_in};
 
 use crate::{INLINE_BYTES, MOST_SIGNS, Sign};
 use arrayvec::ArrayVec;
@@ -61,8 +61,8 @@ pub(crate) fn append_move(bytes: &mut SmallVec<u8, INLINE_BYTES>, count: u8, sig
 
 // The signs before the first count, of which there are at most 201.
 pub(crate) fn signs_at(bytes: &[u8]) -> ArrayVec<Sign, MOST_SIGNS>
-    requires { length (front_signs bytes.now) ≤ MOST_SIGNS }
-    ensures { result.items ≡ front_signs bytes.now }
+    requires { length (leading_signs bytes.now) ≤ MOST_SIGNS }
+    ensures { result.items ≡ leading_signs bytes.now }
 {
     let mut signs = ArrayVec::new();
     for byte in bytes {
@@ -76,10 +76,10 @@ pub(crate) fn signs_at(bytes: &[u8]) -> ArrayVec<Sign, MOST_SIGNS>
 
 // The place of the byte of the i-th count, from 0, which must be there.
 pub(crate) fn count_place(bytes: &[u8], i: usize) -> usize
-    requires { i < length (moves_in bytes.now) }
+    requires { i < length (word_in bytes.now) }
     ensures within { result < length bytes.now }
     ensures count { is_count (slice_index bytes.now result) ≡ true }
-    ensures behind { moves_in (drop result bytes.now) ≡ drop i (moves_in bytes.now) }
+    ensures behind { word_in (drop result bytes.now) ≡ drop i (word_in bytes.now) }
 {
     let mut left = i;
     for (place, byte) in bytes.iter().enumerate() {
@@ -102,8 +102,8 @@ pub(crate) fn counts(bytes: &[u8]) -> usize
 
 // The sum of the counts.
 pub(crate) fn sum_of_counts(bytes: &[u8]) -> usize
-    requires { order_of (moves_in bytes.now) ≤ LARGEST_ORDER }
-    ensures { result ≡ order_of (moves_in bytes.now) }
+    requires { order_of (word_in bytes.now) ≤ LARGEST_ORDER }
+    ensures { result ≡ order_of (word_in bytes.now) }
 {
     let mut order = 0;
     for byte in bytes {

@@ -60,7 +60,7 @@ abbrev pub AFlowPlacesATiling : Type 0
 AFlowPlacesATiling = (w : Word) (f : Flow) → IsComplete w → IsFlow (net_of_word w) f → PlacesWord w f
     → (t : Tiling) × IsTilingByFlow w f t
 
--- where the flow is primitive, so is the tiling
+-- where a flow that places the squares of a complete word is primitive, so is the tiling
 abbrev pub APrimitiveFlowIsAPrimitiveTiling : Type 0
 APrimitiveFlowIsAPrimitiveTiling = (w : Word) (f : Flow) (t : Tiling) → IsComplete w → IsFlow (net_of_word w) f
     → IsPrimitive f → IsTilingByFlow w f t → IsPrimitiveTiling t

@@ -19,7 +19,7 @@ use Rattle.bk_lay.specs.TilingWord.{IsLeftmostValley, depth_before, depth_from, 
 abbrev pub square_at : List Square → ℕ → Square
 square_at laid n = slice_index_or laid (n - 1) (record { x = 0; y = 0; s = 0 })
 
--- the level of its bottom
+-- the level of the bottom of the laid square of a number
 abbrev pub bottom_at : List Square → ℕ → ℕ
 bottom_at laid n = (square_at laid n).y + (square_at laid n).s
 

@@ -47,7 +47,7 @@ LaidSidesAreAFlow = (t : Tiling) (w : Word) (laid : List Square) (levels : List 
 abbrev pub AWordNetHasNoLoose : Type 0
 AWordNetHasNoLoose = (w : Word) → IsComplete w → IsNet (net_of_word w) × HasNoLoose (net_of_word w)
 
--- so each of its flows of a total of at least 1 is its one flow
+-- each flow of the net of a complete word, of a total of at least 1, is the net's one flow of its total
 abbrev pub AWordHasOneFlow : Type 0
 AWordHasOneFlow = (w : Word) (f : Flow) → IsComplete w → IsFlow (net_of_word w) f → pos 1 ≤ℤ f.total
     → IsOneFlow (net_of_word w) f
@@ -64,7 +64,7 @@ LaidSidesFixATiling = (t u : Tiling) (w : Word) (tl ul : List Square) (tv uv : L
 abbrev pub AWordHasOneTiling : Type 0
 AWordHasOneTiling = (t u : Tiling) (w : Word) → IsTiling t → IsTiling u → IsWordOf t w → IsWordOf u w → AreAlike t u
 
--- so each word has at most one primitive tiling
+-- each word has at most one primitive tiling
 abbrev pub AWordHasOnePrimitiveTiling : Type 0
 AWordHasOnePrimitiveTiling = (t u : Tiling) (w : Word) → IsTiling t → IsTiling u → IsPrimitiveTiling t
     → IsPrimitiveTiling u → IsWordOf t w → IsWordOf u w → t ≡ u

@@ -11,7 +11,7 @@ pub fn a_word_net_has_no_loose()
     ensures { AWordNetHasNoLoose }
 {}
 
-/// So each flow of it of a total of at least 1 is the one flow of its total.
+/// Each flow of the net of a complete word, of a total of at least 1, is the net's one flow of its total.
 pub fn a_word_has_one_flow()
     ensures { AWordHasOneFlow }
 {}
@@ -36,7 +36,7 @@ pub fn a_flow_places_a_tiling()
     ensures { AFlowPlacesATiling }
 {}
 
-/// Where the flow is primitive, so is the tiling.
+/// Where a flow that places the squares of a complete word is primitive, so is the tiling.
 pub fn a_primitive_flow_is_a_primitive_tiling()
     ensures { APrimitiveFlowIsAPrimitiveTiling }
 {}

@@ -37,7 +37,7 @@ two_moves = two Under ∷ move 2 (Above ∷ Above ∷ []) ∷ []
 pub two_moves_bound : closing_bound (outline_of two_moves).signs ≡ 2
 two_moves_bound = refl
 
--- and the first is a valley of one square
+-- after two moves one segment, the first, is a valley of one square
 pub two_moves_singles : single_valleys (outline_of two_moves).signs (sizes_of (outline_of two_moves)) ≡ 1
 two_moves_singles = refl
 
@@ -62,7 +62,7 @@ cut_in_two = two Under ∷ move 1 (Even ∷ []) ∷ []
 pub lines_cut_in_two : edges_on_lines cut_in_two ≡ false ∷ true ∷ true ∷ []
 lines_cut_in_two = refl
 
--- so the last segment must be closed
+-- after a word that is cut in two by a line the last segment must be closed
 pub bound_cut_in_two : line_bound_of cut_in_two ≡ 1
 bound_cut_in_two = refl
 
@@ -74,14 +74,14 @@ middle_bound = refl
 pub end_33x32 : line_bound_of word_33x32 ≡ 0
 end_33x32 = refl
 
--- nor at the end of the word of the 65x47
+-- at the end of the word of the 65x47 no bound is left
 pub end_65x47 : line_bound_of word_65x47 ≡ 0
 end_65x47 = refl
 
--- nor of that of the 69x61
+-- at the end of the word of the 69x61 no bound is left
 pub end_69x61 : line_bound_of word_69x61 ≡ 0
 end_69x61 = refl
 
--- and no valley of one square is left
+-- at the end of the word of the 65x47 no valley of one square is left
 pub singles_65x47 : single_valleys (outline_of word_65x47).signs (sizes_of (outline_of word_65x47)) ≡ 0
 singles_65x47 = refl

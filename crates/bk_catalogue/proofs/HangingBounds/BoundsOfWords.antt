@@ -37,6 +37,6 @@ line_bound_by_lists w = λ i. line_bound (outline_of w).signs (touched (edges_on
 pub shape_of_word : (w : Word) → IsLegal w → Shaped (outline_of w)
 shape_of_word w legal = shaped_moves start w legal shaped_start
 
--- so what the bounds require of the flat lists holds
+-- a legal word has one segment more than signs, as the bounds require of the flat lists
 pub sizes_long : (w : Word) → IsLegal w → length (sizes_of (outline_of w)) ≡ length (outline_of w).signs + 1
 sizes_long w legal = omega (arith, length-map (outline_of w).segments (λ (s : List ℕ). length s), (shape_of_word w legal).many)

@@ -101,7 +101,7 @@ module _ (signs : List Sign) (sizes ends : List ℕ) (lines : List Bool) (long :
       pub lined_above : slice_index_or signs i Above ≡ Above → m ≡ here → a ≡ aboves + 1 → IsLined signs sizes ends lines (i + 1) s m a
       lined_above e f k = after Above e (omega (arith, f)) (omega (arith, k)) (omega (arith, k, c.few)) (omega (arith, f, more, one, c.few, c.low))
 
-      -- where it is even
+      -- one segment further, where the sign behind it is even
       pub lined_even : slice_index_or signs i Above ≡ Even → m ≡ here → a ≡ aboves → IsLined signs sizes ends lines (i + 1) s m a
       lined_even e f k = after Even e (omega (arith, f)) (omega (arith, k)) (omega (arith, k, c.few)) (omega (arith, f, more, one, c.few, c.low))
 

@@ -136,7 +136,7 @@ module _ (o : Outline) (m : Move) (legal : IsLegalMove o m) (shape : Shaped o) w
     shape.many,
   )
 
-  -- they are as many
+  -- up to the new squares the signs are as many as the segments, where the valley has a right neighbour
   pub same_length : valley_place o.signs < length o.signs
       → length (take (valley_place o.signs - 1) o.signs ++ m.signs) ≡ length (take (valley_place o.signs) o.segments ++ map (λ q. q ∷ []) (new_squares o m))
   same_length h = cases (cases_lt 0 (valley_place o.signs))

@@ -28,7 +28,7 @@ row_entry = record { tiling = row_of_two; word = row_word }
 row_is : IsTiling row_of_two
 row_is = tiling_from_test row_of_two refl
 
--- it has this word
+-- the row of two squares has the word 2e
 pub has_word : IsWordOf row_of_two row_word
 has_word = word_by_valleys row_of_two [] (record { x = 0; width = 2; level = 0 } ∷ []) (by_tests _ _ _ refl refl refl refl refl refl, refl, refl)
 
@@ -41,7 +41,7 @@ imperfect perfect = perfect 0 1 (record { x = 0; y = 0; s = 0 }) (lit< tt) (lit<
 canonical : IsCanonical row_of_two
 canonical = canonical_by_test row_of_two row_of_two Same refl (lit≤ tt) refl
 
--- it is an entry of order 2 of the class imperfect
+-- the row of two squares with its word is an entry of order 2 of the class imperfect
 pub entry_is : IsEntry 2 Imperfect row_entry
 entry_is = record { member = record { tiling = row_is; order = refl; simple = simple; class = imperfect; canonical = canonical }; word = has_word }
 
@@ -53,7 +53,7 @@ row_of e is = only_row_of_two e.tiling (is.member).tiling (is.member).order (is.
 pub row_word_of : (e : Entry) → IsEntry 2 Imperfect e → row_word ≡ e.word
 row_word_of e is = a_tiling_has_one_word row_of_two row_word e.word has_word (subst (λ (t : Tiling). IsWordOf t e.word) (row_of e is) is.word)
 
--- so there is no other
+-- the row of two squares with its word is the only entry of order 2 of the class imperfect
 pub only : (e : Entry) → IsEntry 2 Imperfect e → Contains (row_entry ∷ []) e
 only e is = (0, lit< tt, λ i. record { tiling = sym (row_of e is) i; word = row_word_of e is i })
 

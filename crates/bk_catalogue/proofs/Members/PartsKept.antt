@@ -103,10 +103,10 @@ module _ (k : ℕ) (some : 0 < k) where
   times_below i b h = (div-lt_iff_lt-mul some).1 (omega arith)
 
   divided : (a : ℕ) → (k * a) / k ≡ a
-  divided a = ap (λ (n : ℕ). n / k) turned ∙ mul-div_cancel a some
+  divided a = ap (λ (n : ℕ). n / k) exchanged ∙ mul-div_cancel a some
     where
-      turned : k * a ≡ a * k
-      turned = omega arith
+      exchanged : k * a ≡ a * k
+      exchanged = omega arith
 
   module _ (t : Tiling) (r : Rectangle) (tiling : IsTiling t) (part : IsPart t r) where
     abbrev larger : Rectangle

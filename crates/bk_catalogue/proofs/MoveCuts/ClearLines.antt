@@ -189,6 +189,6 @@ clear_along t tiling laid nodes o lines (m ∷ w) a long clear p =
     (clear_move t laid nodes o lines p.0 tiling a long clear p.1 p.2))
     p.4
 
--- so it is with a tiling's word
+-- at the end of a tiling's word no square lies across a line
 pub clear_word : (t : Tiling) (w : Word) → IsTiling t → IsWordOf t w → ClearAtEnd t (after_moves start w) (lines_along start [] w)
 clear_word t w tiling p = clear_along t tiling [] [] start [] w (along_start t tiling) refl (tt, tt) p

@@ -121,7 +121,7 @@ contains_from [] w h = absurd h
 contains_from (v ∷ words) w (inl e) = (zero, omega arith, sym e)
 contains_from (v ∷ words) w (inr h) = let c = contains_from words w h in (suc c.0, omega (arith, c.1), c.2)
 
--- so each part of the tree has a tree count
+-- each part of the tree has a tree count
 pub each_part_of_the_tree_has_a_count : EachPartOfTheTreeHasACount
 each_part_of_the_tree_has_a_count n cursor bound = by (collect (IsInTree n cursor bound) (in_tree_or_not n cursor bound) (words_to n n))
   where

@@ -15,7 +15,7 @@ pub after_under : (signs : List Sign) → signs_after (signs ++ Under ∷ []) �
 after_under [] = refl
 after_under (s ∷ signs) = ap (raised s) (after_under signs)
 
--- where it is above
+-- where the last sign is above, the next signs have even in its place
 pub after_above : (signs : List Sign) → signs_after (signs ++ Above ∷ []) ≡ Some (signs ++ Even ∷ [])
 after_above [] = refl
 after_above (s ∷ signs) = ap (raised s) (after_above signs) ∙ some_more s (signs ++ Even ∷ [])

@@ -86,7 +86,7 @@ one_more_short Above k None h = omega arith
 one_more_short Even k None h = omega arith
 one_more_short Under k None h = tt
 
--- so they are
+-- the next signs after some, where there are any, are no more than those
 pub next_short : (a : List Sign) → IsShort (length a) (signs_after a)
 next_short [] = tt
 next_short (s ∷ a) = one_more_short s (length a) (signs_after a) (next_short a)

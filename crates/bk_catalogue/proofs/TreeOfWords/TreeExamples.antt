@@ -37,7 +37,7 @@ one_word (m ∷ w) t =
     let rest : w ≡ [] = no_move (after_move start m) w (t.legal).1 (omega (arith, order_more m w, t.small, one)) in
     ap (λ (v : Word). m ∷ v) rest ∙ ap (λ (x : Move). x ∷ []) (move_from_parts m first_move one (no_sign m.signs none))
 
--- and so its count is 1
+-- the tree of order 1 has the count 1
 pub one_count : IsTreeCount 1 [] None 1
 one_count = record {
   words = (first_move ∷ []) ∷ [];

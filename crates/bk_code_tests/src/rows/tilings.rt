@@ -63,7 +63,7 @@ pub(crate) fn three_squares() -> Rectangle {
     (3, 2, &[(0, 0, 2), (2, 0, 1), (2, 1, 1)])
 }
 
-/// The same nine squares, turned and twice as large.
+/// Nine squares of a perfect rectangle, turned and twice as large.
 pub(crate) fn turned_squares() -> Rectangle {
     (
         64,

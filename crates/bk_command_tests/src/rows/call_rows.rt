@@ -66,7 +66,7 @@ const SMALL: &str = "9 33x32 [18,15][7,8][14,4][10,1][9] ; 2u.2aa.2ue.2eue.1e\n"
 
 const LARGE: &str = "9 69x61 [36,33][5,28][25,9,2][7][16] ; 2u.2aa.3uue.1ea.1ee\n";
 
-// The same of the commands that write of all their lines together, or of none.
+// A command that writes of all its lines together, or of none, with an input, and the answers.
 fn rows_of_lists() -> &'static [Calls] {
     &[
         (
@@ -171,7 +171,7 @@ fn each_answer_is_one_call(rt: HostRuntime) {
     }
 }
 
-// So is each line about a list, each entry and each last line.
+// Each line about a list is one call, each entry and each last line.
 #[test]
 fn each_line_of_a_list_is_one_call(rt: HostRuntime) {
     for row in rows_of_lists() {
@@ -187,7 +187,7 @@ fn refuses_by_one_call(alloc: Global, command: &str) -> Result<bool, AllocError>
     Ok(stops_so(alloc, command, input.as_slice(), 1, first))
 }
 
-// So is the refusal of an item that is one too many.
+// The refusal of an item that is one too many is one call.
 #[test]
 fn no_more_to_group_is_one_call(rt: HostRuntime) -> Result<(), Fail> {
     assert!(rt; refuses_by_one_call(rt.alloc(), "alike")?);

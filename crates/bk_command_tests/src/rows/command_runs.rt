@@ -78,13 +78,13 @@ pub(crate) fn ends_so<S: Source>(
     }
 }
 
-// The same over an input that is read at once.
+// Whether a command line over an input that is read at once ends with this status and writes this.
 pub(crate) fn ends_at_once(alloc: Global, line: &str, input: &[u8], want: (u8, &[u8])) -> bool {
     let mut source = MemSource::new(input, 9_000, &[]);
     ends_so(alloc, line, &mut source, NO_WRITE, want)
 }
 
-// The same as a row says, where a read gives at most so many bytes.
+// Whether a command line ends with the status and writes what a row says, where a read gives at most so many bytes.
 pub(crate) fn is_row(alloc: Global, most: usize, row: &FailingRow) -> bool
     requires some { 0 < most }
 {
@@ -95,7 +95,7 @@ pub(crate) fn is_row(alloc: Global, most: usize, row: &FailingRow) -> bool
     ends_so(alloc, line, &mut source, *write, want)
 }
 
-// Asserts the same as each of some rows says.
+// Asserts that each command line ends and writes as its row says, where no read and no write fails.
 pub(crate) fn expect_rows(rt: &impl Abort, alloc: Global, most: usize, rows: &[Row])
     requires some { 0 < most }
 {
@@ -105,7 +105,7 @@ pub(crate) fn expect_rows(rt: &impl Abort, alloc: Global, most: usize, rows: &[R
     }
 }
 
-// The same with the reads and the writes that fail.
+// Asserts that each command line ends and writes as its row says, with the reads and the writes that fail.
 pub(crate) fn expect_failing_rows(rt: &impl Abort, alloc: Global, most: usize, rows: &[FailingRow])
     requires some { 0 < most }
 {

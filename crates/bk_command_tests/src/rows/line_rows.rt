@@ -332,7 +332,8 @@ fn tells(alloc: Global, words: &[String], write: FailedWrite, want: (u8, &[u8]))
     status_of(alloc, words, &mut source, &mut out, &mut err) == want.0 && err.written() == want.1
 }
 
-// The same of a command line.
+// Whether a command line with no room for output, whose first read fails, has this status, and the text on errors is
+// this.
 fn line_tells(alloc: Global, line: &str, write: FailedWrite, want: (u8, &[u8])) -> bool {
     match words(alloc, line) {
         Ok(words) => tells(alloc, &words, write, want),

@@ -24,7 +24,7 @@ use Rattle.bk_free_search.proofs.Asks.EvenSigns.{apart_from_own, side_few}
 use Rattle.bk_free_search.proofs.Asks.PassesOn.{ArePartsButLast}
 use Rattle.bk_free_search.proofs.Asks.SharedAround.{marks_behind_shared}
 use Rattle.bk_free_search.specs.Apart.{AreAsks, behind_marks, behind_signs, behind_sizes, joined_marks, wide_first}
-use Rattle.bk_free_search.specs.AskedSigns.{AreBehind, AreMovesLeft, BarsSigns, IsAsked, IsMoveBegun, IsOver, asks_then}
+use Rattle.bk_free_search.specs.AskedSigns.{AreBehind, BarsSigns, IsAsked, IsMoveBegun, IsOver, asks_then}
 use Rattle.bk_free_search.specs.Strong.{seen_passed}
 use Rattle.bk_free_search.specs.declared.asking.Asked.{Asked}
 use Rattle.bk_free_search.specs.declared.asking.Beside.{Beside}
@@ -37,19 +37,23 @@ use Rattle.bk_free_search.specs.declared.strong.Passed.{Passed}
 -- ---- where squares are left
 
 -- a move after which more moves are asked for than are left, or more squares
-strong_is_barred : (n : ℕ) (front : Word) (other : Move) (moves left most more : ℕ) → 3 ≤ n → AreMovesLeft n front moves
-    → order_of front + other.count + left ≡ n → 0 < left → IsLegal (front ++ other ∷ []) → most ≤ strong_bound_of (front ++ other ∷ [])
-    → more ≤ weight_of (front ++ other ∷ []) → (moves < most) ⊎ (left < most + more) → IsNormalBarren n (front ++ other ∷ [])
-strong_is_barred n front other moves left most more least ahead sum some legal bound weight over = cases over
+strong_is_barred : {s : Search} {b : Begun} {around : Beside} (other : Move) (most more : ℕ) → IsMoveBegun s b around → other.count ≡ b.m.count
+    → IsLegal (s.board ++ other ∷ []) → most ≤ strong_bound_of (s.board ++ other ∷ []) → more ≤ weight_of (s.board ++ other ∷ [])
+    → (around.ahead.moves < most) ⊎ (b.next.left < most + more) → IsNormalBarren s.order (s.board ++ other ∷ [])
+strong_is_barred {s = s} {b = b} {around = around} other most more begun count legal bound weight over = cases over
   where
-    few : order_of (front ++ other ∷ []) + left ≡ n
-    few = omega (arith, sum, order_append front (other ∷ []), order_more other [])
+    few : order_of (s.board ++ other ∷ []) + b.next.left ≡ s.order
+    few = omega (arith, begun.next_is.left_is, begun.fits, count, order_append s.board (other ∷ []), order_more other [])
 
-    cases : (moves < most) ⊎ (left < most + more) → IsNormalBarren n (front ++ other ∷ [])
-    cases (inl h) = strong_bound_is_normal_barren n ahead.most (front ++ other ∷ []) least (most_moves_hold_then n ahead.most front other legal ahead.most_is)
-        (omega (arith, length-append front (other ∷ []))) (omega (arith, few, some))
-        (omega (arith, h, bound, ahead.left_is, length-append front (other ∷ [])))
-    cases (inr h) = strong_weight_is_normal_barren n (front ++ other ∷ []) least (omega (arith, length-append front (other ∷ [])))
+    some : 0 < b.next.left
+    some = omega (arith, begun.fits, begun.next_is.left_is)
+
+    cases : (around.ahead.moves < most) ⊎ (b.next.left < most + more) → IsNormalBarren s.order (s.board ++ other ∷ [])
+    cases (inl h) = strong_bound_is_normal_barren s.order begun.around_is.moves_are.most (s.board ++ other ∷ []) begun.least
+        (most_moves_hold_then s.order begun.around_is.moves_are.most s.board other legal begun.around_is.moves_are.most_is)
+        (omega (arith, length-append s.board (other ∷ []))) (omega (arith, few, some))
+        (omega (arith, h, bound, begun.around_is.moves_are.left_is, length-append s.board (other ∷ [])))
+    cases (inr h) = strong_weight_is_normal_barren s.order (s.board ++ other ∷ []) begun.least (omega (arith, length-append s.board (other ∷ [])))
         (omega (arith, few, some)) (omega (arith, h, bound, weight, few))
 
 -- signs that are not even between a move's own squares, but for the last one
@@ -138,20 +142,15 @@ walled false e = absurd (omega (arith, e))
 
 module _ {s : Search} {b : Begun} {around : Beside} (begun : IsMoveBegun s b around) (signs : List Sign) (asked : Asked)
     (asked_is : IsAsked s.board signs asked) where
-  -- squares are left after it
-  some : 0 < b.next.left
-  some = omega (arith, begun.fits, begun.next_is.left_is)
-
   -- with all the signs of a move, which goes on by no other
   whole_is_barren : (other : Move) → other.count ≡ b.m.count → other.signs ≡ signs → IsLegal (s.board ++ other ∷ [])
       → IsOver asked.passed (asks_then around.behind asked.passed.low) around.ahead.moves b.next.left → IsNormalBarren s.order (s.board ++ other ∷ [])
   whole_is_barren other count are legal over =
       let both = then_told s.board other asked around.behind legal (subst (λ (l : List Sign). IsAsked s.board l asked) (sym are) asked_is)
       begun.around_is.behind_is asked.passed.low refl in
-      strong_is_barred s.order s.board other around.ahead.moves b.next.left
+      strong_is_barred other
       (max (asked.passed.most + (asks_then around.behind asked.passed.low).add) (asked.passed.aboves + (asks_then around.behind asked.passed.low).most))
-      (asked.passed.more + (asks_then around.behind asked.passed.low).more) begun.least begun.around_is.moves_are
-      (omega (arith, begun.next_is.left_is, begun.fits, count)) some legal both.0 both.1
+      (asked.passed.more + (asks_then around.behind asked.passed.low).more) begun count legal both.0 both.1
       (weighed asked.passed (asks_then around.behind asked.passed.low) around.ahead.moves b.next.left over)
 
   -- where all signs are there
@@ -198,8 +197,6 @@ module _ {s : Search} {b : Begun} {around : Beside} (begun : IsMoveBegun s b aro
           let both = asked_with_some s.board other legal (seen_passed asked.passed) signs sign more around.behind.even are (asked_is.counted other
           (sign ∷ more) legal are)
           (parted s.board other signs sign more move are from none) begun.around_is.behind_is.even in
-          strong_is_barred s.order s.board other around.ahead.moves b.next.left
-          (max (asked.passed.most + around.behind.even.add) (asked.passed.aboves + around.behind.even.most))
-          (asked.passed.more + around.behind.even.more) begun.least begun.around_is.moves_are
-          (omega (arith, begun.next_is.left_is, begun.fits, count)) some legal both.0 both.1
+          strong_is_barred other (max (asked.passed.most + around.behind.even.add) (asked.passed.aboves + around.behind.even.most))
+          (asked.passed.more + around.behind.even.more) begun count legal both.0 both.1
           (weighed asked.passed around.behind.even around.ahead.moves b.next.left over)

@@ -184,7 +184,7 @@ module _ (low : Bool) (w : Word) (signs : List Sign) (sizes : List ℕ) (place :
         (shape_of_word w legal).many,
       ))))
 
-  -- so where more segments stand behind it
+  -- what the segments behind the valley ask for by the lists, where more than one stands there, with marks of their own, the word does with those marks
   pub told_more : place + 1 < length signs → (mark : ℕ → Bool)
       → asks_there (slice_index_or signs (place + 1) Above ∷ drop (place + 1 + 1) signs) (drop (place + 1 + 1) sizes) (mark (place + 1))
       (drop (place + 1 + 1) (marks_of_word w)) → asks_of_word (mark (valley_place (outline_of w).signs + 1))

@@ -18,7 +18,7 @@ use Rattle.bk_layout.specs.StrongBound.{strong_bound_of, strong_from, weight_fro
 use Rattle.bk_layout.specs.StrongPass.{IsCounted, IsNoMore, Passed, pass_along}
 use Rattle.bk_layout.specs.WordNumbers.{first_count}
 use Rattle.bk_free_search.proofs.Asks.CountedSigns.{marks_long, signs_long, sizes_long}
-use Rattle.bk_free_search.proofs.Asks.PassesOn.{ArePartsButLast, further_signs, joined_counts, joined_on}
+use Rattle.bk_free_search.proofs.Asks.PassesOn.{AreFurther, ArePartsButLast, Further, Segments, further_signs, joined_counts, joined_on}
 use Rattle.bk_free_search.proofs.Asks.SharedAround.{joined_marks_shared, marks_behind_shared, signs_behind, sizes_behind}
 use Rattle.bk_free_search.specs.Apart.{AreAskedBehind, IsCountedTo, behind_marks, behind_signs, behind_sizes, joined_marks, marks_apart, sizes_apart}
 use Rattle.bk_free_search.specs.Apart.{wide_first}
@@ -46,85 +46,143 @@ all_told p signs sizes fewer marks many long same each = onto (the_pass_is_stron
     }
 
 -- where some are still to come
-some_told : (p : Passed) (sign : Sign) (more signs : List Sign) (own : List ℕ) (owns : List Bool) (size : ℕ) (sizes : List ℕ) (joined mark : Bool)
-    (fewer marks : List Bool) → ArePartsButLast (sign ∷ more) → length sizes ≡ length signs → length marks ≡ length sizes
-    → length fewer ≡ length marks → length own ≡ length more + 1 → length owns ≡ length more + 1
-    → (slice_index_or (sign ∷ more) (length more) Above ≡ Even → joined ≡ true → mark ≡ true)
-    → ((t : ℕ) → slice_index_or fewer t false ≡ true → slice_index_or marks t false ≡ true)
-    → EndsWith (pass_along p ((sign ∷ more) ++ signs) (own ++ size ∷ sizes) (owns ++ mark ∷ marks))
-    (max (p.most + count_by is_under signs + weight_from false signs (size ∷ sizes))
-    (p.aboves + strong_from false signs (size ∷ sizes) (joined ∷ fewer))) (p.more + weight_from false signs (size ∷ sizes))
-some_told p sign more signs own owns size sizes joined mark fewer marks apart many long same a b last each = onto
-    (joined_counts p signs size sizes joined marks many long (the_pass_is_strong p signs (2 ∷ sizes) (joined ∷ marks) (omega (arith, many)) (omega
-    (arith, long))))
-    (further_signs p sign more signs own owns size sizes joined mark marks apart many long a b last)
+some_told : (p : Passed) (own : Further) (behind : Segments) (size : ℕ) (joined mark : Bool) (fewer : List Bool) → AreFurther own behind joined mark
+    → length fewer ≡ length behind.marks → ((t : ℕ) → slice_index_or fewer t false ≡ true → slice_index_or behind.marks t false ≡ true)
+    → EndsWith (pass_along p ((own.sign ∷ own.more) ++ behind.signs) (own.sizes ++ size ∷ behind.sizes) (own.marks ++ mark ∷ behind.marks))
+    (max (p.most + count_by is_under behind.signs + weight_from false behind.signs (size ∷ behind.sizes))
+    (p.aboves + strong_from false behind.signs (size ∷ behind.sizes) (joined ∷ fewer))) (p.more + weight_from false behind.signs (size ∷ behind.sizes))
+some_told p own behind size joined mark fewer further same each = onto
+    (joined_counts p behind.signs size behind.sizes joined behind.marks further.many_behind further.long_behind
+    (the_pass_is_strong p behind.signs (2 ∷ behind.sizes) (joined ∷ behind.marks) (omega (arith, further.many_behind))
+    (omega (arith, further.long_behind))))
+    (further_signs behind size joined mark p own.sign own.more own.sizes own.marks further)
   where
-    each_then : (t : ℕ) → slice_index_or (joined ∷ fewer) t false ≡ true → slice_index_or (joined ∷ marks) t false ≡ true
+    each_then : (t : ℕ) → slice_index_or (joined ∷ fewer) t false ≡ true → slice_index_or (joined ∷ behind.marks) t false ≡ true
     each_then zero e = e
     each_then (suc t) e = each t e
 
-    onto : ((joined_on p signs sizes joined marks).most
-        ≡ max (p.most + count_by is_under signs + weight_from false signs (size ∷ sizes)) (p.aboves + strong_from false signs (size ∷ sizes) (joined ∷ marks)))
-        × ((joined_on p signs sizes joined marks).more ≡ p.more + weight_from false signs (size ∷ sizes))
-        → IsNoMore (joined_on p signs sizes joined marks) (pass_along p ((sign ∷ more) ++ signs) (own ++ size ∷ sizes) (owns ++ mark ∷ marks))
-        → EndsWith (pass_along p ((sign ∷ more) ++ signs) (own ++ size ∷ sizes) (owns ++ mark ∷ marks))
-        (max (p.most + count_by is_under signs + weight_from false signs (size ∷ sizes))
-        (p.aboves + strong_from false signs (size ∷ sizes) (joined ∷ fewer))) (p.more + weight_from false signs (size ∷ sizes))
+    onto : ((joined_on p behind.signs behind.sizes joined behind.marks).most
+        ≡ max (p.most + count_by is_under behind.signs + weight_from false behind.signs (size ∷ behind.sizes))
+        (p.aboves + strong_from false behind.signs (size ∷ behind.sizes) (joined ∷ behind.marks)))
+        × ((joined_on p behind.signs behind.sizes joined behind.marks).more ≡ p.more + weight_from false behind.signs (size ∷ behind.sizes))
+        → IsNoMore (joined_on p behind.signs behind.sizes joined behind.marks)
+        (pass_along p ((own.sign ∷ own.more) ++ behind.signs) (own.sizes ++ size ∷ behind.sizes) (own.marks ++ mark ∷ behind.marks))
+        → EndsWith (pass_along p ((own.sign ∷ own.more) ++ behind.signs) (own.sizes ++ size ∷ behind.sizes) (own.marks ++ mark ∷ behind.marks))
+        (max (p.most + count_by is_under behind.signs + weight_from false behind.signs (size ∷ behind.sizes))
+        (p.aboves + strong_from false behind.signs (size ∷ behind.sizes) (joined ∷ fewer)))
+        (p.more + weight_from false behind.signs (size ∷ behind.sizes))
     onto c d = record {
       most_least = omega (
         arith,
         c.0,
         d.most,
-        fewer_marks_ask_less false signs (size ∷ sizes) (joined ∷ fewer) (joined ∷ marks) (omega (arith, same)) each_then,
+        fewer_marks_ask_less false behind.signs (size ∷ behind.sizes) (joined ∷ fewer) (joined ∷ behind.marks) (omega (arith, same)) each_then,
       );
       more_least = omega (arith, c.1, d.more);
     }
 
+-- of all segments, those from a place on have this sign and more ones behind them, up to the end, where other ones begin, which stand behind. Each of
+-- these is marked only if it is so among all, but for the first one where the sign before it isn't even
+record ComeBefore (sign : Sign) (more : List Sign) (all behind : Segments) (i : ℕ) : Type 0 where
+  end : ℕ
+  end_is : i + (length more + 1) ≡ end
+  signs_are : drop i all.signs ≡ (sign ∷ more) ++ behind.signs
+  sizes_are : drop end all.sizes ≡ behind.sizes
+  many : length all.sizes ≡ length all.signs + 1
+  long : length all.marks ≡ length all.signs + 1
+  low : i ≤ length all.signs
+  many_behind : length behind.sizes ≡ length behind.signs + 1
+  long_behind : length behind.marks ≡ length behind.sizes
+  apart : ArePartsButLast (sign ∷ more)
+  last : slice_index_or (sign ∷ more) (length more) Above ≡ Even → slice_index_or behind.marks 0 false ≡ true → slice_index_or all.marks end false ≡ true
+  each : (t : ℕ) → slice_index_or behind.marks (suc t) false ≡ true → slice_index_or all.marks (end + suc t) false ≡ true
+
+-- one pass ends with at least what segments of these signs, sizes and marks ask for behind what another pass has counted
+abbrev EndsBehind : Passed → Passed → List Sign → List ℕ → List Bool → Type 0
+EndsBehind p q signs sizes marks = EndsWith q
+    (max (p.most + count_by is_under signs + weight_from false signs sizes) (p.aboves + strong_from false signs sizes marks))
+    (p.more + weight_from false signs sizes)
+
 -- if some signs are to come, what is asked for by places in the lists of all segments
-some_at : (p : Passed) (sign : Sign) (more signs all : List Sign) (sizes behind : List ℕ) (marks fewer : List Bool) (i e : ℕ)
-    → drop i all ≡ (sign ∷ more) ++ signs → drop e sizes ≡ behind → i + (length more + 1) ≡ e → length sizes ≡ length all + 1 → length marks ≡ length all + 1
-    → i ≤ length all → length behind ≡ length signs + 1 → length fewer ≡ length behind → ArePartsButLast (sign ∷ more)
-    → (slice_index_or (sign ∷ more) (length more) Above ≡ Even → slice_index_or fewer 0 false ≡ true → slice_index_or marks e false ≡ true)
-    → ((t : ℕ) → slice_index_or fewer (suc t) false ≡ true → slice_index_or marks (e + suc t) false ≡ true)
-    → EndsWith (pass_along p (drop i all) (drop i sizes) (drop i marks))
-    (max (p.most + count_by is_under signs + weight_from false signs behind) (p.aboves + strong_from false signs behind fewer))
-    (p.more + weight_from false signs behind)
-some_at p sign more signs all sizes [] marks fewer i e a z at many long low same few apart last each = absurd (omega (arith, same))
-some_at p sign more signs all sizes (size ∷ behind) marks [] i e a z at many long low same few apart last each = absurd (omega (arith, few))
-some_at p sign more signs all sizes (size ∷ behind) marks (joined ∷ fewer) i e a z at many long low same few apart last each =
-    subst (λ (q : Passed). EndsWith q (max (p.most + count_by is_under signs + weight_from false signs (size ∷ behind))
-    (p.aboves + strong_from false signs (size ∷ behind) (joined ∷ fewer))) (p.more + weight_from false signs (size ∷ behind))) (sym whole)
-    (some_told p sign more signs (take (length more + 1) (drop i sizes)) (take (length more + 1) (drop i marks)) size behind joined
-    (slice_index_or marks e false) fewer (drop (e + 1) marks) apart (omega (arith, same))
-    (omega (arith, same, all_long, long, at, length-drop (e + 1) marks)) (omega (arith, few, same, all_long, long, at, length-drop (e + 1) marks))
-    (omega (arith, all_long, many, low, length-take (length more + 1) (drop i sizes), length-drop i sizes))
-    (omega (arith, all_long, long, low, length-take (length more + 1) (drop i marks), length-drop i marks)) last
-    (λ t f. get_or-drop (e + 1) marks t false ∙ ap (λ k. slice_index_or marks k false) (next t) ∙ each t f))
+some_at : (p : Passed) (sign : Sign) (more : List Sign) (all behind : Segments) (i : ℕ) → ComeBefore sign more all behind i
+    → EndsBehind p (pass_along p (drop i all.signs) (drop i all.sizes) (drop i all.marks)) behind.signs behind.sizes behind.marks
+some_at p sign more all behind i come = cases behind.sizes behind.marks refl refl
   where
-    next : (t : ℕ) → e + 1 + t ≡ e + suc t
+    all_long : length all.signs ≡ i + (length more + 1) + length behind.signs
+    all_long = omega (
+      arith,
+      come.low,
+      ap (λ (l : List Sign). length l) come.signs_are,
+      length-append (sign ∷ more) behind.signs,
+      length-drop i all.signs,
+    )
+
+    next : (t : ℕ) → come.end + 1 + t ≡ come.end + suc t
     next t = omega arith
 
-    all_long : length all ≡ i + (length more + 1) + length signs
-    all_long = omega (arith, low, ap (λ (l : List Sign). length l) a, length-append (sign ∷ more) signs, length-drop i all)
+    mark_seam : drop (length more + 1) (drop i all.marks) ≡ slice_index_or all.marks come.end false ∷ drop (come.end + 1) all.marks
+    mark_seam = drop-drop (length more + 1) i all.marks ∙ ap (λ k. drop k all.marks) come.end_is
+        ∙ drop_more all.marks come.end false (omega (arith, come.long, all_long, come.end_is))
 
-    seam : drop (length more + 1) (drop i sizes) ≡ size ∷ behind
-    seam = drop-drop (length more + 1) i sizes ∙ ap (λ k. drop k sizes) sum ∙ z
+    marks_are : drop i all.marks ≡ take (length more + 1) (drop i all.marks) ++ slice_index_or all.marks come.end false ∷ drop (come.end + 1) all.marks
+    marks_are = sym (take-append-drop (length more + 1) (drop i all.marks)) ∙ ap (λ l. take (length more + 1) (drop i all.marks) ++ l) mark_seam
+
+    cases : (sizes : List ℕ) (fewer : List Bool) → behind.sizes ≡ sizes → behind.marks ≡ fewer
+        → EndsBehind p (pass_along p (drop i all.signs) (drop i all.sizes) (drop i all.marks)) behind.signs sizes fewer
+    cases [] fewer a b = absurd (omega (arith, come.many_behind, ap (λ (l : List ℕ). length l) a))
+    cases (size ∷ sizes) [] a b = absurd (omega (
+      arith,
+      come.many_behind,
+      come.long_behind,
+      ap (λ (l : List Bool). length l) b,
+    ))
+    cases (size ∷ sizes) (joined ∷ fewer) a b = subst (λ (q : Passed). EndsBehind p q behind.signs (size ∷ sizes) (joined ∷ fewer)) (sym whole)
+        (some_told p
+        (record { sign = sign; more = more; sizes = take (length more + 1) (drop i all.sizes); marks = take (length more + 1) (drop i all.marks) })
+        (record { signs = behind.signs; sizes = sizes; marks = drop (come.end + 1) all.marks })
+        size joined (slice_index_or all.marks come.end false) fewer
+        (record {
+          apart = come.apart;
+          many = omega (
+            arith,
+            all_long,
+            come.many,
+            come.low,
+            length-take (length more + 1) (drop i all.sizes),
+            length-drop i all.sizes,
+          );
+          long = omega (
+            arith,
+            all_long,
+            come.long,
+            come.low,
+            length-take (length more + 1) (drop i all.marks),
+            length-drop i all.marks,
+          );
+          many_behind = omega (arith, many);
+          long_behind = omega (arith, many, all_long, come.long, come.end_is, length-drop (come.end + 1) all.marks);
+          last = λ even marked. come.last even (ap (λ (l : List Bool). slice_index_or l 0 false) b ∙ marked);
+        })
+        (omega (arith, long, many, all_long, come.long, come.end_is, length-drop (come.end + 1) all.marks))
+        (λ t e. get_or-drop (come.end + 1) all.marks t false ∙ ap (λ k. slice_index_or all.marks k false) (next t)
+        ∙ come.each t (ap (λ (l : List Bool). slice_index_or l (suc t) false) b ∙ e)))
       where
-        sum : i + (length more + 1) ≡ e
-        sum = at
+        many : length sizes ≡ length behind.signs
+        many = omega (arith, come.many_behind, ap (λ (l : List ℕ). length l) a)
 
-    mark_seam : drop (length more + 1) (drop i marks) ≡ slice_index_or marks e false ∷ drop (e + 1) marks
-    mark_seam = drop-drop (length more + 1) i marks ∙ ap (λ k. drop k marks) at ∙ drop_more marks e false (omega (arith, long, all_long, at))
+        long : length fewer ≡ length sizes
+        long = omega (arith, come.long_behind, ap (λ (l : List ℕ). length l) a, ap (λ (l : List Bool). length l) b)
 
-    sizes_are : drop i sizes ≡ take (length more + 1) (drop i sizes) ++ size ∷ behind
-    sizes_are = sym (take-append-drop (length more + 1) (drop i sizes)) ∙ ap (λ l. take (length more + 1) (drop i sizes) ++ l) seam
+        seam : drop (length more + 1) (drop i all.sizes) ≡ size ∷ sizes
+        seam = drop-drop (length more + 1) i all.sizes ∙ ap (λ k. drop k all.sizes) come.end_is ∙ come.sizes_are ∙ a
 
-    marks_are : drop i marks ≡ take (length more + 1) (drop i marks) ++ slice_index_or marks e false ∷ drop (e + 1) marks
-    marks_are = sym (take-append-drop (length more + 1) (drop i marks)) ∙ ap (λ l. take (length more + 1) (drop i marks) ++ l) mark_seam
+        sizes_are : drop i all.sizes ≡ take (length more + 1) (drop i all.sizes) ++ size ∷ sizes
+        sizes_are = sym (take-append-drop (length more + 1) (drop i all.sizes)) ∙ ap (λ l. take (length more + 1) (drop i all.sizes) ++ l) seam
 
-    whole : pass_along p (drop i all) (drop i sizes) (drop i marks) ≡ pass_along p ((sign ∷ more) ++ signs)
-        (take (length more + 1) (drop i sizes) ++ size ∷ behind) (take (length more + 1) (drop i marks) ++ slice_index_or marks e false ∷ drop (e + 1) marks)
-    whole = λ j. pass_along p (a j) (sizes_are j) (marks_are j)
+        whole : pass_along p (drop i all.signs) (drop i all.sizes) (drop i all.marks) ≡ pass_along p ((sign ∷ more) ++ behind.signs)
+            (take (length more + 1) (drop i all.sizes) ++ size ∷ sizes)
+            (take (length more + 1) (drop i all.marks) ++ slice_index_or all.marks come.end false ∷ drop (come.end + 1) all.marks)
+        whole = λ j. pass_along p (come.signs_are j) (sizes_are j) (marks_are j)
 
 -- ---- after a next move
 
@@ -275,12 +333,24 @@ module _ (front : Word) (m : Move) (legal : IsLegal (front ++ m ∷ [])) where
       → ArePartsButLast (sign ∷ more_signs) → AreAskedBehind false (joined_marks front) front asks
       → (max (p.most + asks.add) (p.aboves + asks.most) ≤ strong_bound_of (front ++ m ∷ [])) × (p.more + asks.more ≤ weight_of (front ++ m ∷ []))
   asked_with_some p signs sign more_signs asks are counted apart asked = onto
-      (some_at p sign more_signs (behind_signs (outline_of front)) (signs_apart (outline_of front) m) (sizes_apart front m)
-      (behind_sizes (outline_of front)) (marks_apart front m) (joined_marks front)
-      (valley_place (outline_of front).signs - 1 + length signs) (valley_place (outline_of front).signs - 1 + length m.signs) from
-      (sizes_behind front m legal) (omega (arith, long)) (sizes_long front m legal) (marks_long front m legal)
-      (omega (arith, signs_long front m legal, long)) behind_long joined_marks_long apart last
-      (λ t e. marks_behind_shared front m legal (suc t) (joined_rest t e)))
+      (some_at p sign more_signs
+      (record { signs = signs_apart (outline_of front) m; sizes = sizes_apart front m; marks = marks_apart front m })
+      (record { signs = behind_signs (outline_of front); sizes = behind_sizes (outline_of front); marks = joined_marks front })
+      (valley_place (outline_of front).signs - 1 + length signs)
+      (record {
+        end = valley_place (outline_of front).signs - 1 + length m.signs;
+        end_is = omega (arith, long);
+        signs_are = from;
+        sizes_are = sizes_behind front m legal;
+        many = sizes_long front m legal;
+        long = marks_long front m legal;
+        low = omega (arith, signs_long front m legal, long);
+        many_behind = behind_long;
+        long_behind = joined_marks_long;
+        apart = apart;
+        last = last;
+        each = λ t e. marks_behind_shared front m legal (suc t) (joined_rest t e);
+      }))
     where
       long : length m.signs ≡ length signs + (length more_signs + 1)
       long = omega (arith, ap (λ (l : List Sign). length l) are, length-append signs (sign ∷ more_signs))

@@ -20,7 +20,7 @@ use Rattle.bk_layout.proofs.NormalCuts.WideSegments.{wide_long}
 use Rattle.bk_layout.specs.StrongBound.{strong_bound_of, strong_from, weight_from, weight_of}
 use Rattle.bk_layout.specs.StrongPass.{IsBoundCounted, IsNoMore, Passed, none_passed, pass, pass_along}
 use Rattle.bk_layout.specs.WordNumbers.{first_count}
-use Rattle.bk_free_search.proofs.Asks.PassesOn.{fewer_marks, goes_on, mark_before}
+use Rattle.bk_free_search.proofs.Asks.PassesOn.{Segments, fewer_marks, goes_on, mark_before}
 use Rattle.bk_free_search.specs.Strong.{with_mark}
 use Rattle.bk_free_search.proofs.Asks.SharedMarks.{shared_long, strong_shared}
 use Rattle.bk_free_search.specs.Apart.{IsCountedTo, marks_apart, marks_of_word, sizes_apart}
@@ -54,23 +54,25 @@ right_open p n within = cases (two p n within)
     cases (inr h) = omega (arith, h, no_wall p n (λ e. absurd (omega (arith, e, h))))
 
 -- one segment on
-one_on : (signs : List Sign) (sizes : List ℕ) (marks : List Bool) (i : ℕ) (p : Passed) (sign : Sign) (size : ℕ) (mark : Bool)
-    → length sizes ≡ length signs + 1 → length marks ≡ length signs + 1 → i < length signs → slice_index_or signs i Above ≡ sign
-    → slice_index_or sizes i 0 ≡ size → (mark ≡ true → slice_index_or marks i false ≡ true)
-    → IsNoMore (pass_along (pass p sign size mark) (drop (i + 1) signs) (drop (i + 1) sizes) (drop (i + 1) marks))
-    (pass_along p (drop i signs) (drop i sizes) (drop i marks))
-one_on signs sizes marks i p sign size mark many long low s z k = subst (IsNoMore (pass_along (pass p sign size mark) (drop (i + 1) signs) (drop (i + 1) sizes)
-    (drop (i + 1) marks))) (sym same)
-    (goes_on (pass p sign size mark) (pass p sign size (slice_index_or marks i false)) (drop (i + 1) signs) (drop (i + 1) sizes) (drop (i + 1) marks)
-    (omega (arith, low, many, length-drop (i + 1) signs, length-drop (i + 1) sizes))
-    (omega (arith, low, many, long, length-drop (i + 1) sizes, length-drop (i + 1) marks))
-    (fewer_marks p sign size mark (slice_index_or marks i false) k))
+one_on : (all : Segments) (i : ℕ) (p : Passed) (sign : Sign) (size : ℕ) (mark : Bool)
+    → length all.sizes ≡ length all.signs + 1 → length all.marks ≡ length all.signs + 1 → i < length all.signs → slice_index_or all.signs i Above ≡ sign
+    → slice_index_or all.sizes i 0 ≡ size → (mark ≡ true → slice_index_or all.marks i false ≡ true)
+    → IsNoMore (pass_along (pass p sign size mark) (drop (i + 1) all.signs) (drop (i + 1) all.sizes) (drop (i + 1) all.marks))
+    (pass_along p (drop i all.signs) (drop i all.sizes) (drop i all.marks))
+one_on all i p sign size mark many long low s z k = subst
+    (IsNoMore (pass_along (pass p sign size mark) (drop (i + 1) all.signs) (drop (i + 1) all.sizes) (drop (i + 1) all.marks))) (sym same)
+    (goes_on (pass p sign size mark) (pass p sign size (slice_index_or all.marks i false)) (drop (i + 1) all.signs) (drop (i + 1) all.sizes)
+    (drop (i + 1) all.marks)
+    (omega (arith, low, many, length-drop (i + 1) all.signs, length-drop (i + 1) all.sizes))
+    (omega (arith, low, many, long, length-drop (i + 1) all.sizes, length-drop (i + 1) all.marks))
+    (fewer_marks p sign size mark (slice_index_or all.marks i false) k))
   where
-    same : pass_along p (drop i signs) (drop i sizes) (drop i marks)
-        ≡ pass_along (pass p sign size (slice_index_or marks i false)) (drop (i + 1) signs) (drop (i + 1) sizes) (drop (i + 1) marks)
-    same = (λ j. pass_along p (drop_more signs i Above low j) (drop_more sizes i 0 (omega (arith, low, many)) j)
-        (drop_more marks i false (omega (arith, low, long)) j))
-        ∙ (λ j. pass_along (pass p (s j) (z j) (slice_index_or marks i false)) (drop (i + 1) signs) (drop (i + 1) sizes) (drop (i + 1) marks))
+    same : pass_along p (drop i all.signs) (drop i all.sizes) (drop i all.marks)
+        ≡ pass_along (pass p sign size (slice_index_or all.marks i false)) (drop (i + 1) all.signs) (drop (i + 1) all.sizes) (drop (i + 1) all.marks)
+    same = (λ j. pass_along p (drop_more all.signs i Above low j) (drop_more all.sizes i 0 (omega (arith, low, many)) j)
+        (drop_more all.marks i false (omega (arith, low, long)) j))
+        ∙ (λ j. pass_along (pass p (s j) (z j) (slice_index_or all.marks i false)) (drop (i + 1) all.signs) (drop (i + 1) all.sizes)
+        (drop (i + 1) all.marks))
 
 module _ (front : Word) (m : Move) (legal : IsLegal (front ++ m ∷ [])) where
   -- the last move of a legal word is legal after the moves before it
@@ -176,7 +178,8 @@ module _ (front : Word) (m : Move) (legal : IsLegal (front ++ m ∷ [])) where
   pub counted_more : (i : ℕ) (p : Passed) (sign : Sign) (size : ℕ) (mark : Bool) → i < length (signs_apart (outline_of front) m) → IsCountedTo front m i p
       → slice_index_or (signs_apart (outline_of front) m) i Above ≡ sign → slice_index_or (sizes_apart front m) i 0 ≡ size
       → (mark ≡ true → slice_index_or (marks_apart front m) i false ≡ true) → IsCountedTo front m (i + 1) (pass p sign size mark)
-  counted_more i p sign size mark low h s z k = onto (one_on (signs_apart (outline_of front) m) (sizes_apart front m) (marks_apart front m) i p sign size mark
+  counted_more i p sign size mark low h s z k = onto (one_on
+      (record { signs = signs_apart (outline_of front) m; sizes = sizes_apart front m; marks = marks_apart front m }) i p sign size mark
       sizes_long marks_long low s z k)
     where
       onto : IsNoMore (pass_along (pass p sign size mark) (drop (i + 1) (signs_apart (outline_of front) m)) (drop (i + 1) (sizes_apart front m))

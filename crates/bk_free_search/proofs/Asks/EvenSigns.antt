@@ -72,7 +72,7 @@ module _ (n : ℕ) (front : Word) (m : Move) where
   own_even_is_barred i from to even = normal n (front ++ m ∷ []) (cut n (front ++ m ∷ []) (even_squares_are_free_barren n front m
       (contained (open_side (has_left_wall (outline_of front))) (m.count - 1) i m.signs Even from to even)))
 
-  -- so a move is barren if it is where no such sign is even
+  -- a move is barren if it is where none of the signs between its own squares is even
   pub apart_from_own : (IsLegalMove (outline_of front) m
       → ((i : ℕ) → open_side (has_left_wall (outline_of front)) ≤ i → i < open_side (has_left_wall (outline_of front)) + (m.count - 1)
       → slice_get m.signs i ≡ Some Even → ⊥) → IsNormalBarren n (front ++ m ∷ [])) → IsNormalBarren n (front ++ m ∷ [])
@@ -95,16 +95,15 @@ next_lacks_evens n front evens needed over m = apart_from_own n front m (λ lega
       (side_few (has_left_wall (outline_of front))) (λ i from to even. not i from (omega (arith, to, legal.signs, legal.some)) even),
 )))
 
--- nor where its first signs have fewer, by so many as may still come
-pub signs_lack_evens : (n : ℕ) (front : Word) (signs : List Sign) (other : Move) (more : List Sign) (evens found still : ℕ) → AreEvensNeeded n front evens
-    → 0 < length signs → other.signs ≡ signs ++ more → found ≡ count_by is_even signs → found + still < evens
+-- no next move has as many even signs as are needed where its first signs have fewer, by more than may still come
+pub signs_lack_evens : (n : ℕ) (front : Word) (signs : List Sign) (other : Move) (more : List Sign) (evens still : ℕ) → AreEvensNeeded n front evens
+    → 0 < length signs → other.signs ≡ signs ++ more → count_by is_even signs + still < evens
     → (length signs + 1 < other.count + open_side (has_left_wall (outline_of front)) + open_side (has_right_wall (outline_of front))
     → open_side (has_right_wall (outline_of front)) ≤ still)
     → IsNormalBarren n (front ++ other ∷ [])
-signs_lack_evens n front signs other more evens found still needed some are found_is over may = apart_from_own n front other (λ legal not. needed other (omega (
+signs_lack_evens n front signs other more evens still needed some are over may = apart_from_own n front other (λ legal not. needed other (omega (
   arith,
   over,
-  found_is,
   ap (count_by is_even) are,
   evens_append signs more,
   rest legal not more are,

@@ -106,7 +106,7 @@ module _ (top : ℕ) (lines : List Bool) (sizes ends : List ℕ) where
     begins_there zero (q ∷ squares) some has on = absurd (omega (arith, some))
     begins_there (suc n) (q ∷ squares) some has on = on
 
-    -- it is marked where one of its squares, or the next one, stands at a line, and where it has enough squares
+    -- a segment is marked where one of its squares, or the next one, stands at a line, and where it has enough squares
     pub marked_there : (places : LineSet)
         → ((j : ℕ) → Has places j → (j < length ends) × (on_line lines (slice_index_or ends j 0) ≡ true)) → AreFilled sizes
         → HasOneFrom places start (slice_index_or sizes i 0) ⊎ (top ≤ slice_index_or sizes i 0)

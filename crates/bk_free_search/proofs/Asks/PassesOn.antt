@@ -19,7 +19,7 @@ pub record IsNoMoreSoFar (p q : Passed) : Type 0 where
   pub more : p.more ≤ q.more
   pub low : p.low ≡ q.low
 
--- so it ends with no more
+-- where one pass before a segment has counted no more than another, it ends with no more
 pub goes_on : (p q : Passed) (signs : List Sign) (sizes : List ℕ) (marks : List Bool) → length sizes ≡ length signs + 1 → length marks ≡ length sizes
     → IsNoMoreSoFar p q → IsNoMore (pass_along p signs sizes marks) (pass_along q signs sizes marks)
 goes_on p q signs sizes marks many long h = onto (the_pass_is_strong p signs sizes marks many long) (the_pass_is_strong q signs sizes marks many long)
@@ -136,31 +136,61 @@ even_joins p signs own size sizes first joined mark marks f many long =
 abbrev pub ArePartsButLast : List Sign → Type 0
 ArePartsButLast signs = (i : ℕ) → suc i < length signs → slice_index_or signs i Above ≡ Even → ⊥
 
--- whatever signs come, where the last one may be even
-pub further_signs : (p : Passed) (sign : Sign) (more signs : List Sign) (sizes : List ℕ) (marks : List Bool) (size : ℕ) (behind : List ℕ) (joined mark : Bool)
-    (rest : List Bool) → ArePartsButLast (sign ∷ more) → length behind ≡ length signs → length rest ≡ length behind
-    → length sizes ≡ length more + 1 → length marks ≡ length more + 1
-    → (slice_index_or (sign ∷ more) (length more) Above ≡ Even → joined ≡ true → mark ≡ true)
-    → IsNoMore (joined_on p signs behind joined rest)
-    (pass_along p ((sign ∷ more) ++ signs) (sizes ++ size ∷ behind) (marks ++ mark ∷ rest))
-further_signs p sign more signs [] marks size behind joined mark rest apart many long a b last = absurd (omega (arith, a))
-further_signs p sign more signs (n ∷ sizes) [] size behind joined mark rest apart many long a b last = absurd (omega (arith, b))
-further_signs p Even [] signs (n ∷ []) (c ∷ []) size behind joined mark rest apart many long a b last =
-    even_joins p signs n size behind c joined mark rest (last refl) many long
-further_signs p Above [] signs (n ∷ []) (c ∷ []) size behind joined mark rest apart many long a b last =
-    even_asks_least p Above [] signs n [] 2 size behind c [] joined mark rest ((λ e. absurd (cc)), tt) (omega arith) refl refl many long
-further_signs p Under [] signs (n ∷ []) (c ∷ []) size behind joined mark rest apart many long a b last =
-    even_asks_least p Under [] signs n [] 2 size behind c [] joined mark rest ((λ e. absurd (cc)), tt) (omega arith) refl refl many long
-further_signs p sign [] signs (n ∷ k ∷ sizes) (c ∷ marks) size behind joined mark rest apart many long a b last = absurd (omega (arith, a))
-further_signs p sign [] signs (n ∷ []) (c ∷ d ∷ marks) size behind joined mark rest apart many long a b last = absurd (omega (arith, b))
-further_signs p sign (s ∷ more) signs (n ∷ sizes) (c ∷ marks) size behind joined mark rest apart many long a b last = onto
-    (even_asks_least p sign [] signs n [] 2 2 behind c [] joined joined rest ((λ e. apart 0 (omega arith) e), tt) (omega arith) refl refl many long)
-    (further_signs (pass p sign n c) s more signs sizes marks size behind joined mark rest (λ i low e. apart (suc i) (omega (arith, low)) e) many long
-    (omega (arith, a)) (omega (arith, b)) last)
-  where
-    onto : IsNoMore (joined_on p signs behind joined rest) (joined_on (pass p sign n c) signs behind joined rest)
-        → IsNoMore (joined_on (pass p sign n c) signs behind joined rest)
-        (pass_along (pass p sign n c) ((s ∷ more) ++ signs) (sizes ++ size ∷ behind) (marks ++ mark ∷ rest))
-        → IsNoMore (joined_on p signs behind joined rest)
-        (pass_along p ((sign ∷ s ∷ more) ++ signs) ((n ∷ sizes) ++ size ∷ behind) ((c ∷ marks) ++ mark ∷ rest))
-    onto c d = record { most = omega (arith, c.most, d.most); more = omega (arith, c.more, d.more) }
+-- segments: the signs between them or behind them, how many squares they have, and their marks
+pub record Segments : Type 0 where
+  pub signs : List Sign
+  pub sizes : List ℕ
+  pub marks : List Bool
+
+-- one segment or more, with a sign behind each: the first sign and those after it, how many squares the segments have, and their marks
+pub record Further : Type 0 where
+  pub sign : Sign
+  pub more : List Sign
+  pub sizes : List ℕ
+  pub marks : List Bool
+
+-- further segments stand before one segment, which others follow with a sign before each. Of the further signs only the last may be even, and then that
+-- segment has its mark if the two together have theirs
+pub record AreFurther (own : Further) (behind : Segments) (joined mark : Bool) : Type 0 where
+  pub apart : ArePartsButLast (own.sign ∷ own.more)
+  pub many : length own.sizes ≡ length own.more + 1
+  pub long : length own.marks ≡ length own.more + 1
+  pub many_behind : length behind.sizes ≡ length behind.signs
+  pub long_behind : length behind.marks ≡ length behind.sizes
+  pub last : slice_index_or (own.sign ∷ own.more) (length own.more) Above ≡ Even → joined ≡ true → mark ≡ true
+
+module _ (behind : Segments) (size : ℕ) (joined mark : Bool) where
+  -- a segment of two squares with others behind it asks for no more than further segments do before one of any size
+  pub further_signs : (p : Passed) (sign : Sign) (more : List Sign) (sizes : List ℕ) (marks : List Bool)
+      → AreFurther (record { sign = sign; more = more; sizes = sizes; marks = marks }) behind joined mark
+      → IsNoMore (joined_on p behind.signs behind.sizes joined behind.marks)
+      (pass_along p ((sign ∷ more) ++ behind.signs) (sizes ++ size ∷ behind.sizes) (marks ++ mark ∷ behind.marks))
+  further_signs p sign more [] marks f = absurd (omega (arith, f.many))
+  further_signs p sign more (n ∷ sizes) [] f = absurd (omega (arith, f.long))
+  further_signs p Even [] (n ∷ []) (c ∷ []) f =
+      even_joins p behind.signs n size behind.sizes c joined mark behind.marks (f.last refl) f.many_behind f.long_behind
+  further_signs p Above [] (n ∷ []) (c ∷ []) f = even_asks_least p Above [] behind.signs n [] 2 size behind.sizes c [] joined mark behind.marks
+      ((λ e. absurd (cc)), tt) (omega arith) refl refl f.many_behind f.long_behind
+  further_signs p Under [] (n ∷ []) (c ∷ []) f = even_asks_least p Under [] behind.signs n [] 2 size behind.sizes c [] joined mark behind.marks
+      ((λ e. absurd (cc)), tt) (omega arith) refl refl f.many_behind f.long_behind
+  further_signs p sign [] (n ∷ k ∷ sizes) (c ∷ marks) f = absurd (omega (arith, f.many))
+  further_signs p sign [] (n ∷ []) (c ∷ d ∷ marks) f = absurd (omega (arith, f.long))
+  further_signs p sign (s ∷ more) (n ∷ sizes) (c ∷ marks) f = onto
+      (even_asks_least p sign [] behind.signs n [] 2 2 behind.sizes c [] joined joined behind.marks ((λ e. f.apart 0 (omega arith) e), tt) (omega arith)
+      refl refl f.many_behind f.long_behind)
+      (further_signs (pass p sign n c) s more sizes marks (record {
+        apart = λ i low e. f.apart (suc i) (omega (arith, low)) e;
+        many = omega (arith, f.many);
+        long = omega (arith, f.long);
+        many_behind = f.many_behind;
+        long_behind = f.long_behind;
+        last = f.last;
+      }))
+    where
+      onto : IsNoMore (joined_on p behind.signs behind.sizes joined behind.marks)
+          (joined_on (pass p sign n c) behind.signs behind.sizes joined behind.marks)
+          → IsNoMore (joined_on (pass p sign n c) behind.signs behind.sizes joined behind.marks)
+          (pass_along (pass p sign n c) ((s ∷ more) ++ behind.signs) (sizes ++ size ∷ behind.sizes) (marks ++ mark ∷ behind.marks))
+          → IsNoMore (joined_on p behind.signs behind.sizes joined behind.marks)
+          (pass_along p ((sign ∷ s ∷ more) ++ behind.signs) ((n ∷ sizes) ++ size ∷ behind.sizes) ((c ∷ marks) ++ mark ∷ behind.marks))
+      onto c d = record { most = omega (arith, c.most, d.most); more = omega (arith, c.more, d.more) }

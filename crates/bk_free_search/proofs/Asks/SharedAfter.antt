@@ -50,30 +50,41 @@ new_square w m one = ap (λ (l : List (ℕ × ℕ)). sides_at l (length (outline
     ∙ ap (λ k. slice_index_or (new_sides (length (outline_of w).hung) k (left_end (square_lines w) (valley_of (outline_of w)))
     (right_end (square_lines w) (valley_of (outline_of w)))) 0 (0, 1)) one
 
+-- two squares stand one after the other at one segment after a move, and these lines are at the left of the first and at the right of the second
+record AreSidesOfOne (w : Word) (m : Move) (left right : ℕ) : Type 0 where
+  place : ℕ
+  numbers : List ℕ
+  at : slice_get (after_move (outline_of w) m).segments place ≡ Some numbers
+  i : ℕ
+  j : ℕ
+  order : i < j
+  a : ℕ
+  b : ℕ
+  first : slice_get numbers i ≡ Some a
+  second : slice_get numbers j ≡ Some b
+  left_is : left ≡ (sides_at (square_lines (w ++ m ∷ [])) a).0
+  right_is : right ≡ (sides_at (square_lines (w ++ m ∷ [])) b).1
+
 -- two lines that touch one closed node, at the sides of two squares that stand at one segment after the move
-share_after : (w : Word) (m : Move) (place : ℕ) (numbers : List ℕ) (i j a b left right : ℕ)
-    → slice_get (after_move (outline_of w) m).segments place ≡ Some numbers
-    → slice_get numbers i ≡ Some a → slice_get numbers j ≡ Some b → i < j
-    → left ≡ (sides_at (square_lines (w ++ m ∷ [])) a).0 → right ≡ (sides_at (square_lines (w ++ m ∷ [])) b).1
-    → TouchOneNode w left right → ShareANode (w ++ m ∷ [])
-share_after w m place numbers i j a b left right is first second order l r touch = record {
-  segment = place;
-  numbers = numbers;
-  is = ap (λ (o : Outline). slice_get o.segments place) (after-snoc start w m) ∙ is;
-  i = i;
-  j = j;
-  a = a;
-  b = b;
-  first = first;
-  second = second;
-  order = omega (arith, order);
+share_after : (w : Word) (m : Move) (left right : ℕ) → AreSidesOfOne w m left right → TouchOneNode w left right → ShareANode (w ++ m ∷ [])
+share_after w m left right s touch = record {
+  segment = s.place;
+  numbers = s.numbers;
+  is = ap (λ (o : Outline). slice_get o.segments s.place) (after-snoc start w m) ∙ s.at;
+  i = s.i;
+  j = s.j;
+  a = s.a;
+  b = s.b;
+  first = s.first;
+  second = s.second;
+  order = omega (arith, s.order);
   node = touch.node;
-  left = subst (λ (line : ℕ). TouchesClosed (outline_of (w ++ m ∷ [])) (square_lines (w ++ m ∷ [])) line touch.node) l
+  left = subst (λ (line : ℕ). TouchesClosed (outline_of (w ++ m ∷ [])) (square_lines (w ++ m ∷ [])) line touch.node) s.left_is
       (touch_more w m left touch.node touch.at_left);
-  right = subst (λ (line : ℕ). TouchesClosed (outline_of (w ++ m ∷ [])) (square_lines (w ++ m ∷ [])) line touch.node) r
+  right = subst (λ (line : ℕ). TouchesClosed (outline_of (w ++ m ∷ [])) (square_lines (w ++ m ∷ [])) line touch.node) s.right_is
       (touch_more w m right touch.node touch.at_right);
-  not_own = λ e f. absurd (omega (arith, e, order));
-  not_walls = λ e f. touch.not_walls (l ∙ e) (r ∙ f);
+  not_own = λ e f. absurd (omega (arith, e, s.order));
+  not_walls = λ e f. touch.not_walls (s.left_is ∙ e) (s.right_is ∙ f);
 }
 
 module _ (w : Word) (m : Move) (word : IsLegal w) (legal : IsLegalMove (outline_of w) m) (one : m.count ≡ 1) (left right : List ℕ)
@@ -103,10 +114,20 @@ module _ (w : Word) (m : Move) (word : IsLegal w) (legal : IsLegalMove (outline_
 
   -- the line at the left of an earlier square, and that at the right of the new one
   shared_before : (line : ℕ) → line ≡ right_end (square_lines w) (valley_of (outline_of w)) → ShareBefore w left line → ShareANode (w ++ m ∷ [])
-  shared_before line is s = let f = at_before s.place s.number s.at in
-      share_after w m here.place (here.before ++ number ∷ here.behind) s.place (length here.before) s.number number (sides_at (square_lines w) s.number).0 line
-      here.at f.0 (get_last here.before number here.behind) f.1 (ap (λ (p : ℕ × ℕ). p.0) (sym (same_sides w m s.number (left_low l s.place s.number s.at))))
-      (is ∙ ap (λ (p : ℕ × ℕ). p.1) (sym (new_square w m one))) s.touch
+  shared_before line is s = let f = at_before s.place s.number s.at in share_after w m (sides_at (square_lines w) s.number).0 line (record {
+    place = here.place;
+    numbers = here.before ++ number ∷ here.behind;
+    at = here.at;
+    i = s.place;
+    j = length here.before;
+    order = f.1;
+    a = s.number;
+    b = number;
+    first = f.0;
+    second = get_last here.before number here.behind;
+    left_is = ap (λ (p : ℕ × ℕ). p.0) (sym (same_sides w m s.number (left_low l s.place s.number s.at)));
+    right_is = is ∙ ap (λ (p : ℕ × ℕ). p.1) (sym (new_square w m one));
+  }) s.touch
 
   -- the line at the right of a later square, and that at the left of the new one or of an earlier one
   shared_behind : (line : ℕ) → line ≡ left_end (square_lines w) (valley_of (outline_of w)) → ShareBehind w line left right → ShareANode (w ++ m ∷ [])
@@ -116,13 +137,35 @@ module _ (w : Word) (m : Move) (word : IsLegal w) (legal : IsLegalMove (outline_
       right_line = ap (λ (p : ℕ × ℕ). p.1) (sym (same_sides w m s.number (right_low r s.place s.number s.at)))
 
       cases : TouchOneNode w line (sides_at (square_lines w) s.number).1 ⊎ ShareBefore w left (sides_at (square_lines w) s.number).1 → ShareANode (w ++ m ∷ [])
-      cases (inl touch) = share_after w m here.place (here.before ++ number ∷ here.behind) (length here.before) (length here.before + suc s.place) number
-          s.number line (sides_at (square_lines w) s.number).1 here.at (get_last here.before number here.behind) (at_behind s.place s.number s.at) (omega arith)
-          (is ∙ ap (λ (p : ℕ × ℕ). p.0) (sym (new_square w m one))) right_line touch
+      cases (inl touch) = share_after w m line (sides_at (square_lines w) s.number).1 (record {
+        place = here.place;
+        numbers = here.before ++ number ∷ here.behind;
+        at = here.at;
+        i = length here.before;
+        j = length here.before + suc s.place;
+        order = omega arith;
+        a = number;
+        b = s.number;
+        first = get_last here.before number here.behind;
+        second = at_behind s.place s.number s.at;
+        left_is = is ∙ ap (λ (p : ℕ × ℕ). p.0) (sym (new_square w m one));
+        right_is = right_line;
+      }) touch
       cases (inr b) = let f = at_before b.place b.number b.at in
-          share_after w m here.place (here.before ++ number ∷ here.behind) b.place (length here.before + suc s.place) b.number s.number
-          (sides_at (square_lines w) b.number).0 (sides_at (square_lines w) s.number).1 here.at f.0 (at_behind s.place s.number s.at) (omega (arith, f.1))
-          (ap (λ (p : ℕ × ℕ). p.0) (sym (same_sides w m b.number (left_low l b.place b.number b.at)))) right_line b.touch
+          share_after w m (sides_at (square_lines w) b.number).0 (sides_at (square_lines w) s.number).1 (record {
+            place = here.place;
+            numbers = here.before ++ number ∷ here.behind;
+            at = here.at;
+            i = b.place;
+            j = length here.before + suc s.place;
+            order = omega (arith, f.1);
+            a = b.number;
+            b = s.number;
+            first = f.0;
+            second = at_behind s.place s.number s.at;
+            left_is = ap (λ (p : ℕ × ℕ). p.0) (sym (same_sides w m b.number (left_low l b.place b.number b.at)));
+            right_is = right_line;
+          }) b.touch
 
   -- ---- by sets of lines
 

@@ -54,20 +54,36 @@ pub record IsPlayed (w : Word) (m : Move) (b after : BoardLists) : Type 0 where
   pub left_then_is : after.left ≡ b.left + cond (nat_eq left 0) 1 0
   pub right_then_is : after.right ≡ b.right + cond (nat_eq right 1) 1 0
 
--- the line is at a side of one of these squares, or of one of so many new ones
-abbrev pub beside : List ℕ → List ℕ → List ℕ → ℕ → ℕ → ℕ → Type 0
-beside lefts rights squares hung count line = IsBesideOneOf lefts rights squares line ⊎ IsBesideNew lefts rights hung count line
+-- squares, and the new ones of a move: the left and the right lines of all squares, the numbers of some of them, how many were hung before the move, and
+-- how many it hangs
+pub record WithNew : Type 0 where
+  pub lefts : List ℕ
+  pub rights : List ℕ
+  pub squares : List ℕ
+  pub hung : ℕ
+  pub count : ℕ
 
--- a line beside squares of some lists is beside those of equal lists
-pub beside_same : (lefts lefts' rights rights' squares squares' : List ℕ) (hung hung' count count' line : ℕ) → lefts ≡ lefts' → rights ≡ rights'
-    → squares ≡ squares' → hung ≡ hung' → count ≡ count'
-    → beside lefts rights squares hung count line → beside lefts' rights' squares' hung' count' line
-beside_same lefts lefts' rights rights' squares squares' hung hung' count count' line a b c d e h =
-    subst (λ (ls : List ℕ). beside ls rights' squares' hung' count' line) a
-    (subst (λ (rs : List ℕ). beside lefts rs squares' hung' count' line) b
-    (subst (λ (qs : List ℕ). beside lefts rights qs hung' count' line) c
-    (subst (λ (k : ℕ). beside lefts rights squares k count' line) d
-    (subst (λ (k : ℕ). beside lefts rights squares hung k line) e h))))
+-- the line is at a side of one of the numbered squares, or of a new one
+abbrev pub beside : WithNew → ℕ → Type 0
+beside q line = IsBesideOneOf q.lefts q.rights q.squares line ⊎ IsBesideNew q.lefts q.rights q.hung q.count line
+
+-- a line that is beside squares is beside equal ones
+pub beside_same : (q r : WithNew) (line : ℕ) → q ≡ r → beside q line → beside r line
+beside_same q r line same near = subst (λ (x : WithNew). beside x line) same near
+
+-- the valley's squares and the new ones of a move that is played, by what the board keeps
+abbrev played_squares : (w : Word) (m : Move) (b after : BoardLists) → IsPlayed w m b after → WithNew
+played_squares w m b after p = record { lefts = after.lefts; rights = after.rights; squares = p.squares; hung = p.hung; count = p.count }
+
+-- the valley's squares and the new ones of a move, by the word before it
+abbrev word_squares : Word → Move → WithNew
+word_squares w m = record {
+  lefts = lefts_of (w ++ m ∷ []);
+  rights = rights_of (w ++ m ∷ []);
+  squares = valley_of (outline_of w);
+  hung = order_of w;
+  count = m.count;
+}
 
 -- after a legal move a board keeps the lines, nodes and counts of the word with that move
 pub board_more : (w more : Word) (m : Move) (b after : BoardLists) → IsBoardOf w b → IsLegalMove (outline_of w) m → more ≡ w ++ m ∷ []
@@ -89,15 +105,29 @@ board_more w more m b after board legal e p = record {
 }
   where
     left : IsLeftWord more after.lefts
-    left = left_more w more b.lefts after.lefts m p.left p.count board.left_word legal (p.left_is ∙ ap (first_left b.lefts) p.squares_are) p.count_is e
-        (p.lefts_are ∙ ap (λ k. b.lefts ++ p.left ∷ numbers_from (k + 2) (p.count - 1)) p.hung_is)
+    left = left_more w more m b.lefts after.lefts board.left_word legal e (record {
+      hung = p.hung;
+      hung_is = p.hung_is;
+      count = p.count;
+      count_is = p.count_is;
+      first = p.left;
+      first_is = p.left_is ∙ ap (first_left b.lefts) p.squares_are;
+      are = p.lefts_are;
+    })
 
     lefts_are : after.lefts ≡ lefts_of (w ++ m ∷ [])
     lefts_are = left.lefts_are ∙ ap lefts_of e
 
     right : after.rights ≡ rights_of (w ++ m ∷ [])
-    right = p.rights_are ∙ ap (λ k. b.rights ++ numbers_from (k + 2) (p.count - 1) ++ p.right ∷ []) p.hung_is
-        ∙ right_more w m b.rights p.right p.count legal board.rights_are (p.right_is ∙ ap (last_right b.rights) p.squares_are) p.count_is
+    right = right_more w m b.rights after.rights legal board.rights_are (record {
+      hung = p.hung;
+      hung_is = p.hung_is;
+      count = p.count;
+      count_is = p.count_is;
+      last = p.right;
+      last_is = p.right_is ∙ ap (last_right b.rights) p.squares_are;
+      are = p.rights_are;
+    })
 
     left_before : b.left ≡ count_by (λ l. nat_eq l 0) b.lefts
     left_before = board.left_is ∙ sym (left_walls w) ∙ ap (count_by (λ l. nat_eq l 0)) (sym board.left_word.lefts_are)
@@ -105,34 +135,46 @@ board_more w more m b after board legal e p = record {
     right_before : b.right ≡ count_by (λ l. nat_eq l 1) b.rights
     right_before = board.right_is ∙ sym (right_walls w) ∙ ap (count_by (λ l. nat_eq l 1)) (sym board.rights_are)
 
-    next : AreNextLines w m p.lines
-    next = record {
-      only = λ line has. beside_same after.lefts (lefts_of (w ++ m ∷ [])) after.rights (rights_of (w ++ m ∷ [])) p.squares
-          (valley_of (outline_of w)) p.hung (order_of w) p.count m.count line lefts_are right p.squares_are p.hung_is p.count_is (p.only line has);
-      all = λ line low near. p.all line low (beside_same (lefts_of (w ++ m ∷ [])) after.lefts (rights_of (w ++ m ∷ [])) after.rights
-          (valley_of (outline_of w)) p.squares (order_of w) p.hung m.count p.count line (sym lefts_are) (sym right) (sym p.squares_are)
-          (sym p.hung_is) (sym p.count_is) near);
+    same : played_squares w m b after p ≡ word_squares w m
+    same = λ i. record {
+      lefts = lefts_are i;
+      rights = right i;
+      squares = p.squares_are i;
+      hung = p.hung_is i;
+      count = p.count_is i;
     }
 
+    next : AreNextLines w m p.lines
+    next = record {
+      only = λ line has. beside_same (played_squares w m b after p) (word_squares w m) line same (p.only line has);
+      all = λ line low near. p.all line low (beside_same (word_squares w m) (played_squares w m b after p) line (sym same) near);
+    }
+
+-- what is known of a move that is taken back, by how the board stood before that move, and what it keeps with the move and then
+pub record IsTakenBack (w front : Word) (before : BoardOutline) (b after : BoardLists) : Type 0 where
+  pub some : 0 < length w
+  pub front_is : front ≡ take (length w - 1) w
+  pub order : ℕ
+  pub order_is : order ≡ order_of front
+  pub moves : ℕ
+  pub moves_are : moves ≡ length front
+  pub lefts_are : after.lefts ≡ take order b.lefts
+  pub rights_are : after.rights ≡ take order b.rights
+  pub nodes_are : after.nodes ≡ take moves b.nodes
+  pub first_is : after.first ≡ before.first
+  pub left_is : after.left ≡ before.left
+  pub right_is : after.right ≡ before.right
+
 -- when the last move is taken back, a board keeps the lines, nodes and counts of the word before it
-pub board_less : (w front : Word) (before : BoardOutline) (b : BoardLists) (order moves : ℕ) (lefts rights : List ℕ) (nodes : List LineSet)
-    → IsBoardOf w b → IsBoardOutline front before → 0 < length w → front ≡ take (length w - 1) w
-    → order ≡ order_of front → moves ≡ length front → lefts ≡ take order b.lefts → rights ≡ take order b.rights → nodes ≡ take moves b.nodes
-    → IsBoardOf front (record {
-      lefts = lefts;
-      rights = rights;
-      nodes = nodes;
-      first = before.first;
-      left = before.left;
-      right = before.right;
-    })
-board_less w front before b order moves lefts rights nodes board outline some e o n l r t = record {
-  left_word = left_less w front b.lefts lefts order board.left_word e o l;
-  rights_are = right_less w front b.rights rights order board.rights_are e o r;
-  node_lines = nodes_less w front b.nodes nodes some board.node_lines e (t ∙ ap (λ k. take k b.nodes) n);
-  first_is = outline.first_is;
-  left_is = outline.left_is;
-  right_is = outline.right_is;
+pub board_less : (w front : Word) (before : BoardOutline) (b after : BoardLists) → IsBoardOf w b → IsBoardOutline front before
+    → IsTakenBack w front before b after → IsBoardOf front after
+board_less w front before b after board outline t = record {
+  left_word = left_less w front b.lefts after.lefts t.order board.left_word t.front_is t.order_is t.lefts_are;
+  rights_are = right_less w front b.rights after.rights t.order board.rights_are t.front_is t.order_is t.rights_are;
+  node_lines = nodes_less w front b.nodes after.nodes t.some board.node_lines t.front_is (t.nodes_are ∙ ap (λ k. take k b.nodes) t.moves_are);
+  first_is = t.first_is ∙ outline.first_is;
+  left_is = t.left_is ∙ outline.left_is;
+  right_is = t.right_is ∙ outline.right_is;
 }
 
 -- ---- two lines at one node

@@ -22,7 +22,7 @@ beside_pair : (sides : List (ℕ × ℕ)) (place line : ℕ) → IsAtSquare (lef
 beside_pair sides place line (inl e) = inl (index_side (λ s. s.0) sides (suc place - 1) ∙ e)
 beside_pair sides place line (inr e) = inr (index_side (λ s. s.1) sides (suc place - 1) ∙ e)
 
--- it touches the lines beside the squares that end on it
+-- the node that a move closes touches the lines beside the squares that end on it
 pub touch_valley : (o : Outline) (sides : List (ℕ × ℕ)) (m : Move) (line : ℕ) → Numbered o
     → IsBesideOneOf (lefts_in (sides_after o sides m)) (rights_in (sides_after o sides m)) (valley_of o) line
     → TouchesClosed (after_move o m) (sides_after o sides m) line (length o.closed)

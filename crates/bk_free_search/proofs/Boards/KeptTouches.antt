@@ -33,7 +33,7 @@ pair_after : (o : Outline) (sides : List (ℕ × ℕ)) (m : Move) (place : ℕ) 
 pair_after o sides m place low = get_front sides (new_sides (length o.hung) m.count (left_end sides (valley_of o)) (right_end sides (valley_of o)))
     (suc place - 1) (0, 1) (omega (arith, low))
 
--- so a line that a closed node touches it touches after the next move
+-- a line that a closed node touches it touches after the next move
 pub touch_after : (o : Outline) (sides : List (ℕ × ℕ)) (m : Move) (line v : ℕ) → length sides ≡ length o.hung → TouchesClosed o sides line v
     → TouchesClosed (after_move o m) (sides_after o sides m) line v
 touch_after o sides m line v long t = record {
@@ -76,7 +76,7 @@ at_before o m numbered place v old a = cases a.at
     cases (inr (k, numbers, e, f)) = let same = slice_get-append_front_back o.closed (valley_of o ∷ []) v numbers old e in
         record { within = omega (arith, number_in o numbered v k (suc place) numbers same f); closed = old; at = inr (k, numbers, same, f) }
 
--- so a line that it touches after the next move it touched before
+-- a line that a node, closed before, touches after the next move it touched before
 pub touch_before : (o : Outline) (sides : List (ℕ × ℕ)) (m : Move) (line v : ℕ) → Numbered o → length sides ≡ length o.hung → v < length o.closed
     → TouchesClosed (after_move o m) (sides_after o sides m) line v → TouchesClosed o sides line v
 touch_before o sides m line v numbered long old t = record {

@@ -41,7 +41,7 @@ end_left sides (number ∷ numbers) = index_side (λ s. s.0) sides (number - 1)
 
 -- ---- along moves
 
--- the lines after two words played in turn are those after the second, begun from those after the first
+-- the lines after two words played one after the other are those after the second, begun from those after the first
 pub along_append : (o : Outline) (sides : List (ℕ × ℕ)) (v w : Word) → sides_along o sides (v ++ w) ≡ sides_along (after_moves o v) (sides_along o sides v) w
 along_append o sides [] w = refl
 along_append o sides (m ∷ v) w = along_append (after_move o m) (sides_after o sides m) v w
@@ -93,13 +93,23 @@ sides_of_front side front rest =
 pub left_count : (w : Word) (lefts : List ℕ) → IsLeftWord w lefts → length lefts ≡ order_of w
 left_count w lefts left = ap length left.lefts_are ∙ as_many_lefts w
 
+-- behind left lines stand those of the squares of a move, of which the first lies at the valley's left line
+pub record AreLeftsThen (w : Word) (m : Move) (lefts lefts_then : List ℕ) : Type 0 where
+  pub hung : ℕ
+  pub hung_is : hung ≡ order_of w
+  pub count : ℕ
+  pub count_is : count ≡ m.count
+  pub first : ℕ
+  pub first_is : first ≡ first_left lefts (valley_of (outline_of w))
+  pub are : lefts_then ≡ lefts ++ first ∷ numbers_from (hung + 2) (count - 1)
+
 -- after a legal move the left lines are the old ones, the valley's left line and the move's new lines
-pub left_more : (w more : Word) (lefts lefts_then : List ℕ) (m : Move) (first count : ℕ) → IsLeftWord w lefts → IsLegalMove (outline_of w) m
-    → first ≡ first_left lefts (valley_of (outline_of w)) → count ≡ m.count
-    → more ≡ w ++ m ∷ [] → lefts_then ≡ lefts ++ first ∷ numbers_from (order_of w + 2) (count - 1) → IsLeftWord more lefts_then
-left_more w more lefts lefts_then m first count left legal f same e are = record {
+pub left_more : (w more : Word) (m : Move) (lefts lefts_then : List ℕ) → IsLeftWord w lefts → IsLegalMove (outline_of w) m → more ≡ w ++ m ∷ []
+    → AreLeftsThen w m lefts lefts_then → IsLeftWord more lefts_then
+left_more w more m lefts lefts_then left legal e then = record {
   legal = subst IsLegal (sym e) (legal-snoc start w m left.legal legal);
-  lefts_are = are ∙ (λ i. left.lefts_are i ++ (f ∙ first_is) i ∷ numbers_from (order_of w + 2) (same i - 1))
+  lefts_are = then.are
+      ∙ (λ i. left.lefts_are i ++ (then.first_is ∙ first_is) i ∷ numbers_from (then.hung_is i + 2) (then.count_is i - 1))
       ∙ ap (λ l. lefts_of w ++ l) (sym (new_lefts (order_of w) (m.count - 1) (left_end (square_lines w) (valley_of (outline_of w)))
       (right_end (square_lines w) (valley_of (outline_of w)))))
       ∙ sym (ap lefts_in (sides_more w m legal.some) ∙ map-append (λ s. s.0) (square_lines w) (new_sides (order_of w) (suc (m.count - 1))

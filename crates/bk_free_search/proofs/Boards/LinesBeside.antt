@@ -46,7 +46,7 @@ all_gathered lefts rights squares place lines g over line low b = g.all line b l
 -- ---- new squares
 
 module _ (lefts rights : List ℕ) (new : NewSquares) (b : StandBetween lefts rights new) (some : 0 < new.count) where
-  -- their lines are the two between which they stand, and their own
+  -- the lines of new squares are the two between which they stand, and their own
   pub beside_new : (line : ℕ) → IsBesideNew lefts rights new.hung new.count line
       → (line ≡ new.first) ⊎ ((line ≡ new.last) ⊎ ((new.hung + 2 ≤ line) × (line < new.hung + new.count + 1)))
   beside_new line n = sides n.beside
@@ -105,22 +105,24 @@ numbers_at from (suc many) zero d h = omega arith
 numbers_at from (suc many) (suc k) d h = numbers_at (from + 1) many k d (omega (arith, h)) ∙ omega arith
 
 -- new squares put behind the old left and right lines stand between the first and the last line
-pub stand_between : (lefts rights lefts_then rights_then : List ℕ) (hung count first last : ℕ) → 0 < count → length lefts ≡ hung → length rights ≡ hung
-    → lefts_then ≡ lefts ++ first ∷ numbers_from (hung + 2) (count - 1) → rights_then ≡ rights ++ numbers_from (hung + 2) (count - 1) ++ last ∷ []
-    → StandBetween lefts_then rights_then (record { hung = hung; count = count; first = first; last = last })
-stand_between lefts rights lefts_then rights_then hung count first last some l r le re = record {
-  first_is = ap (λ ls. slice_index_or ls hung 0) le ∙ get_back lefts (first ∷ numbers_from (hung + 2) (count - 1)) 0 hung 0 (omega (arith, l));
-  last_is = ap (λ rs. slice_index_or rs (hung + count - 1) 1) right
-      ∙ get_back rights (numbers_from (hung + 2) (count - 1) ++ last ∷ []) (count - 1) (hung + count - 1) 1 (omega (arith, r, some))
-      ∙ get_back (numbers_from (hung + 2) (count - 1)) (last ∷ []) 0 (count - 1) 1 (omega (arith, numbers-length (hung + 2) (count - 1)));
-  lefts_are = λ k h. ap (λ ls. slice_index_or ls (hung + k + 1) 0) le
-      ∙ get_back lefts (first ∷ numbers_from (hung + 2) (count - 1)) (suc k) (hung + k + 1) 0 (omega (arith, l))
-      ∙ numbers_at (hung + 2) (count - 1) k 0 (omega (arith, h)) ∙ omega arith;
-  rights_are = λ k h. ap (λ rs. slice_index_or rs (hung + k) 1) right
-      ∙ get_back rights (numbers_from (hung + 2) (count - 1) ++ last ∷ []) k (hung + k) 1 (omega (arith, r))
-      ∙ get_front (numbers_from (hung + 2) (count - 1)) (last ∷ []) k 1 (omega (arith, h, numbers-length (hung + 2) (count - 1)))
-      ∙ numbers_at (hung + 2) (count - 1) k 1 (omega (arith, h)) ∙ omega arith;
+pub stand_between : (lefts rights lefts_then rights_then : List ℕ) (new : NewSquares) → 0 < new.count → length lefts ≡ new.hung → length rights ≡ new.hung
+    → lefts_then ≡ lefts ++ new.first ∷ numbers_from (new.hung + 2) (new.count - 1)
+    → rights_then ≡ rights ++ numbers_from (new.hung + 2) (new.count - 1) ++ new.last ∷ [] → StandBetween lefts_then rights_then new
+stand_between lefts rights lefts_then rights_then new some l r le re = record {
+  first_is = ap (λ ls. slice_index_or ls new.hung 0) le
+      ∙ get_back lefts (new.first ∷ numbers_from (new.hung + 2) (new.count - 1)) 0 new.hung 0 (omega (arith, l));
+  last_is = ap (λ rs. slice_index_or rs (new.hung + new.count - 1) 1) right
+      ∙ get_back rights (numbers_from (new.hung + 2) (new.count - 1) ++ new.last ∷ []) (new.count - 1) (new.hung + new.count - 1) 1 (omega (arith, r, some))
+      ∙ get_back (numbers_from (new.hung + 2) (new.count - 1)) (new.last ∷ []) 0 (new.count - 1) 1
+      (omega (arith, numbers-length (new.hung + 2) (new.count - 1)));
+  lefts_are = λ k h. ap (λ ls. slice_index_or ls (new.hung + k + 1) 0) le
+      ∙ get_back lefts (new.first ∷ numbers_from (new.hung + 2) (new.count - 1)) (suc k) (new.hung + k + 1) 0 (omega (arith, l))
+      ∙ numbers_at (new.hung + 2) (new.count - 1) k 0 (omega (arith, h)) ∙ omega arith;
+  rights_are = λ k h. ap (λ rs. slice_index_or rs (new.hung + k) 1) right
+      ∙ get_back rights (numbers_from (new.hung + 2) (new.count - 1) ++ new.last ∷ []) k (new.hung + k) 1 (omega (arith, r))
+      ∙ get_front (numbers_from (new.hung + 2) (new.count - 1)) (new.last ∷ []) k 1 (omega (arith, h, numbers-length (new.hung + 2) (new.count - 1)))
+      ∙ numbers_at (new.hung + 2) (new.count - 1) k 1 (omega (arith, h)) ∙ omega arith;
 }
   where
-    right : rights_then ≡ rights ++ (numbers_from (hung + 2) (count - 1) ++ last ∷ [])
-    right = re ∙ append_assoc rights (numbers_from (hung + 2) (count - 1)) (last ∷ [])
+    right : rights_then ≡ rights ++ (numbers_from (new.hung + 2) (new.count - 1) ++ new.last ∷ [])
+    right = re ∙ append_assoc rights (numbers_from (new.hung + 2) (new.count - 1)) (new.last ∷ [])

@@ -6,14 +6,14 @@ use Rattle.std.proofs.lemmas.List.{length-map}
 use Rattle.std.proofs.lemmas.Option.{slice_get-get_or}
 use Rattle.bk_laws.proofs.ListItems.{slice_index_or-any_default, slice_index_or-beyond}
 use Rattle.bk_word.proofs.StoredBytes.{order_append}
-use Rattle.bk_word.specs.Outline.{IsLegalMove, valley_of}
-use Rattle.bk_word.specs.Play.{numbers_from, outline_of}
+use Rattle.bk_word.specs.Outline.{IsLegalMove}
+use Rattle.bk_word.specs.Play.{outline_of}
 use Rattle.bk_word.specs.Word.{Move, Word, order_of}
 use Rattle.bk_layout.proofs.FreeCuts.CutByNodes.{as_many_sides}
 use Rattle.bk_layout.specs.LineNumbers.{lefts_of, square_lines}
 use Rattle.bk_layout.proofs.FreeCuts.KnownLines.{known_lines}
-use Rattle.bk_free_search.proofs.Boards.LeftLines.{index_side, left_count, left_more}
-use Rattle.bk_free_search.proofs.Boards.RightLines.{as_many_rights, right_more}
+use Rattle.bk_free_search.proofs.Boards.LeftLines.{AreLeftsThen, index_side, left_count, left_more}
+use Rattle.bk_free_search.proofs.Boards.RightLines.{AreRightsThen, as_many_rights, right_more}
 use Rattle.bk_free_search.specs.Lefts.{IsLeftWord, first_left}
 use Rattle.bk_free_search.specs.NodeLines.{AreLow}
 use Rattle.bk_free_search.specs.Rights.{last_right, rights_of}
@@ -57,30 +57,25 @@ low_right_end rights [] low = omega arith
 low_right_end rights (number ∷ []) low = low (number - 1) 1 (omega arith)
 low_right_end rights (number ∷ next ∷ squares) low = low_right_end rights (next ∷ squares) low
 
--- with a move more they are low too
-pub low_lefts_then : (w : Word) (m : Move) (lefts lefts_then : List ℕ) (first count hung : ℕ) → IsLeftWord w lefts → IsLegalMove (outline_of w) m
-    → order_of w + m.count ≤ 16 → first ≡ first_left lefts (valley_of (outline_of w)) → count ≡ m.count → hung ≡ order_of w
-    → lefts_then ≡ lefts ++ first ∷ numbers_from (hung + 2) (count - 1) → AreLow lefts_then
-low_lefts_then w m lefts lefts_then first count hung left legal few f same h are =
-    let then = left_more w (w ++ m ∷ []) lefts lefts_then m first count left legal f same refl
-    (are ∙ ap (λ k. lefts ++ first ∷ numbers_from (k + 2) (count - 1)) h) in
-    subst (λ (ls : List ℕ). AreLow ls) (sym then.lefts_are) (low_lefts (w ++ m ∷ []) (omega (arith, few, order_append w (m ∷ []))))
+-- where a word has at most 16 squares after a legal move, its left lines are numbers below 32
+pub low_lefts_then : (w : Word) (m : Move) (lefts lefts_then : List ℕ) → IsLeftWord w lefts → IsLegalMove (outline_of w) m → order_of w + m.count ≤ 16
+    → AreLeftsThen w m lefts lefts_then → AreLow lefts_then
+low_lefts_then w m lefts lefts_then left legal few then =
+    let more = left_more w (w ++ m ∷ []) m lefts lefts_then left legal refl then in
+    subst (λ (ls : List ℕ). AreLow ls) (sym more.lefts_are) (low_lefts (w ++ m ∷ []) (omega (arith, few, order_append w (m ∷ []))))
 
 -- where a word has at most 16 squares after a legal move, its right lines are numbers below 32
-pub low_rights_then : (w : Word) (m : Move) (rights rights_then : List ℕ) (last count hung : ℕ) → rights ≡ rights_of w → IsLegalMove (outline_of w) m
-    → order_of w + m.count ≤ 16 → last ≡ last_right rights (valley_of (outline_of w)) → count ≡ m.count → hung ≡ order_of w
-    → rights_then ≡ rights ++ numbers_from (hung + 2) (count - 1) ++ last ∷ [] → AreLow rights_then
-low_rights_then w m rights rights_then last count hung right legal few l same h are =
-    let then : rights_then ≡ rights_of (w ++ m ∷ []) = are ∙ ap (λ k. rights ++ numbers_from (k + 2) (count - 1) ++ last ∷ []) h
-    ∙ right_more w m rights last count legal right l same in
-    subst (λ (ls : List ℕ). AreLow ls) (sym then) (low_rights (w ++ m ∷ []) (omega (arith, few, order_append w (m ∷ []))))
+pub low_rights_then : (w : Word) (m : Move) (rights rights_then : List ℕ) → rights ≡ rights_of w → IsLegalMove (outline_of w) m → order_of w + m.count ≤ 16
+    → AreRightsThen w m rights rights_then → AreLow rights_then
+low_rights_then w m rights rights_then right legal few then = subst (λ (ls : List ℕ). AreLow ls)
+    (sym (right_more w m rights rights_then legal right then)) (low_rights (w ++ m ∷ []) (omega (arith, few, order_append w (m ∷ []))))
 
 -- the lines that are read at the left of at most 16 squares are low
 pub low_lefts_read : {w : Word} {lefts read : List ℕ} → IsLeftWord w lefts → read ≡ lefts → length read ≤ 16 → AreLow read
 low_lefts_read {w = w} {lefts = lefts} left are few = subst (λ (ls : List ℕ). AreLow ls) (sym (are ∙ left.lefts_are))
     (low_lefts w (omega (arith, few, ap length are, left_count w lefts left)))
 
--- so are those at the right
+-- the lines that are read at the right of at most 16 squares are low
 pub low_rights_read : (w : Word) {rights read : List ℕ} → rights ≡ rights_of w → read ≡ rights → length read ≤ 16 → AreLow read
 low_rights_read w right are few = subst (λ (ls : List ℕ). AreLow ls) (sym (are ∙ right))
     (low_rights w (omega (arith, few, ap length (are ∙ right), as_many_rights w)))

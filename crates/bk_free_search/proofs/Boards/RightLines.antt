@@ -45,12 +45,21 @@ last_at rights (number ∷ next ∷ squares) d some =
 pub as_many_rights : (w : Word) → length (rights_of w) ≡ order_of w
 as_many_rights w = let more = along_more start [] w in length-map (square_lines w) (λ s. s.1) ∙ ap length more.1 ∙ more.2
 
+-- behind right lines stand those of the squares of a move, of which the last lies at the valley's right line
+pub record AreRightsThen (w : Word) (m : Move) (rights rights_then : List ℕ) : Type 0 where
+  pub hung : ℕ
+  pub hung_is : hung ≡ order_of w
+  pub count : ℕ
+  pub count_is : count ≡ m.count
+  pub last : ℕ
+  pub last_is : last ≡ last_right rights (valley_of (outline_of w))
+  pub are : rights_then ≡ rights ++ numbers_from (hung + 2) (count - 1) ++ last ∷ []
+
 -- after a legal move the right lines are the old ones, the move's new lines and the valley's right line
-pub right_more : (w : Word) (m : Move) (rights : List ℕ) (last count : ℕ) → IsLegalMove (outline_of w) m → rights ≡ rights_of w
-    → last ≡ last_right rights (valley_of (outline_of w)) → count ≡ m.count
-    → rights ++ numbers_from (order_of w + 2) (count - 1) ++ last ∷ [] ≡ rights_of (w ++ m ∷ [])
-right_more w m rights last count legal are l same =
-    (λ i. are i ++ numbers_from (order_of w + 2) (same i - 1) ++ (l ∙ last_is) i ∷ [])
+pub right_more : (w : Word) (m : Move) (rights rights_then : List ℕ) → IsLegalMove (outline_of w) m → rights ≡ rights_of w
+    → AreRightsThen w m rights rights_then → rights_then ≡ rights_of (w ++ m ∷ [])
+right_more w m rights rights_then legal are then = then.are
+    ∙ (λ i. are i ++ numbers_from (then.hung_is i + 2) (then.count_is i - 1) ++ (then.last_is ∙ last_is) i ∷ [])
     ∙ append_assoc (rights_of w) (numbers_from (order_of w + 2) (m.count - 1)) (right_end (square_lines w) (valley_of (outline_of w)) ∷ [])
     ∙ ap (λ r. rights_of w ++ r) (sym (new_rights (order_of w) (m.count - 1) (left_end (square_lines w) (valley_of (outline_of w)))
     (right_end (square_lines w) (valley_of (outline_of w)))))

@@ -19,7 +19,7 @@ use Rattle.bk_layout.proofs.FreeCuts.NetWords.{a_free_barren_word_is_net_barren,
 use Rattle.bk_layout.specs.NetWord.{IsNetBarren}
 use Rattle.bk_layout.proofs.NormalCuts.NormalWords.{a_net_barren_word_is_normal_barren}
 use Rattle.bk_layout.specs.NormalCuts.{IsNormalBarren}
-use Rattle.bk_free_search.specs.Sought.{BeginsTurned}
+use Rattle.bk_free_search.specs.Sought.{BeginsEvenThenAbove}
 
 -- a cut on free words is one on net words
 pub cut : (n : ℕ) (front : Word) → IsFreeBarren n front → IsNetBarren n front
@@ -47,21 +47,21 @@ above_is_barred n front [] sign other more apart none above are = cut n (front +
 above_is_barred n front (t ∷ signs) sign other more apart none above are = absurd (omega arith)
 
 -- even and above at the beginning of a move of two squares or more
-pub turned_is_barred : (n : ℕ) (front : Word) (m : Move) (sign : Sign) (other : Move) (more : List Sign) → BeginsTurned m sign → other.count ≡ m.count
-    → other.signs ≡ m.signs ++ sign ∷ more → IsNetBarren n (front ++ other ∷ [])
-turned_is_barred n front m sign other more turned count are = even_then_above_is_net_barren n front other
-    (λ keeps. keeps (omega (arith, turned.two, count)) even above)
+pub even_then_above_is_barred : (n : ℕ) (front : Word) (m : Move) (sign : Sign) (other : Move) (more : List Sign)
+    → BeginsEvenThenAbove m sign → other.count ≡ m.count → other.signs ≡ m.signs ++ sign ∷ more → IsNetBarren n (front ++ other ∷ [])
+even_then_above_is_barred n front m sign other more begins count are = even_then_above_is_net_barren n front other
+    (λ keeps. keeps (omega (arith, begins.two, count)) even above)
   where
     even : slice_get other.signs 0 ≡ Some Even
-    even = ap (λ l. slice_get l 0) are ∙ first m.signs turned.one ∙ turned.even
+    even = ap (λ l. slice_get l 0) are ∙ first m.signs begins.one ∙ begins.even
       where
         first : (signs : List Sign) → length signs ≡ 1 → slice_get (signs ++ sign ∷ more) 0 ≡ slice_get signs 0
         first [] h = absurd (omega arith)
         first (s ∷ signs) h = refl
 
     above : slice_get other.signs 1 ≡ Some Above
-    above = ap (λ l. slice_get l 1) are ∙ ap (λ k. slice_get (m.signs ++ sign ∷ more) k) (sym turned.one) ∙ sign_behind m.signs sign more
-        ∙ ap (λ s. Some s) turned.above
+    above = ap (λ l. slice_get l 1) are ∙ ap (λ k. slice_get (m.signs ++ sign ∷ more) k) (sym begins.one) ∙ sign_behind m.signs sign more
+        ∙ ap (λ s. Some s) begins.above
 
 -- a sign at a place of a stretch of signs is contained in that stretch
 pub contained : (from k place : ℕ) (signs : List Sign) (s : Sign) → from ≤ place → place < from + k → slice_get signs place ≡ Some s

@@ -32,7 +32,8 @@ use Rattle.bk_layout.specs.WordNumbers.{first_count}
 use Rattle.bk_free_search.proofs.NextWords.Cutting.{by_legal, lone_is_barren, normal, shared_is_barren}
 use Rattle.bk_free_search.proofs.Asks.EvenSigns.{apart_from_own, evens_ends, side_few}
 use Rattle.bk_free_search.proofs.NextWords.NextMoves.{HasNextMove, is_whole, next_fits, next_move}
-use Rattle.bk_free_search.specs.LastSquare.{neighbours, with_last}
+use Rattle.bk_catalogue.specs.NextMove.{open_sides}
+use Rattle.bk_free_search.specs.LastSquare.{with_last}
 use Rattle.bk_free_search.specs.Sought.{GoesOn}
 
 -- ---- what stands after a move
@@ -54,7 +55,7 @@ open_then front m by_rule = omega (
 )
 
 -- the valley has its neighbours
-sides_within : (w : Word) → IsLegal w → neighbours (outline_of w) + 1 ≤ length (outline_of w).segments
+sides_within : (w : Word) → IsLegal w → open_sides (outline_of w) + 1 ≤ length (outline_of w).segments
 sides_within w by_rule = omega (arith, many_segments (outline_of w) v, left_open (outline_of w) v, right_open (outline_of w) v)
   where
     v : AtValley (outline_of w)
@@ -75,7 +76,7 @@ open_is_barren n v whole parted l w rest sound is_normal word keeps is =
     same = at rest is (legal n l w sound word v rest is)
         (omega (arith, sound.squares, word.order, ap order_of is, order_append v rest, whole))
 
--- so the last move hangs one square: of two or more the own signs would part segments
+-- a last move of two squares or more is barren: its own signs would part segments
 pub all_at_once_is_barren : (n : ℕ) (front : Word) (m : Move) → 2 ≤ m.count → order_of front + m.count ≡ n → IsNormalBarren n (front ++ m ∷ [])
 all_at_once_is_barren n front m two all = apart_from_own n front m (λ move not. by_legal n (front ++ m ∷ []) (λ by_rule.
     open_is_barren n (front ++ m ∷ []) (omega (arith, all, order_append front (m ∷ []), order_more m [])) (λ one. omega (
@@ -117,24 +118,24 @@ module _ (n : ℕ) (front : Word) (least : 3 ≤ n) (one : order_of front + 1 �
   top_kept = first_kept front (even_square (outline_of front) ∷ []) some
 
   segments_left : IsLegal (with_last front)
-      → length (outline_of (with_last front)).segments + neighbours (outline_of front) ≡ length (outline_of front).signs + 1
+      → length (outline_of (with_last front)).segments + open_sides (outline_of front) ≡ length (outline_of front).signs + 1
   segments_left by_rule = omega (
     arith,
     a_move_leaves_segments front (even_square (outline_of front)) by_rule,
-    evens_all (neighbours (outline_of front)),
+    evens_all (open_sides (outline_of front)),
     (shape_of_word front (legal_front start front (even_square (outline_of front) ∷ []) by_rule)).many,
   )
 
-  -- it would hang under a segment of one square
+  -- where the last square would hang under a segment of one square, no word goes on
   pub lone_is_barred : (valley : ℕ) → valley ≡ length (valley_of (outline_of front)) → valley ≡ 1 → IsNormalBarren n front
   lone_is_barred valley is e = one_square_goes_on_even n front one (normal n (with_last front)
       (lone_is_barren front valley 2 is e n (even_square (outline_of front)) (omega arith) (omega arith)))
 
-  -- other segments stand than those beside it
-  pub others_are_barred : (length (outline_of front).signs ≡ neighbours (outline_of front) → ⊥) → IsNormalBarren n front
+  -- where other segments stand than those beside the valley, no word goes on by the last square
+  pub others_are_barred : (length (outline_of front).signs ≡ open_sides (outline_of front) → ⊥) → IsNormalBarren n front
   others_are_barred not = by_last (λ by_rule. open_is_barren n (with_last front) whole (λ e. not (omega (arith, e, segments_left by_rule))))
 
-  -- too many squares stand at the bottom
+  -- where with the last square too many squares stand at the bottom, no word goes on
   pub wide_is_barred : first_count front + length (valley_of (outline_of front)) < length (concat (outline_of front).segments) + 1 → IsNormalBarren n front
   wide_is_barred over = by_last (λ by_rule. cases by_rule (cases_eq (length (outline_of (with_last front)).segments) 1))
     where
@@ -150,7 +151,7 @@ module _ (n : ℕ) (front : Word) (least : 3 ≤ n) (one : order_of front + 1 �
         length-only_list (outline_of (with_last front)).segments e,
       ))
 
-  -- or at the left wall
+  -- where with the last square too many squares stand at the left wall, no word goes on
   pub left_is_barred : right_squares_then front < left_squares_then front → IsNormalBarren n front
   left_is_barred over = by_last (λ by_rule. too_many_at_left_is_normal_barren n (with_last front) whole (omega (
     arith,
@@ -159,7 +160,7 @@ module _ (n : ℕ) (front : Word) (least : 3 ≤ n) (one : order_of front + 1 �
     (a_move_hangs_at_walls front (even_square (outline_of front)) by_rule).right,
   )))
 
-  -- or at the right wall, in a word of as many moves as can be
+  -- where with the last square too many squares stand at the right wall, in a word of as many moves as can be, no word goes on
   pub right_is_barred : 2 * (length front + 2) ≡ n + 3 → first_count front < right_squares_then front → IsNormalBarren n front
   right_is_barred half over = by_last (λ by_rule. too_many_at_right_is_normal_barren n (with_last front) whole
       (omega (arith, half, length-append front (even_square (outline_of front) ∷ [])))
@@ -177,11 +178,11 @@ more_evens zero = refl
 more_evens (suc k) = let e : suc (k + 1) ≡ suc k + 1 = omega arith in ap (λ (l : List Sign). Even ∷ l) (more_evens k) ∙ ap (λ (j : ℕ). replicate j Even) e
 
 -- one square, and a sign even for each neighbour
-pub made_last : (o : Outline) (m : Move) (sides : ℕ) → m.count ≡ 1 → m.signs ≡ replicate sides Even → sides ≡ neighbours o → m ≡ even_square o
+pub made_last : (o : Outline) (m : Move) (sides : ℕ) → m.count ≡ 1 → m.signs ≡ replicate sides Even → sides ≡ open_sides o → m ≡ even_square o
 made_last o m sides one even is = let signs = even ∙ ap (λ (k : ℕ). replicate k Even) is in λ i. record { count = one i; signs = signs i }
 
 -- a move of one square with an even sign for each neighbour of the valley is legal
-pub last_legal : (o : Outline) (m : Move) (sides : ℕ) → m.count ≡ 1 → m.signs ≡ replicate sides Even → sides ≡ neighbours o → IsLegalMove o m
+pub last_legal : (o : Outline) (m : Move) (sides : ℕ) → m.count ≡ 1 → m.signs ≡ replicate sides Even → sides ≡ open_sides o → IsLegalMove o m
 last_legal o m sides one even is = record {
   some = omega (arith, one);
   signs = omega (arith, one, ap length even, length-replicate sides Even, is);
@@ -199,10 +200,10 @@ all_even (Even ∷ signs) e = ap (λ (ss : List Sign). Even ∷ ss) (all_even si
 pub is_even_square : (o : Outline) (m : Move) → IsLegalMove o m → m.count ≡ 1 → m.signs ≡ replicate (length m.signs) Even → m ≡ even_square o
 is_even_square o m move one even = λ i. record { count = one i; signs = signs i }
   where
-    signs : m.signs ≡ replicate (neighbours o) Even
+    signs : m.signs ≡ replicate (open_sides o) Even
     signs = even ∙ ap (λ (k : ℕ). replicate k Even) (omega (arith, move.signs, one))
 
--- with it they are whole
+-- a sought word that goes on from moves after which one square is left is these moves with the last square
 pub last_is_whole : (n : ℕ) (front w : Word) → IsNormalSought n w → order_of front + 1 ≡ n → GoesOn front w → w ≡ with_last front
 last_is_whole n front w sought one on = same ∙ ap (λ (k : Move). front ++ k ∷ []) square
   where

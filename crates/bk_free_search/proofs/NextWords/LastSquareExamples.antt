@@ -4,7 +4,8 @@ use Rattle.bk_word.specs.Play.{outline_of}
 use Rattle.bk_word.specs.Word.{Word, order_of}
 use Rattle.bk_word.specs.declared.Sign.TheVariants.{Above, Even, Under}
 use Rattle.bk_word.proofs.WordExamples.{move}
-use Rattle.bk_free_search.specs.LastSquare.{neighbours, with_last}
+use Rattle.bk_catalogue.specs.NextMove.{open_sides}
+use Rattle.bk_free_search.specs.LastSquare.{with_last}
 
 -- 2a.2uu.2ea.2eue
 abbrev eight : Word
@@ -14,7 +15,7 @@ eight = move 2 (Above ∷ []) ∷ move 2 (Under ∷ Under ∷ []) ∷ move 2 (Ev
 hung : order_of eight ≡ 8
 hung = refl
 
-beside : neighbours (outline_of eight) ≡ 1
+beside : open_sides (outline_of eight) ≡ 1
 beside = refl
 
 -- so 1e comes last

@@ -33,7 +33,7 @@ next_move n front w sought few on = cases on.rest on.is
     cases [] is = absurd (omega (arith, few, sought.order, ap order_of (is ∙ append-nil front)))
     cases (m ∷ rest) is = record { move = m; rest = rest; is = is; legal = legal_next front w m rest sought.complete.legal is }
 
--- which hangs no more squares than are left
+-- the next move of a sought word hangs no more squares than are left
 pub next_fits : (n : ℕ) (front w : Word) → IsNormalSought n w → (h : HasNextMove front w) → order_of front + h.move.count ≤ n
 next_fits n front w sought h = omega (arith, sought.order, ap order_of h.is, order_append front (h.move ∷ h.rest), order_more h.move h.rest)
 
@@ -62,7 +62,7 @@ by_whole n front w m sought legal on = record { rest = on.rest; is = snoc front 
     same : on.move ≡ m
     same = let c = on.count_is in let s = none on.more on.signs_are in λ i. record { count = c i; signs = s i }
 
--- else by one sign more
+-- the word goes on by a move of this count that has one sign more than these
 pub record HasNextSign (front : Word) (count : ℕ) (signs : List Sign) (w : Word) : Type 0 where
   pub sign : Sign
   pub on : GoesOnBy front count (signs ++ sign ∷ []) w

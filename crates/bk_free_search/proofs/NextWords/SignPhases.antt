@@ -13,10 +13,10 @@ use Rattle.bk_word.specs.declared.Sign.TheVariants.{Above, Even, Under}
 use Rattle.bk_layout.proofs.FreeCuts.SquaresLeft.{evens-cons}
 use Rattle.bk_layout.specs.NormalImage.{IsNormalSought}
 use Rattle.bk_free_search.proofs.Asks.AskedSigns.{begun_is_barred}
-use Rattle.bk_free_search.proofs.NextWords.Cutting.{above_is_barred, even_is_barred, normal, turned_is_barred}
+use Rattle.bk_free_search.proofs.NextWords.Cutting.{above_is_barred, even_is_barred, even_then_above_is_barred, normal}
 use Rattle.bk_free_search.proofs.Asks.EvenSigns.{evens_append, side_few, signs_lack_evens}
 use Rattle.bk_free_search.proofs.NextWords.NextMoves.{next_fertile}
-use Rattle.bk_free_search.proofs.NextWords.TurnsTaken.{wanted_few}
+use Rattle.bk_free_search.proofs.NextWords.HandedOn.{wanted_few}
 use Rattle.bk_free_search.specs.AskedSigns.{BarsNext, BarsSigns, IsAsked, IsMoveBegun, IsNextCount, IsWithOwn}
 use Rattle.bk_free_search.specs.AskedSigns.{NeedsLeft, StandBeside}
 use Rattle.bk_free_search.specs.Sought.{GoesOnBy, IsNextMove}
@@ -55,7 +55,7 @@ own_even_is_barred n front all signs from to = record {
 pub own_above_is_barred : (n : ℕ) (front : Word) (count : ℕ) (signs : List Sign) → 1 < count → signs ≡ Even ∷ []
     → BarsSigns n front count (signs ++ Above ∷ [])
 own_above_is_barred n front all signs two even = record {
-  barren = λ other more count are. normal n (front ++ other ∷ []) (turned_is_barred n front (record { count = all; signs = signs }) Above other more
+  barren = λ other more count are. normal n (front ++ other ∷ []) (even_then_above_is_barred n front (record { count = all; signs = signs }) Above other more
       (record {
         two = two;
         one = ap (λ (l : List Sign). length l) even;
@@ -74,8 +74,8 @@ none_even Even not = absurd (not (λ i. Even))
 pub left_lacks_even : (n : ℕ) (front : Word) (around : Beside) → StandBeside n front around → open_side around.right_wall < around.ahead.evens
     → (count : ℕ) (sign : Sign) → (sign ≡ Even → ⊥) → BarsSigns n front count (sign ∷ [])
 left_lacks_even n front around beside lacks all sign not = record {
-  barren = λ other more count are. signs_lack_evens n front (sign ∷ []) other more around.ahead.evens 0 (open_side around.right_wall) beside.evens_are
-      (omega arith) are (omega (arith, none_even sign not)) (omega (arith, lacks)) (λ _. omega (arith, ap open_side beside.right_is));
+  barren = λ other more count are. signs_lack_evens n front (sign ∷ []) other more around.ahead.evens (open_side around.right_wall) beside.evens_are
+      (omega arith) are (omega (arith, lacks, none_even sign not)) (λ _. omega (arith, ap open_side beside.right_is));
 }
 
 -- the sign at the right neighbour is even if the signs before it have too few even ones
@@ -83,10 +83,10 @@ pub right_lacks_even : {s : Search} {b : Begun} {around : Beside} (asked : Asked
     → IsAsked s.board b.m.signs asked → asked.evens < around.ahead.evens → length b.m.signs + 1 ≡ b.next.wanted → (sign : Sign) → (sign ≡ Even → ⊥)
     → BarsNext s b sign
 right_lacks_even {s = s} {b = b} {around = around} asked begun is lacks last sign not = record {
-  barren = λ other more count are. signs_lack_evens s.order s.board (b.m.signs ++ sign ∷ []) other more around.ahead.evens asked.evens 0
+  barren = λ other more count are. signs_lack_evens s.order s.board (b.m.signs ++ sign ∷ []) other more around.ahead.evens 0
       begun.around_is.evens_are
       (omega (arith, length-append b.m.signs (sign ∷ []))) are
-      (omega (arith, is.evens_are, evens_append b.m.signs (sign ∷ []), none_even sign not)) (omega (arith, lacks))
+      (omega (arith, lacks, is.evens_are, evens_append b.m.signs (sign ∷ []), none_even sign not))
       (λ low. absurd (omega (arith, low, count, begun.next_is.wanted_is, last, length-append b.m.signs (sign ∷ []))));
 }
 
@@ -105,7 +105,7 @@ pub need_is_barred : {s : Search} {b : Begun} {around : Beside} (signs : List Si
 need_is_barred {b = b} signs asked need begun is from own needs less =
     begun_is_barred begun signs asked is from own (needs b.next.left less (omega (arith, begun.next_is.left_is, begun.most)))
 
--- too few squares are left before the first sign of a move at the left wall
+-- where too few squares are left before the first sign of a move at the left wall, no word goes on by it
 pub none_is_barred : {s : Search} {b : Begun} {around : Beside} → IsMoveBegun s b around → b.m.signs ≡ []
     → has_left_wall (outline_of s.board) ≡ true → b.next.left < around.needs.none → BarsSigns s.order s.board b.m.count b.m.signs
 none_is_barred {s = s} {b = b} {around = around} begun none wall less =
@@ -113,7 +113,7 @@ none_is_barred {s = s} {b = b} {around = around} begun none wall less =
     (subst (λ (l : List Sign). IsAsked s.board l around.before.none) (sym none) begun.around_is.before_is.none)
     (omega (arith, ap open_side wall)) (omega (arith, ap (λ (l : List Sign). length l) none)) begun.around_is.needs_are.none less
 
--- too few squares are left with this sign at a left neighbour
+-- where too few squares are left with this sign at a left neighbour, no word goes on by it
 pub first_is_barred : {s : Search} {b : Begun} {around : Beside} (sign : Sign) (asked : Asked) (need : ℕ) → IsMoveBegun s b around
     → b.m.signs ≡ [] → has_left_wall (outline_of s.board) ≡ false → IsAsked s.board (sign ∷ []) asked
     → NeedsLeft asked.passed around.behind.even around.ahead.moves need → b.next.left < need → BarsNext s b sign
@@ -161,9 +161,9 @@ pub bars_first : (n : ℕ) (front : Word) (count : ℕ) (signs : List Sign) (sig
 bars_first n front count signs sign none bars = subst (λ (l : List Sign). BarsSigns n front count (l ++ sign ∷ [])) (sym none) bars
 
 -- the sign above is barred behind the sign even alone
-pub own_turned_is_barred : {s : Search} {b : Begun} {around : Beside} → IsMoveBegun s b around → length b.m.signs < b.next.own
+pub own_even_then_above_is_barred : {s : Search} {b : Begun} {around : Beside} → IsMoveBegun s b around → length b.m.signs < b.next.own
     → b.m.signs ≡ Even ∷ [] → BarsNext s b Above
-own_turned_is_barred {s = s} {b = b} begun low even = own_above_is_barred s.order s.board b.m.count b.m.signs (omega (
+own_even_then_above_is_barred {s = s} {b = b} begun low even = own_above_is_barred s.order s.board b.m.count b.m.signs (omega (
   arith,
   ap (λ (l : List Sign). length l) even,
   low,

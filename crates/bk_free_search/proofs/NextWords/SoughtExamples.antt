@@ -6,7 +6,7 @@ use Rattle.bk_word.specs.declared.Sign.TheVariants.{Above, Even, Under}
 use Rattle.bk_word.proofs.WordExamples.{move, two}
 use Rattle.bk_layout.specs.NormalImage.{IsNormalSought}
 use Rattle.bk_free_search.proofs.NextWords.Cutting.{lone_is_barren, normal}
-use Rattle.bk_free_search.specs.Sought.{BeginsTurned, GoesOn, GoesOnBy}
+use Rattle.bk_free_search.specs.Sought.{BeginsEvenThenAbove, GoesOn, GoesOnBy}
 
 -- 1e hangs one square under square 2 alone
 not_sought : (n : ℕ) → IsNormalSought n (two Under ∷ move 1 (Even ∷ []) ∷ []) → ⊥
@@ -40,11 +40,11 @@ not_by_under on = from on.move on.rest on.is on.more on.signs_are
     from : (m : Move) (rest : Word) → two_moves ≡ two Under ∷ m ∷ rest → (more : List Sign) → m.signs ≡ Under ∷ more → ⊥
     from m rest is more signs =
         let same : move 2 (Above ∷ Above ∷ []) ≡ m = cc in
-        let turned : Above ∷ Above ∷ [] ≡ Under ∷ more = ap (λ (n : Move). n.signs) same ∙ signs in cc
+        let same_signs : Above ∷ Above ∷ [] ≡ Under ∷ more = ap (λ (n : Move). n.signs) same ∙ signs in cc
 
 -- even and then above begins a move of two squares that breaks rule R, and none of one square
-begins_turned : BeginsTurned (move 2 (Even ∷ [])) Above
-begins_turned = record { two = omega arith; one = refl; even = refl; above = refl }
+begins_even_then_above : BeginsEvenThenAbove (move 2 (Even ∷ [])) Above
+begins_even_then_above = record { two = omega arith; one = refl; even = refl; above = refl }
 
-one_square_keeps_it : BeginsTurned (move 1 (Even ∷ [])) Above → ⊥
-one_square_keeps_it turned = omega (arith, turned.two)
+one_square_keeps_it : BeginsEvenThenAbove (move 1 (Even ∷ [])) Above → ⊥
+one_square_keeps_it begins = omega (arith, begins.two)

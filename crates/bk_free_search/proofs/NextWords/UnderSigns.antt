@@ -46,7 +46,7 @@ none_before (suc k) (Above ∷ signs) few = absurd (omega (arith, few))
 none_before (suc k) (Even ∷ signs) few = none_before k signs (omega (arith, few))
 none_before (suc k) (Under ∷ signs) few = none_before k signs (omega (arith, few))
 
--- so all are under after the move where none of its own is above, nor one behind the valley
+-- all signs are under after a move where none of its own is above, nor one behind the valley
 pub under_then : (front : Word) (m : Move) → list_any is_above m.signs ≡ false
     → list_any is_above (drop (valley_place (outline_of front).signs + 1) (outline_of front).signs) ≡ false
     → AllByRecursion (λ s. s ≡ Under) (outline_of (front ++ m ∷ [])).signs
@@ -106,21 +106,21 @@ most_after n front m after most stand is = subst (λ (k : ℕ). AreMostMoves n (
     (most_moves_are_most n (front ++ m ∷ []))
 
 -- all signs are under after the move, and no more moves are left than segments
-pub all_under : (n : ℕ) (front skel : Word) (m : Move) (after : After) (most wall : ℕ) → IsNextMove n front m → StandsAfter front m after
-    → IsLegal skel → skel ≡ front → AllByRecursion (λ s. s ≡ Under) (outline_of (front ++ m ∷ [])).signs → wall ≡ max after.left after.right
-    → most ≡ cond (nat_lt after.top wall) (n / 2) ((n + 1) / 2) → most ≤ length front + 1 + after.signs + 1 → AreAllUnder n most (front ++ m ∷ [])
-all_under n front skel m after most wall next stand legal same under wall_is is few = record {
+pub all_under : (n : ℕ) (front : Word) (m : Move) (after : After) (most : ℕ) → IsNextMove n front m → StandsAfter front m after
+    → IsLegal front → AllByRecursion (λ s. s ≡ Under) (outline_of (front ++ m ∷ [])).signs
+    → most ≡ cond (nat_lt after.top (max after.left after.right)) (n / 2) ((n + 1) / 2) → most ≤ length front + 1 + after.signs + 1
+    → AreAllUnder n most (front ++ m ∷ [])
+all_under n front m after most next stand legal under is few = record {
   many = next.least;
   some = omega (arith, length-append front (m ∷ []));
   left = omega (arith, next.few, order_append front (m ∷ []), order_more m []);
-  most_moves = most_after n front m after most stand
-      (is ∙ ap (λ (k : ℕ). cond {A = ℕ} (nat_lt after.top k) (n / 2) ((n + 1) / 2)) wall_is);
+  most_moves = most_after n front m after most stand is;
   few = omega (
     arith,
     few,
     stand.signs_are,
     length-append front (m ∷ []),
-    (shape_of_word (front ++ m ∷ []) (then_legal front m (subst IsLegal same legal) next.legal)).many,
+    (shape_of_word (front ++ m ∷ []) (then_legal front m legal next.legal)).many,
   );
   under = under;
 }
@@ -130,21 +130,13 @@ pub moves_few : {n : ℕ} {front skel : Word} {m : Move} {moves : ℕ} → IsNex
 moves_few {skel = skel} next legal same many =
     omega (arith, many, moves_many start skel legal, ap order_of same, next.few, next.most)
 
--- so many squares hang after the move at most
+-- after a next move fewer than 16 squares hang
 pub squares_few : {n : ℕ} {front skel : Word} {m : Move} {order count : ℕ} → IsNextMove n front m → skel ≡ front → order ≡ order_of skel → count ≡ m.count
     → order + count < 16
 squares_few next same order_is count_is = omega (arith, order_is, ap order_of same, count_is, next.few, next.most)
 
--- how many signs are left after a move, by what a skeleton shows
-pub signs_shown : (front skel : Word) (m : Move) (signs own : List Sign) (evens count : ℕ) → IsLegal front → IsLegalMove (outline_of front) m
-    → skel ≡ front → signs ≡ (outline_of skel).signs → evens ≡ count_by is_even own → own ≡ m.signs → count ≡ m.count
-    → length (outline_of (front ++ m ∷ [])).signs + evens + 1 ≡ length signs + count
-signs_shown front skel m signs own evens count legal move same are evens_are own_is count_is = omega (
-  arith,
-  signs_then front m legal move,
-  evens_are,
-  ap (count_by is_even) own_is,
-  count_is,
-  ap length are,
-  ap (λ (w : Word). length (outline_of w).signs) same,
-)
+-- how many signs are left after a move, by numbers that are read
+pub signs_shown : (front : Word) (m : Move) (signs evens count : ℕ) → IsLegal front → IsLegalMove (outline_of front) m
+    → signs ≡ length (outline_of front).signs → evens ≡ count_by is_even m.signs → count ≡ m.count
+    → length (outline_of (front ++ m ∷ [])).signs + evens + 1 ≡ signs + count
+signs_shown front m signs evens count legal move are evens_are count_is = omega (arith, signs_then front m legal move, evens_are, count_is, are)

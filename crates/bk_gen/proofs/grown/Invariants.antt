@@ -1,5 +1,5 @@
 use Rattle.bk_gen.proofs.UnderWay.{IsUnderWay}
 use Rattle.bk_gen.proofs.grown.Given as goal
 
-abbrev pub invariant-loop-turn : goal.invariant-loop-turn
-invariant-loop-turn l = IsUnderWay l.v l.turn-end l.turn l.initial.growing l.growing
+abbrev pub invariant-loop-step : goal.invariant-loop-step
+invariant-loop-step l = IsUnderWay l.v l.step-end l.step l.initial.growing l.growing

@@ -13,9 +13,9 @@ use Rattle.bk_layout.specs.TilingLayout.{layout_of, line_number}
 use Rattle.bk_layout.proofs.TilingLayouts.GroupNodes.{IsNode}
 
 module _ (t : Tiling) (tiling : IsTiling t) (simple : IsSimple t) where
-  lines_turned : (f g u v : ℕ) → HasOneBetween (layout_of t) g f u v ⊎ AreOutermost (layout_of t) g f u v
+  lines_exchanged : (f g u v : ℕ) → HasOneBetween (layout_of t) g f u v ⊎ AreOutermost (layout_of t) g f u v
       → HasOneBetween (layout_of t) f g u v ⊎ AreOutermost (layout_of t) f g u v
-  lines_turned f g u v (inl h) = inl (record {
+  lines_exchanged f g u v (inl h) = inl (record {
     square = h.square;
     within = h.within;
     left = either-swap h.left;
@@ -24,18 +24,18 @@ module _ (t : Tiling) (tiling : IsTiling t) (simple : IsSimple t) where
         h.above;
     under = h.under;
   })
-  lines_turned f g u v (inr h) = inr (record { lines = by h.lines; nodes = h.nodes })
+  lines_exchanged f g u v (inr h) = inr (record { lines = by h.lines; nodes = h.nodes })
     where
       by : ((g ≡ 0) × (f ≡ 1)) ⊎ ((g ≡ 1) × (f ≡ 0)) → ((f ≡ 0) × (g ≡ 1)) ⊎ ((f ≡ 1) × (g ≡ 0))
       by (inl k) = inr (k.1, k.0)
       by (inr k) = inl (k.1, k.0)
 
   -- two nodes that two lines touch may be exchanged: one square between, or the walls
-  pub nodes_turned : (f g u v : ℕ) → HasOneBetween (layout_of t) f g v u ⊎ AreOutermost (layout_of t) f g v u
+  pub nodes_exchanged : (f g u v : ℕ) → HasOneBetween (layout_of t) f g v u ⊎ AreOutermost (layout_of t) f g v u
       → HasOneBetween (layout_of t) f g u v ⊎ AreOutermost (layout_of t) f g u v
-  nodes_turned f g u v (inl h) = inl (record
+  nodes_exchanged f g u v (inl h) = inl (record
       { square = h.square; within = h.within; left = h.left; right = h.right; above = either-swap h.above; under = either-swap h.under })
-  nodes_turned f g u v (inr h) = inr (record { lines = h.lines; nodes = by h.nodes })
+  nodes_exchanged f g u v (inr h) = inr (record { lines = h.lines; nodes = by h.nodes })
     where
       by : ((v ≡ 0) × (u ≡ length (square_groups t.squares))) ⊎ ((v ≡ length (square_groups t.squares)) × (u ≡ 0))
           → ((u ≡ 0) × (v ≡ length (square_groups t.squares))) ⊎ ((u ≡ length (square_groups t.squares)) × (v ≡ 0))
@@ -50,7 +50,7 @@ module _ (t : Tiling) (tiling : IsTiling t) (simple : IsSimple t) where
     where
       cases : (x < z) ⊎ (z ≤ x) → (z < x) ⊎ (x ≤ z) → HasOneBetween (layout_of t) f g u v ⊎ AreOutermost (layout_of t) f g u v
       cases (inl h) k = ordered t tiling simple f g u v upper lower x z a b c d high h
-      cases (inr h) (inl k) = lines_turned f g u v (ordered t tiling simple g f u v upper lower z x c d a b high k)
+      cases (inr h) (inl k) = lines_exchanged f g u v (ordered t tiling simple g f u v upper lower z x c d a b high k)
       cases (inr h) (inr k) = let same : x ≡ z = omega arith in absurd (differ (
           sym (passes t tiling f x u v upper lower a b upper.level (omega arith) high)
           ∙ ap (λ (n : ℕ). line_number t n upper.level) same

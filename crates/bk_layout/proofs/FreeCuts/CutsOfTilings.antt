@@ -76,16 +76,17 @@ pub one_segment_is_free_barren : OneSegmentIsFreeBarren
 one_segment_is_free_barren n front some few one l w rest sound word is =
     one_segment_fits l sound.fits w word sound.simple sound.walls front rest is some (omega (arith, few, sound.squares)) one
 
--- nor do moves of which one has the sign even between two of its own squares
+-- moves of which one has the sign even between two of its own squares begin no word of a sound layout
 pub even_squares_are_free_barren : EvenSquaresAreFreeBarren
 even_squares_are_free_barren n front m even l w rest sound word is = evens_fit l sound.fits w word sound.simple front m rest (snoc front m rest w is) even
 
--- nor those of which one hangs one square under a segment of one square
+-- moves of which one hangs one square under a segment of one square begin no word of a sound layout
 pub one_under_one_is_free_barren : OneUnderOneIsFreeBarren
 one_under_one_is_free_barren n front m count valley l w rest sound word is =
     pairs_fit l sound.fits w word sound.simple front m rest (snoc front m rest w is) valley count
 
--- nor for both and the lines that run down from the top
+-- moves after which too few squares are left for the closings, the valleys of one square and the lines that run down from the top begin no word of a sound
+-- layout
 pub too_many_lines_is_free_barren : TooManyLinesIsFreeBarren
 too_many_lines_is_free_barren n front least few l w rest sound word is =
     omega (arith, few, sound.squares, lines_fit l sound.fits w word sound.simple sound.walls front rest is (omega (arith, sound.squares, least)))

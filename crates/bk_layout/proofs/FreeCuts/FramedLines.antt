@@ -95,7 +95,7 @@ module _ (t : Tiling) (tiling : IsTiling t) (simple : IsSimple t) (f g u v : ℕ
       bottom (inl m) = absurd (omega (arith, m.1, all.bottom_is))
       bottom (inr m) = m.0
 
-  -- they have one square between, or all
+  -- two lines, the second further to the right, and two nodes, the second further down, that they touch have one square between, or all
   pub ordered : HasOneBetween (layout_of t) f g u v ⊎ AreOutermost (layout_of t) f g u v
   ordered = cases (one_or_all t tiling simple x z upper.level lower.level frame)
     where

@@ -132,7 +132,7 @@ module _ (t : Tiling) (tiling : IsTiling t) (simple : IsSimple t) (left right to
           cases (inl a) (inl b) (inr c) d = out (outside_bottom rect q (omega (arith, height_is, c)))
           cases (inl a) (inl b) (inl c) (inr d) = out (outside_top rect q d)
 
-  -- it is one square
+  -- the frame is one square
   pub record IsOne : Type 0 where
     pub square : Square
     pub is : IsOneOf square t.squares
@@ -142,7 +142,7 @@ module _ (t : Tiling) (tiling : IsTiling t) (simple : IsSimple t) (left right to
     pub bottom_is : square.y + square.s ≡ bottom
     pub only : (q : Square) → IsOneOf q t.squares → IsInside left right top bottom q → q ≡ square
 
-  -- or the whole
+  -- the frame is the whole rectangle
   pub record IsAll : Type 0 where
     pub left_is : left ≡ 0
     pub right_is : right ≡ t.width

@@ -20,7 +20,7 @@ module _ (l : Layout) (square : ℕ → ℕ) where
   abbrev pub IsKnown : ℕ → Type 0
   IsKnown n = (n ≡ 0) ⊎ (n ≡ 1) ⊎ NoWall (numbered_line l square n)
 
-  -- so are both numbers of each pair
+  -- both numbers of each pair are those of walls, or of lines that are none
   abbrev pub AllKnown : List (ℕ × ℕ) → Type 0
   AllKnown sides = (k : ℕ) (p : ℕ × ℕ) → slice_get sides k ≡ Some p → IsKnown p.0 × IsKnown p.1
 

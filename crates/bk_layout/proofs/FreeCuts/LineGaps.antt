@@ -26,7 +26,7 @@ IsLine wall sides f = (f ≡ wall) ⊎ IsGap sides f
 abbrev pub AreLineNumbers : List (ℕ × ℕ) → Type 0
 AreLineNumbers sides = (k : ℕ) (p : ℕ × ℕ) → slice_get sides k ≡ Some p → IsLine 0 sides p.0 × IsLine 1 sides p.1
 
--- it stays one when more squares come
+-- a number of a line stays one when more squares come
 pub line_more : (wall : ℕ) (sides more : List (ℕ × ℕ)) (f : ℕ) → IsLine wall sides f → IsLine wall (sides ++ more) f
 line_more wall sides more f (inl e) = inl e
 line_more wall sides more f (inr g) = inr (record {
@@ -144,7 +144,7 @@ lines_grow o sides (m ∷ w) =
     let news = new_sides (length o.hung) m.count (left_end sides (valley_of o)) (right_end sides (valley_of o)) in
     (news ++ r.0, r.1 ∙ append_assoc sides news r.0)
 
--- the lines after two words played in turn are those after the second, begun from those after the first
+-- the lines after two words played one after the other are those after the second, begun from those after the first
 pub lines_append : (o : Outline) (sides : List (ℕ × ℕ)) (front rest : Word)
     → sides_along o sides (front ++ rest) ≡ sides_along (after_moves o front) (sides_along o sides front) rest
 lines_append o sides [] rest = refl

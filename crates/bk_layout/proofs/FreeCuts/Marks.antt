@@ -42,7 +42,7 @@ module _ (t : Tiling) (tiling : IsTiling t) where
     none_passed : (y c : ℕ) → 0 < x → x < t.width → y < lower.level → a.square.y < c → c ≤ y → Ends t.squares x c → ⊥
     none_passed y c some wide hi lo k e = none_before t.squares x (t.height - a.square.y) a.square.y c lo (omega (arith, ends_low some wide)) e
 
-    -- it is the line at each level between
+    -- an inner line that ends at the second node's level or below is the line at each level between the nodes
     pub passes : (y : ℕ) → upper.level ≤ y → y < lower.level → line_number t x y ≡ f
     passes y lo hi = cases (cases_lt 0 x) (cases_lt x t.width)
       where
@@ -113,7 +113,7 @@ module _ (t : Tiling) (tiling : IsTiling t) where
                       (omega (arith, first.some, end)) (omega arith) (omega (arith, z.on.right)))).2,
                 )
 
-    -- so a mark's line is that at their level
+    -- where two nodes meet end to end, a mark's line is the one at their level
     pub number_there : (f w : ℕ) (node : IsNode t w) → node.level ≡ first.level → (a : IsMark t f x w node) → f ≡ line_number t x first.level
     number_there f w node same a = cases a.at
       where

@@ -46,11 +46,11 @@ a_simple_tiling_has_a_signed_word t tiling simple many = from (a_sound_layout_ha
     from h = record {
       around = around;
       sound_word = h;
-      signed = (a_word_up_to_reversals_is_signed t h.by_rule.turned h.by_rule.word tiling h.by_rule.fits h.by_rule.same h.by_rule.is_word).0;
+      signed = (a_word_up_to_reversals_is_signed t h.by_rule.layout h.by_rule.word tiling h.by_rule.fits h.by_rule.same h.by_rule.is_word).0;
       keeps = h.by_rule.none around.sound.simple.twins;
     }
 
--- it has a net word
+-- a simple tiling of at least 3 squares has a net word
 pub a_simple_tiling_has_a_net_word : ASimpleTilingHasANetWord
 a_simple_tiling_has_a_net_word t tiling simple many = from (a_simple_tiling_has_a_signed_word t tiling simple many)
   where
@@ -60,6 +60,6 @@ a_simple_tiling_has_a_net_word t tiling simple many = from (a_simple_tiling_has_
       record {
         signed = s.signed;
         keeps = s.keeps;
-        no_barren = λ front rest is barren. barren h.by_rule.turned h.by_rule.word rest h.around.sound h.by_rule.is_word s.keeps is;
+        no_barren = λ front rest is barren. barren h.by_rule.layout h.by_rule.word rest h.around.sound h.by_rule.is_word s.keeps is;
       },
     )

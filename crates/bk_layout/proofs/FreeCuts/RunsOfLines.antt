@@ -212,7 +212,7 @@ module _ (sides : List (ℕ × ℕ)) (all : AreLineNumbers sides) where
       );
     }
 
-  -- so is each outline
+  -- each shaped outline is cut at its leftmost valley, where its squares stand in a row or there are none
   pub cut : (o : Outline) → Shaped o → IsRow sides o → IsCut sides o
   cut o shaped (inl e) = subst (IsCut sides) (sym e) start_cut
   cut o shaped (inr r) = filled_cut o shaped r.0 r.1

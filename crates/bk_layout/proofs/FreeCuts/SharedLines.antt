@@ -51,7 +51,7 @@ module _ (l : Layout) (fits : Fits l) (w : Word) (word : IsWordOfLayout l w) whe
   pub square_apart : (j k : ℕ) → j < length (outline_of w).hung → k < length (outline_of w).hung → word.square j ≡ word.square k → j ≡ k
   square_apart j k a b e = word.net.wire_apart.apart j k (omega (arith, a, wires_w)) (omega (arith, b, wires_w)) e
 
-  -- its nodes are not taken for one another
+  -- no two nodes of a word are one of the layout
   pub node_apart : (u v : ℕ) → u ≤ length (outline_of w).closed → v ≤ length (outline_of w).closed → word.node u ≡ word.node v → u ≡ v
   node_apart u v a b e = word.net.node_apart.apart u v (omega (arith, a)) (omega (arith, b)) e
 

@@ -74,8 +74,8 @@ module _ (l : Layout) (fits : Fits l) (simple : IsSimpleLayout l) (lines : AreLi
     own : l.left z ≡ l.right z → ⊥
     own h = lines.order t.node place.0 place.0 z z place.1 place.1 (omega arith) h
 
-    turned : l.left z ≡ right_line → l.right z ≡ left_line → ⊥
-    turned h k = cases (cases_lt place.0 (t.from + i))
+    exchanged : l.left z ≡ right_line → l.right z ≡ left_line → ⊥
+    exchanged h k = cases (cases_lt place.0 (t.from + i))
       where
         cases : (place.0 < t.from + i) ⊎ (t.from + i ≤ place.0) → ⊥
         cases (inl q) = lines.order t.node place.0 (t.from + j) z (word.square (b - 1)) place.1 (t.stands j b g) (omega (arith, q, order)) h
@@ -85,7 +85,7 @@ module _ (l : Layout) (fits : Fits l) (simple : IsSimpleLayout l) (lines : AreLi
         × (slice_get (outline_of front).hung (a - 1) ≡ Some v)
     sides (inl h) (inl k) = absurd (own (h ∙ sym k))
     sides (inl h) (inr k) = is_it h k
-    sides (inr h) (inl k) = absurd (turned h k)
+    sides (inr h) (inl k) = absurd (exchanged h k)
     sides (inr h) (inr k) = absurd (own (h ∙ sym k))
 
   one_between : HasOneBetween l left_line right_line (word.node v) t.node → (i ≡ j) × (slice_get (outline_of front).hung (a - 1) ≡ Some v)

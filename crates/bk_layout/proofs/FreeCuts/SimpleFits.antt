@@ -17,7 +17,7 @@ use Rattle.bk_layout.proofs.FreeCuts.Twins.{none_below, none_beside}
 use Rattle.bk_layout.specs.Layout.{HasNoTwins}
 use Rattle.bk_layout.specs.SimpleLayout.{ASimpleTilingHasASimpleLayout, AreOutermost, HasNoPairs, HasNoParts, HasOneBetween}
 use Rattle.bk_layout.specs.TilingLayout.{from_left, layout_of, node_above}
-use Rattle.bk_layout.proofs.FreeCuts.BetweenLines.{by_columns, level_nodes, nodes_turned}
+use Rattle.bk_layout.proofs.FreeCuts.BetweenLines.{by_columns, level_nodes, nodes_exchanged}
 use Rattle.bk_layout.proofs.FreeCuts.TouchedNodes.{HasMark, mark_of, one_column, touched_node}
 use Rattle.bk_layout.proofs.TilingLayouts.GroupNodes.{IsNode}
 
@@ -53,7 +53,7 @@ module _ (t : Tiling) (tiling : IsTiling t) where
         cases : (first.level < second.level) ⊎ (second.level ≤ first.level) → (second.level < first.level) ⊎ (first.level ≤ second.level)
             → HasOneBetween (layout_of t) f g u v ⊎ AreOutermost (layout_of t) f g u v
         cases (inl h) k = by_columns t tiling simple f g u v first second a.column c.column a.mark b_here c.mark d_here h lines
-        cases (inr h) (inl k) = nodes_turned t tiling simple f g u v
+        cases (inr h) (inl k) = nodes_exchanged t tiling simple f g u v
             (by_columns t tiling simple f g v u second first a.column c.column b_here a.mark d_here c.mark k lines)
         cases (inr h) (inr k) = absurd
             (level_nodes t tiling simple f g u v first second a.column c.column a.mark b_here c.mark d_here (omega arith) lines nodes)

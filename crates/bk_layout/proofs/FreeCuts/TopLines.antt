@@ -38,7 +38,7 @@ module _ (l : Layout) (fits : Fits l) (simple : IsSimpleLayout l) (walls : AreOu
     bottom : l.below square ≡ l.bottom
 
   down : (f g : ℕ) → HasOneBetween l f g 0 l.bottom → ((q : ℕ) → q < l.squares → l.left q ≡ g → l.right q ≡ f → ⊥) → IsDown f g
-  down f g b turned = record {
+  down f g b exchanged = record {
     square = b.square;
     within = b.within;
     left = (sides b.left b.right).0;
@@ -50,7 +50,7 @@ module _ (l : Layout) (fits : Fits l) (simple : IsSimpleLayout l) (walls : AreOu
       sides : (l.left b.square ≡ f) ⊎ (l.left b.square ≡ g) → (l.right b.square ≡ f) ⊎ (l.right b.square ≡ g) → (l.left b.square ≡ f) × (l.right b.square ≡ g)
       sides (inl e) (inl h) = absurd (walls.apart b.square b.within (e ∙ sym h))
       sides (inl e) (inr h) = (e, h)
-      sides (inr e) (inl h) = absurd (turned b.square b.within e h)
+      sides (inr e) (inl h) = absurd (exchanged b.square b.within e h)
       sides (inr e) (inr h) = absurd (walls.apart b.square b.within (e ∙ sym h))
 
       nodes : (l.above b.square ≡ 0) ⊎ (l.above b.square ≡ l.bottom) → (l.below b.square ≡ 0) ⊎ (l.below b.square ≡ l.bottom)

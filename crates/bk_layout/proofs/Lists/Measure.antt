@@ -63,7 +63,7 @@ sign_digits : (b : ℕ) (signs : List Sign) → 4 ≤ b → AreDigits b (map sig
 sign_digits b [] h = tt
 sign_digits b (g ∷ signs) h = (omega (arith, h, place_low g), sign_digits b signs h)
 
--- they are below a base that is greater than the order
+-- the digits of a word are below a base that is greater than the order
 pub are_digits : (b : ℕ) (w : Word) → 4 ≤ b → order_of w + 2 ≤ b → AreDigits b (digits w)
 are_digits b [] h e = tt
 are_digits b (m ∷ w) h e = append_digits b (m.count ∷ map sign_place m.signs) (digits w)

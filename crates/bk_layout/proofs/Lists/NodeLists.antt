@@ -65,11 +65,11 @@ sorted_by_places n a h is has once = record { counted = λ q v low. counted q v 
 pub hanging_sorted : (l : Layout) → AreLists l → Sorted l.squares l.above l.hanging
 hanging_sorted l lists = sorted_by_places l.squares l.above l.hanging lists.hanging_is lists.hangs lists.hanging_once
 
--- so is what ends on them
+-- what ends on the nodes of a layout are lists in which each square stands once, at its own node
 pub ending_sorted : (l : Layout) → AreLists l → Sorted l.squares l.below l.ending
 ending_sorted l lists = sorted_by_places l.squares l.below l.ending lists.ending_is lists.ends lists.ending_once
 
--- such lists of what hangs and of what ends are those of a layout
+-- lists of what hangs and of what ends, in which each square stands once, at its own node, are those of a layout
 pub lists_of_sorted : (l : Layout) → Sorted l.squares l.above l.hanging → Sorted l.squares l.below l.ending → AreLists l
 lists_of_sorted l hangings endings = record {
   hanging_is = sorted_is l.squares l.above l.hanging hangings;

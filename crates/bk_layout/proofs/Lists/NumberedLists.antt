@@ -44,26 +44,26 @@ at_number P f b (suc n) k all lo hi = cases (cases_lt b k) (at_number P f (b + 1
 
 -- ---- wires of which some are reversed
 
--- as many wires are there after some are turned
-pub reversed_length : (turned : ℕ → Bool) (b : ℕ) (ws : List (ℕ × ℕ)) → length (with_reversed turned b ws) ≡ length ws
-reversed_length turned b [] = refl
-reversed_length turned b (w ∷ ws) = ap suc (reversed_length turned (b + 1) ws)
+-- as many wires are there after some are reversed
+pub reversed_length : (is_reversed : ℕ → Bool) (b : ℕ) (ws : List (ℕ × ℕ)) → length (with_reversed is_reversed b ws) ≡ length ws
+reversed_length is_reversed b [] = refl
+reversed_length is_reversed b (w ∷ ws) = ap suc (reversed_length is_reversed (b + 1) ws)
 
--- the wire at a place is the one that was there, turned where it is one of those
-pub reversed_get : (turned : ℕ → Bool) (f : ℕ → ℕ × ℕ) (b n k : ℕ) → k < n
-    → slice_get (with_reversed turned b (map f (numbers_from b n))) k ≡ Some (cond (turned (b + k)) ((f (b + k)).1, (f (b + k)).0) (f (b + k)))
-reversed_get turned f b zero k h = absurd (omega arith)
-reversed_get turned f b (suc n) zero h = ap (λ (i : ℕ). Some (cond {A = ℕ × ℕ} (turned i) ((f i).1, (f i).0) (f i))) (omega arith)
-reversed_get turned f b (suc n) (suc k) h = reversed_get turned f (b + 1) n k (omega arith)
-    ∙ ap (λ (i : ℕ). Some (cond {A = ℕ × ℕ} (turned i) ((f i).1, (f i).0) (f i))) (omega arith)
+-- the wire at a place is the one that was there, reversed where it is one of those
+pub reversed_get : (is_reversed : ℕ → Bool) (f : ℕ → ℕ × ℕ) (b n k : ℕ) → k < n
+    → slice_get (with_reversed is_reversed b (map f (numbers_from b n))) k ≡ Some (cond (is_reversed (b + k)) ((f (b + k)).1, (f (b + k)).0) (f (b + k)))
+reversed_get is_reversed f b zero k h = absurd (omega arith)
+reversed_get is_reversed f b (suc n) zero h = ap (λ (i : ℕ). Some (cond {A = ℕ × ℕ} (is_reversed i) ((f i).1, (f i).0) (f i))) (omega arith)
+reversed_get is_reversed f b (suc n) (suc k) h = reversed_get is_reversed f (b + 1) n k (omega arith)
+    ∙ ap (λ (i : ℕ). Some (cond {A = ℕ × ℕ} (is_reversed i) ((f i).1, (f i).0) (f i))) (omega arith)
 
--- wires that differ by these turns are the turned ones
-pub reversed_numbers : (turned : ℕ → Bool) (f : ℕ → ℕ × ℕ) (g : ℕ → ℕ × ℕ) (b n : ℕ)
-    → ((k : ℕ) → b ≤ k → k < b + n → g k ≡ cond (turned k) ((f k).1, (f k).0) (f k))
-    → map g (numbers_from b n) ≡ with_reversed turned b (map f (numbers_from b n))
-reversed_numbers turned f g b zero each = refl
-reversed_numbers turned f g b (suc n) each =
-    λ i. each b (omega arith) (omega arith) i ∷ reversed_numbers turned f g (b + 1) n (λ k lo hi. each k (omega arith) (omega arith)) i
+-- wires that differ where they are reversed are the reversed ones
+pub reversed_numbers : (is_reversed : ℕ → Bool) (f : ℕ → ℕ × ℕ) (g : ℕ → ℕ × ℕ) (b n : ℕ)
+    → ((k : ℕ) → b ≤ k → k < b + n → g k ≡ cond (is_reversed k) ((f k).1, (f k).0) (f k))
+    → map g (numbers_from b n) ≡ with_reversed is_reversed b (map f (numbers_from b n))
+reversed_numbers is_reversed f g b zero each = refl
+reversed_numbers is_reversed f g b (suc n) each =
+    λ i. each b (omega arith) (omega arith) i ∷ reversed_numbers is_reversed f g (b + 1) n (λ k lo hi. each k (omega arith) (omega arith)) i
 
 -- what holds of numbers in a row holds of each of them
 pub each_from : (P : ℕ → Type 0) (b n : ℕ) → AllByRecursion P (numbers_from b n) → (v : ℕ) → b ≤ v → v < b + n → P v

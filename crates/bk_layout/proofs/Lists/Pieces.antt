@@ -30,7 +30,7 @@ pub tail_got : (xs : List ℕ) (k : ℕ) → slice_get (without_first xs) k ≡ 
 tail_got [] k = refl
 tail_got (x ∷ xs) k = refl
 
--- it is one shorter
+-- a list without its first item is one shorter
 pub tail_length : (xs : List ℕ) → 0 < length xs → suc (length (without_first xs)) ≡ length xs
 tail_length [] h = absurd (omega arith)
 tail_length (x ∷ xs) h = refl

@@ -22,9 +22,9 @@ total_none : (b n : ℕ) → total_from (λ k. 0) b n ≡ 0
 total_none b zero = refl
 total_none b (suc n) = omega (arith, total_none (b + 1) n)
 
-total_turned : (f : ℕ → ℕ → ℕ) (a n b m : ℕ) → total_from (λ k. total_from (f k) a n) b m ≡ total_from (λ j. total_from (λ k. f k j) b m) a n
-total_turned f a n b zero = sym (total_none a n)
-total_turned f a n b (suc m) = omega (arith, total_turned f a n (b + 1) m, total_add (f b) (λ j. total_from (λ k. f k j) (b + 1) m) a n)
+total_exchanged : (f : ℕ → ℕ → ℕ) (a n b m : ℕ) → total_from (λ k. total_from (f k) a n) b m ≡ total_from (λ j. total_from (λ k. f k j) b m) a n
+total_exchanged f a n b zero = sym (total_none a n)
+total_exchanged f a n b (suc m) = omega (arith, total_exchanged f a n (b + 1) m, total_add (f b) (λ j. total_from (λ k. f k j) (b + 1) m) a n)
 
 -- one of the values is picked
 pick_none : (h : ℕ → ℕ) (x a n : ℕ) → x < a → total_from (λ j. cond (x == j) (h j) 0) a n ≡ 0
@@ -95,7 +95,7 @@ ones b (suc n) = omega (arith, ones (b + 1) n)
 -- a sum along a renumbering
 module _ (n : ℕ) (f : ℕ → ℕ) (below : (k : ℕ) → k < n → f k < n) (apart : (j k : ℕ) → j < n → k < n → f j ≡ f k → j ≡ k) where
   all_times : total_from (λ j. times_of f j 0 n) 0 n ≡ n
-  all_times = sym (total_turned (λ k j. cond (f k == j) 1 0) 0 n 0 n)
+  all_times = sym (total_exchanged (λ k j. cond (f k == j) 1 0) 0 n 0 n)
       ∙ total_same (λ k. total_from (λ j. cond (f k == j) 1 0) 0 n) (λ k. 1) 0 n
       (λ k lo hi. pick (λ j. 1) (f k) 0 n (omega arith) (omega (arith, below k (omega arith)))) ∙ ones 0 n
 
@@ -107,6 +107,6 @@ module _ (n : ℕ) (f : ℕ → ℕ) (below : (k : ℕ) → k < n → f k < n) (
   pub renumbered : (h : ℕ → ℕ) → total_from (λ k. h (f k)) 0 n ≡ total_from h 0 n
   renumbered h = sym (total_same (λ k. total_from (λ j. cond (f k == j) (h j) 0) 0 n) (λ k. h (f k)) 0 n
       (λ k lo hi. pick h (f k) 0 n (omega arith) (omega (arith, below k (omega arith)))))
-      ∙ total_turned (λ k j. cond (f k == j) (h j) 0) 0 n 0 n
+      ∙ total_exchanged (λ k j. cond (f k == j) (h j) 0) 0 n 0 n
       ∙ total_same (λ j. total_from (λ k. cond (f k == j) (h j) 0) 0 n) h 0 n
       (λ j lo hi. weighted f j (h j) 0 n ∙ ap (λ (m : ℕ). m * h j) (once j (omega arith)) ∙ omega arith)

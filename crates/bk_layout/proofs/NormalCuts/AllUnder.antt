@@ -90,7 +90,7 @@ module _ (o : Outline) (m : Move) (rest : Word) (r : AreByRules o (m ∷ rest)) 
       wall : (a b : ℕ) → a ≡ b → open_side (nat_eq a b) ≡ 0
       wall a b e = grind (arith, nat_tests)
 
-  -- so the move is one at the right wall
+  -- a move of one square that ends even with the segment at its left is one at the right wall
   pub at_right : ◌≡◌ {A = ℕ} (cond (has_right_wall o) 1 0) 1
   at_right = omega (arith, right_wall, wall_or_side (has_right_wall o))
 
@@ -218,7 +218,7 @@ module _ (o : Outline) (m : Move) (rest : Word) (r : AreByRules o (m ∷ rest)) 
       low_here : bound m.signs (singles (x ∷ numbers)) < length o.segments
       low_here = subst (λ (k : ℕ). k < length o.segments) (λ i. bound (before_none i ++ m.signs) (v.no_before e i ++ (e i ++ singles (g i)))) low
 
-  -- so it hangs one square, even with that segment
+  -- the move hangs one square, even with the segment at its left
   pub one_even : IsOneEven m
   one_even = cases v.left_beside
     where

@@ -63,7 +63,7 @@ one_last o [] legal shaped twins one few = omega arith
 one_last o (m ∷ k ∷ rest) legal shaped twins one few = absurd (omega arith)
 one_last o (m ∷ []) legal shaped twins one few = omega (arith, order_more m [], segments_after o m legal.0 shaped twins.0, sides_many o shaped, one)
 
--- so no word has two squares left where it has one move at most
+-- no word has two squares left where it has one move at most
 pub one_left : (n : ℕ) (l : Layout) (w front rest : Word) → IsSound n l → IsWordOfLayout l w → w ≡ front ++ rest → length w ≤ length front + 1
     → n ≤ order_of front + 1
 one_left n l w front rest sound word is few = omega (

@@ -56,7 +56,7 @@ module _ (n : ℕ) (l : Layout) (w : Word) (sound : IsSound n l) (word : IsWordO
     lines_fit l sound.fits w word sound.simple sound.walls w [] (sym (append-nil w)) (omega (arith, many, sound.squares)),
   )
 
-  -- so the moves that are left are at least the closings, with marks of lines
+  -- the moves that are left are at least the closings, with marks of lines
   pub closings_left : 3 ≤ n → line_bound_of front ≤ length rest
   closings_left many = omega (arith, lines_moves (outline_of front) (edges_on_lines front) rest legal shaped lines_front, same, none_at_end many)
     where

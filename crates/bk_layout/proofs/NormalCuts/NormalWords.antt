@@ -28,7 +28,7 @@ a_normal_tiling_has_a_normal_word t tiling simple many normal = from (a_simple_t
         signed = s.signed;
         keeps = s.keeps;
         counts = counts;
-        no_barren = λ front rest is barren. barren sound_word.by_rule.turned sound_word.by_rule.word rest sound_word.around.sound normal_turned
+        no_barren = λ front rest is barren. barren sound_word.by_rule.layout sound_word.by_rule.word rest sound_word.around.sound normal_layout
             sound_word.by_rule.is_word s.keeps is;
       },
     )
@@ -36,12 +36,12 @@ a_normal_tiling_has_a_normal_word t tiling simple many normal = from (a_simple_t
         sound_word : HasSoundWordByRuleR (order t) (layout_of t)
         sound_word = s.sound_word
 
-        normal_turned : IsNormalLayout sound_word.by_rule.turned
-        normal_turned = reversals_keep_normal (layout_of t) sound_word.by_rule.turned s.around.sound.fits s.around.sound.walls
+        normal_layout : IsNormalLayout sound_word.by_rule.layout
+        normal_layout = reversals_keep_normal (layout_of t) sound_word.by_rule.layout s.around.sound.fits s.around.sound.walls
             sound_word.around.sound.fits sound_word.around.sound.walls sound_word.by_rule.same (a_normal_tiling_has_a_normal_layout t tiling normal)
 
         counts : counts_of_word sound_word.by_rule.word ≡ counts_of t
-        counts = (a_word_shows_numbers sound_word.by_rule.turned sound_word.by_rule.word sound_word.around.sound.fits sound_word.around.sound.walls
+        counts = (a_word_shows_numbers sound_word.by_rule.layout sound_word.by_rule.word sound_word.around.sound.fits sound_word.around.sound.walls
             sound_word.by_rule.is_word).counts
-            ∙ (reversals_keep_counts (layout_of t) sound_word.by_rule.turned s.around.sound.fits s.around.sound.walls sound_word.around.sound.fits
+            ∙ (reversals_keep_counts (layout_of t) sound_word.by_rule.layout s.around.sound.fits s.around.sound.walls sound_word.around.sound.fits
             sound_word.around.sound.walls sound_word.by_rule.same).counts ∙ the_layout_has_the_counts t tiling

@@ -46,7 +46,7 @@ seen_most low (Above ∷ signs) (size ∷ sizes) (mark ∷ marks) many long = om
 seen_most low (Even ∷ signs) (size ∷ sizes) (mark ∷ marks) many long = omega (arith, unders-cons Even signs)
 seen_most low (Under ∷ signs) (size ∷ sizes) (mark ∷ marks) many long = omega (arith, unders-cons Under signs)
 
--- so the pass counts it
+-- a pass from the first segment on counts the strong bound and the weight
 pub the_pass_counts_the_bound : ThePassCountsTheBound
 the_pass_counts_the_bound signs sizes marks many long = onto (the_pass_is_strong none_passed signs sizes marks many long)
   where

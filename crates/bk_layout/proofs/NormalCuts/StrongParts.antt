@@ -75,7 +75,7 @@ weight_joined b (Even ∷ signs) (s ∷ segments) = omega (
   weight_low b (filter parts signs) (before_first_list s (joined signs segments)),
 )
 
--- nor does what stands before
+-- the weight of segments is no greater than with others in front of them
 pub weight_behind : (b : Bool) (xs ys : List Sign) (ss ts : List (List ℕ)) → length xs ≡ length ss → weight false ys ts ≤ weight b (xs ++ ys) (ss ++ ts)
 weight_behind = behind weight weight_low (λ b x signs s segments. (behind_first b x signs (length s) (map length segments) false []).0)
 
@@ -147,7 +147,7 @@ module _ (P : List ℕ → Bool) (grows_left : (s t : List ℕ) → P t ≡ true
     head_counts b s (filter parts signs) (joined signs segments),
   )
 
-  -- nor does what stands before
+  -- the strong bound of segments is no greater than with others in front of them
   pub strong_behind : (b : Bool) (xs ys : List Sign) (ss ts : List (List ℕ)) → length xs ≡ length ss → strong false ys ts ≤ strong b (xs ++ ys) (ss ++ ts)
   strong_behind = behind strong strong_low
       (λ b x signs s segments. omega (arith, (behind_first b x signs (length s) (map length segments) (P s) (map P segments)).1))

@@ -56,11 +56,11 @@ as_it_is t tiling f l a = record {
     right : (more_across t ≡ (counts_of t).right) × (fewer_across t ≡ (counts_of t).left)
     right = max_min-of_le (counts_of t).left (counts_of t).right a.across
 
-    max_turned_in : (a b : ℕ) → a ≤ b → (max b a ≡ b) × (min b a ≡ a)
-    max_turned_in a b h = (grind arith, grind arith)
+    max_exchanged : (a b : ℕ) → a ≤ b → (max b a ≡ b) × (min b a ≡ a)
+    max_exchanged a b h = (grind arith, grind arith)
 
     top : (more_level t ≡ (counts_of t).top) × (fewer_level t ≡ (counts_of t).bottom)
-    top = max_turned_in (counts_of t).bottom (counts_of t).top l.level
+    top = max_exchanged (counts_of t).bottom (counts_of t).top l.level
 
     most : (counts_of t).right ≡ (counts_of t).top → more_across t ≡ more_level t
     most e = omega (arith, e, right.0, top.0)

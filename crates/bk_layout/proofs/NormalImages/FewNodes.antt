@@ -43,7 +43,7 @@ pub record AreAsMany (t u : Tiling) : Type 0 where
   pub height : u.height ≡ t.height
   pub width : u.width ≡ t.width
 
--- so few nodes stay few
+-- where a tiling has few nodes, one of as many squares and nodes does
 pub few_kept : (t u : Tiling) → AreAsMany t u → AreFew t → AreFew u
 few_kept t u s f = record {
   few = omega (arith, f.few, s.squares, s.moves);
@@ -64,7 +64,7 @@ few_kept t u s f = record {
 abbrev pub AreThese : ℕ → ℕ → ℕ → ℕ → Type 0
 AreThese a b c d = ((c ≡ a) × (d ≡ b)) ⊎ ((c ≡ b) × (d ≡ a))
 
--- then the greater of them is the same, and the smaller is
+-- where two numbers are these, in one order or the other, the greater of them is the same, and so is the smaller
 pub max_min-of_these : (a b c d : ℕ) → AreThese a b c d → (max c d ≡ max a b) × (min c d ≡ min a b)
 max_min-of_these a b c d (inl (e, f)) = (max-of_equal a b c d e f, min-of_equal a b c d e f)
 max_min-of_these a b c d (inr (e, f)) = (max-of_swapped a b c d e f, min-of_swapped a b c d e f)

@@ -36,7 +36,7 @@ module _ (t : Tiling) (tiling : IsTiling t) (q : Square) (h : IsOneOf q t.square
       cases (inl m) = absurd (omega (arith, m.0))
       cases (inr m) = m.1
 
-  -- it ends on the bottom where it ends at the height
+  -- a square ends on the bottom where it ends at the height
   pub on_bottom : (node_below (square_groups t.squares) q ≡ length (square_groups t.squares)) ↔ (q.y + q.s ≡ t.height)
   on_bottom = ((λ e. omega (arith, (bottom_node.end_to q h e).0, bottom_level)), (λ e. sym (at_bottom t tiling q h e)))
 

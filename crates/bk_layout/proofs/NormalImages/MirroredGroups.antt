@@ -6,7 +6,7 @@ use Rattle.std.proofs.lemmas.List.Sums.{sum-map}
 use Rattle.std.proofs.lemmas.Simd.{map-map}
 use Rattle.bk_tiling.proofs.GroupCount.{AreLaid, groups_counted}
 use Rattle.bk_tiling.proofs.OrderLaws.{sum_ordered}
-use Rattle.bk_tiling.proofs.PairCounts.{pairs_turned}
+use Rattle.bk_tiling.proofs.PairCounts.{pairs_exchanged}
 use Rattle.bk_tiling.proofs.TilingLaws.{cell_most, side_of, within_of}
 use Rattle.bk_tiling.specs.CodeOrder.{stands_beside}
 use Rattle.bk_tiling.specs.SquareGroups.{square_groups}
@@ -43,7 +43,7 @@ module _ (t : Tiling) (tiling : IsTiling t) where
       (λ r h. image_count t FlipX (λ p. stands_beside p (mirror r))
       ∙ count_same_in (λ p. stands_beside (mirror p) (mirror r)) (stands_beside r) t.squares
       (λ p k. mirrored_beside t.width t.height p r (within_of t tiling p k).right (within_of t tiling r h).right))
-      ∙ pairs_turned stands_beside t.squares t.squares
+      ∙ pairs_exchanged stands_beside t.squares t.squares
 
   -- an image flipped along x has as many groups
   pub flip_x_groups : length (square_groups (image FlipX t).squares) ≡ length (square_groups t.squares)

@@ -28,7 +28,7 @@ module _ (t : Tiling) (tiling : IsTiling t) where
       ∙ flip_x_groups (image Swap t) (images_are_tilings t Swap tiling)
 
 module _ (t : Tiling) (tiling : IsTiling t) where
-  -- so it has as many groups
+  -- a tiling turned upside down has as many groups
   pub flip_y_groups : groups_of (image FlipY t) ≡ groups_of t
   flip_y_groups = omega (
     arith,

@@ -10,7 +10,7 @@ use Rattle.bk_layout.proofs.Sweeps.Chains.{Chain, chain_behind, even_neighbours,
 use Rattle.bk_layout.proofs.Lists.SquareLists.{lists_at, sq_of}
 use Rattle.bk_layout.proofs.Sweeps.Sweep.{State, ValleyAt, ending_times}
 use Rattle.bk_layout.proofs.Sweeps.SweepSteps.{move}
-use Rattle.bk_layout.proofs.Sweeps.Turning.{AtLeft}
+use Rattle.bk_layout.proofs.Sweeps.ValleySides.{AtLeft}
 use Rattle.bk_layout.proofs.Sweeps.WholeRuns.{Hung, run_below, whole_run}
 use Rattle.bk_layout.specs.Layout.{AreNeighbours, Fits, IsFirst, IsLast, Layout}
 use Rattle.bk_layout.proofs.Sweeps.MoveChain.{marks_chain}
@@ -120,7 +120,7 @@ module _ (l : Layout) (fits : Fits l) (o : Outline) (st : State l o) (c : AtVall
   pub v_out : times (l.below q) st.done ≡ 0
   v_out = ap (λ (w : ℕ). times w st.done) v_is ∙ omega (arith, st.open_times p p_low, p_open, st.done_once (l.above p))
 
-  -- nor is that from which it hangs
+  -- the node from which the first square hangs isn't closed
   pub u_out : times (l.above q) st.done ≡ 0
   u_out = ap (λ (w : ℕ). times w st.done) q_is.1 ∙ omega (
     arith,

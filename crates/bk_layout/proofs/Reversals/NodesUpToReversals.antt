@@ -55,10 +55,10 @@ no_two n here there hs ks s t v a b apart only some x y e f = with
 module _ (l m : Layout) (same : IsUpToReversals l m) where
   -- a square at a node stays there
   at_over : (v x : ℕ) → x < l.squares → (l.above x ≡ v) ⊎ (l.below x ≡ v) → (m.above x ≡ v) ⊎ (m.below x ≡ v)
-  at_over v x low b = on (cases_Bool (same.turned x))
+  at_over v x low b = on (cases_Bool (same.is_reversed x))
     where
-      on : (same.turned x ≡ true) ⊎ (same.turned x ≡ false) → (m.above x ≡ v) ⊎ (m.below x ≡ v)
-      on (inl e) = either-swap (either (λ h. same.below_turned x low e ∙ h) (λ h. same.above_turned x low e ∙ h) b)
+      on : (same.is_reversed x ≡ true) ⊎ (same.is_reversed x ≡ false) → (m.above x ≡ v) ⊎ (m.below x ≡ v)
+      on (inl e) = either-swap (either (λ h. same.below_reversed x low e ∙ h) (λ h. same.above_reversed x low e ∙ h) b)
       on (inr e) = either (λ h. same.above_kept x low e ∙ h) (λ h. same.below_kept x low e ∙ h) b
 
   -- a node with one square above and one below has two squares, so it had one on each side before

@@ -55,45 +55,45 @@ module _ (l m : Layout) (fits : Fits l) (walls : AreOuterWalls l) (fits_m : Fits
 
   -- no reversed square ends on the bottom, in neither layout
   bottom_over : (q : ℕ) → q < l.squares → l.below q ≡ l.bottom → m.below q ≡ m.bottom
-  bottom_over q low e = on (cases_Bool (same.turned q))
+  bottom_over q low e = on (cases_Bool (same.is_reversed q))
     where
-      on : (same.turned q ≡ true) ⊎ (same.turned q ≡ false) → m.below q ≡ m.bottom
-      on (inl t) = absurd (omega (arith, fits_m.nodes.hangs_above q (low_m q low), same.above_turned q low t, e, same.bottom))
+      on : (same.is_reversed q ≡ true) ⊎ (same.is_reversed q ≡ false) → m.below q ≡ m.bottom
+      on (inl t) = absurd (omega (arith, fits_m.nodes.hangs_above q (low_m q low), same.above_reversed q low t, e, same.bottom))
       on (inr t) = same.below_kept q low t ∙ e ∙ sym same.bottom
 
   bottom_back : (q : ℕ) → q < m.squares → m.below q ≡ m.bottom → l.below q ≡ l.bottom
-  bottom_back q low_q e = on (cases_Bool (same.turned q))
+  bottom_back q low_q e = on (cases_Bool (same.is_reversed q))
     where
       low : q < l.squares
       low = low_l q low_q
 
-      on : (same.turned q ≡ true) ⊎ (same.turned q ≡ false) → l.below q ≡ l.bottom
-      on (inl t) = absurd (omega (arith, fits.nodes.hangs_above q low, same.below_turned q low t, e, same.bottom))
+      on : (same.is_reversed q ≡ true) ⊎ (same.is_reversed q ≡ false) → l.below q ≡ l.bottom
+      on (inl t) = absurd (omega (arith, fits.nodes.hangs_above q low, same.below_reversed q low t, e, same.bottom))
       on (inr t) = sym (same.below_kept q low t) ∙ e ∙ same.bottom
 
   -- ---- the walls
 
   -- a line of a square stays at a wall, if a reversed square has neither line there
-  at_wall : (q wall : ℕ) {a b c d : ℕ} → (same.turned q ≡ false → c ≡ a) → (same.turned q ≡ true → c ≡ b) → (same.turned q ≡ true → d ≡ a)
+  at_wall : (q wall : ℕ) {a b c d : ℕ} → (same.is_reversed q ≡ false → c ≡ a) → (same.is_reversed q ≡ true → c ≡ b) → (same.is_reversed q ≡ true → d ≡ a)
       → (b ≡ wall → ⊥) → (d ≡ wall → ⊥) → (c ≡ wall) ↔ (a ≡ wall)
-  at_wall q wall {a} {b} {c} {d} kept turned other no_b no_d = (back (cases_Bool (same.turned q)), over (cases_Bool (same.turned q)))
+  at_wall q wall {a} {b} {c} {d} kept reversed other no_b no_d = (back (cases_Bool (same.is_reversed q)), over (cases_Bool (same.is_reversed q)))
     where
-      back : (same.turned q ≡ true) ⊎ (same.turned q ≡ false) → c ≡ wall → a ≡ wall
-      back (inl t) e = absurd (no_b (sym (turned t) ∙ e))
+      back : (same.is_reversed q ≡ true) ⊎ (same.is_reversed q ≡ false) → c ≡ wall → a ≡ wall
+      back (inl t) e = absurd (no_b (sym (reversed t) ∙ e))
       back (inr t) e = sym (kept t) ∙ e
 
-      over : (same.turned q ≡ true) ⊎ (same.turned q ≡ false) → a ≡ wall → c ≡ wall
+      over : (same.is_reversed q ≡ true) ⊎ (same.is_reversed q ≡ false) → a ≡ wall → c ≡ wall
       over (inl t) e = absurd (no_d (other t ∙ e))
       over (inr t) e = kept t ∙ e
 
   -- no reversed square stands at a wall, in neither layout
   pub at_left : (q : ℕ) → q < l.squares → (m.left q ≡ 0) ↔ (l.left q ≡ 0)
-  at_left q low = at_wall q 0 (same.left_kept q low) (same.left_turned q low) (same.right_turned q low) (walls.not_before q low)
+  at_left q low = at_wall q 0 (same.left_kept q low) (same.left_reversed q low) (same.right_reversed q low) (walls.not_before q low)
       (walls_m.not_before q (low_m q low))
 
   -- a square is at the right wall in one layout exactly if it is in the other
   pub at_right : (q : ℕ) → q < l.squares → (m.right q ≡ 1) ↔ (l.right q ≡ 1)
-  at_right q low = at_wall q 1 (same.right_kept q low) (same.right_turned q low) (same.left_turned q low) (walls.not_beyond q low)
+  at_right q low = at_wall q 1 (same.right_kept q low) (same.right_reversed q low) (same.left_reversed q low) (walls.not_beyond q low)
       (walls_m.not_beyond q (low_m q low))
 
   left_kept : (counts_of_layout m).left ≡ (counts_of_layout l).left

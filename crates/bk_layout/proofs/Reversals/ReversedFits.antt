@@ -12,7 +12,7 @@ use Rattle.bk_layout.proofs.Reversals.ReversedParts.{go_on_then, goes_left_x, go
 use Rattle.bk_layout.proofs.Reversals.ReversedParts.{only_q, top_is}
 use Rattle.bk_layout.proofs.Sweeps.Chains.{Chain, Known, Run, chain_known, known_first, known_last, last_from, sign}
 use Rattle.bk_layout.proofs.Sweeps.Sweep.{State}
-use Rattle.bk_layout.proofs.Sweeps.Turning.{AtLeft}
+use Rattle.bk_layout.proofs.Sweeps.ValleySides.{AtLeft}
 use Rattle.bk_layout.specs.Layout.{AreNeighbours, Fits, HasNoTwins, IsLast, Layout}
 use Rattle.bk_layout.specs.Reversal.{CanReverse, IsUpToReversals}
 use Rattle.bk_layout.specs.ReversalLaws.{AReversedLayoutFits}
@@ -24,7 +24,7 @@ use Rattle.std.proofs.Common.{◌+◌, ◌<◌, ◌∙◌, ◌∷◌, ◌≡◌,
 use Rattle.std.proofs.lemmas.Bool.{cases_eq}
 use Rattle.std.specs.List.{AllZip}
 
--- nor is its last that square
+-- the last of some squares isn't one that is none of them
 pub last_not : (w x : ℕ) (xs : List ℕ) → times w (x ∷ xs) ≡ 0 → last_from x xs ≡ w → ⊥
 last_not w x [] t e = times-head_differs w x [] t e
 last_not w x (y ∷ xs) t e = last_not w y xs (omega (arith, t)) e
@@ -46,7 +46,7 @@ module _ (l : Layout) (fits : Fits l) (q p r : ℕ) (can : CanReverse l q p r) w
   -- the reversed layout is the layout up to reversals
   pub same_then : IsUpToReversals l m
   same_then = record {
-    turned = λ x. nat_eq x q;
+    is_reversed = λ x. nat_eq x q;
     squares = refl;
     bottom = refl;
     top = (top_is l fits q p r can);
@@ -54,10 +54,10 @@ module _ (l : Layout) (fits : Fits l) (q p r : ℕ) (can : CanReverse l q p r) w
     below_kept = λ x h e. about.below_x x (not_same x e);
     left_kept = λ x h e. about.left_x x (not_same x e);
     right_kept = λ x h e. about.right_x x (not_same x e);
-    above_turned = λ x h e. subst (λ (z : ℕ). m.above z ≡ l.below z) (sym (same x e)) about.above_q;
-    below_turned = λ x h e. subst (λ (z : ℕ). m.below z ≡ l.above z) (sym (same x e)) about.below_q;
-    left_turned = λ x h e. subst (λ (z : ℕ). m.left z ≡ l.right z) (sym (same x e)) about.left_q;
-    right_turned = λ x h e. subst (λ (z : ℕ). m.right z ≡ l.left z) (sym (same x e)) about.right_q;
+    above_reversed = λ x h e. subst (λ (z : ℕ). m.above z ≡ l.below z) (sym (same x e)) about.above_q;
+    below_reversed = λ x h e. subst (λ (z : ℕ). m.below z ≡ l.above z) (sym (same x e)) about.below_q;
+    left_reversed = λ x h e. subst (λ (z : ℕ). m.left z ≡ l.right z) (sym (same x e)) about.left_q;
+    right_reversed = λ x h e. subst (λ (z : ℕ). m.right z ≡ l.left z) (sym (same x e)) about.right_q;
     later = λ x h e. subst (λ (z : ℕ). 0 < l.above z) (sym (same x e)) can.later;
   }
     where

@@ -133,7 +133,7 @@ module _ (l : Layout) (fits : Fits l) (q p r : ℕ) (can : CanReverse l q p r) w
     pub not_e : (w k x : ℕ) → (w ≡ v → ⊥) → slice_get (l.ending w) k ≡ Some x → x ≡ q → ⊥
     pub not_ev : (k x : ℕ) → slice_get (l.ending v) k ≡ Some x → suc k < length (l.ending v) → x ≡ q → ⊥
 
-  -- they hold
+  -- the lists of u and v before and after the reversal, by places, hold
   pub places : Places
   places = record {
     get_hu = λ k. ap (λ (xs : List ℕ). slice_get xs k) about.hanging_u ∙ tail_got (l.hanging u) k;
@@ -165,7 +165,7 @@ module _ (l : Layout) (fits : Fits l) (q p r : ℕ) (can : CanReverse l q p r) w
     pub about : Around
     pub by_place : Places
 
-  -- so it is here
+  -- the scene of the reversal: the layout with the square reversed, the nodes above and below the square, and what is known around it
   abbrev pub scene : Scene
   scene = record { m = m; u = u; v = v; about = around; by_place = places }
 

@@ -342,7 +342,7 @@ module _ (l : Layout) (fits : Fits l) (q p r : ℕ) (can : CanReverse l q p r) w
       on (inr i) = subst (λ (z : ℕ). IsLast (m.ending z) x) (sym (about.below_x x i))
           (kept i (fits.go_on.at_right_wall x low (sym (about.right_x x i) ∙ e)) (about.which (l.below x)))
 
-  -- whose right line is q's left line, and goes no further at its left side, is p; likewise at the right side, r
+  -- a square whose right line is q's left line, with no further square below it at the left side of that line, is p
   pub only_p : (x : ℕ) → x < l.squares → l.right x ≡ l.left q → l.goes_right x ≡ false → x ≡ p
   only_p x low line e = on (fits.go_on.meet x q low can.known line e can.even_at_left)
     where

@@ -23,13 +23,13 @@ breaks_rule : DoesKeepRuleR free_33x32 → ⊥
 breaks_rule keeps = ((keeps.1).1).0 refl (omega arith) refl refl
 
 -- 7 hangs first from node 1 and ends last on node 3; 4, number 5, stands at its left, and 15, number 1, over it
-abbrev turned_33x32 : Layout
-turned_33x32 = reversed (layout_of rectangle_33x32) 2 5 1
+abbrev reversed_33x32 : Layout
+reversed_33x32 = reversed (layout_of rectangle_33x32) 2 5 1
 
-hanging : map turned_33x32.hanging (0 ∷ 1 ∷ 2 ∷ 3 ∷ 4 ∷ 5 ∷ []) ≡ (0 ∷ 1 ∷ []) ∷ (3 ∷ []) ∷ (4 ∷ 5 ∷ []) ∷ (6 ∷ 7 ∷ 2 ∷ []) ∷ (8 ∷ []) ∷ [] ∷ []
+hanging : map reversed_33x32.hanging (0 ∷ 1 ∷ 2 ∷ 3 ∷ 4 ∷ 5 ∷ []) ≡ (0 ∷ 1 ∷ []) ∷ (3 ∷ []) ∷ (4 ∷ 5 ∷ []) ∷ (6 ∷ 7 ∷ 2 ∷ []) ∷ (8 ∷ []) ∷ [] ∷ []
 hanging = refl
 
-ending : map turned_33x32.ending (0 ∷ 1 ∷ 2 ∷ 3 ∷ 4 ∷ 5 ∷ []) ≡ [] ∷ (2 ∷ 1 ∷ []) ∷ (0 ∷ []) ∷ (5 ∷ []) ∷ (7 ∷ 3 ∷ []) ∷ (4 ∷ 6 ∷ 8 ∷ []) ∷ []
+ending : map reversed_33x32.ending (0 ∷ 1 ∷ 2 ∷ 3 ∷ 4 ∷ 5 ∷ []) ≡ [] ∷ (2 ∷ 1 ∷ []) ∷ (0 ∷ []) ∷ (5 ∷ []) ∷ (7 ∷ 3 ∷ []) ∷ (4 ∷ 6 ∷ 8 ∷ []) ∷ []
 ending = refl
 
 -- 2a.2ua.3euue.1e.1e
@@ -43,7 +43,7 @@ keeps_rule : DoesKeepRuleR rule_33x32
 keeps_rule = (λ wall two e f. cc, (λ wall two e f. cc, (λ wall two e f. cc, (λ wall two e f. omega (arith, two), (λ wall two e f. omega (arith, two), tt)))))
 
 -- its net is that of the layout, with the squares in this order and the nodes in the order of closing
-renumbered : AreRenumbered (net_of_word rule_33x32).wires (net_of_layout turned_33x32).wires (0 ∷ 1 ∷ 4 ∷ 5 ∷ 6 ∷ 7 ∷ 2 ∷ 3 ∷ 8 ∷ [])
+renumbered : AreRenumbered (net_of_word rule_33x32).wires (net_of_layout reversed_33x32).wires (0 ∷ 1 ∷ 4 ∷ 5 ∷ 6 ∷ 7 ∷ 2 ∷ 3 ∷ 8 ∷ [])
     (0 ∷ 2 ∷ 3 ∷ 1 ∷ 4 ∷ 5 ∷ [])
 renumbered = refl
 

@@ -108,10 +108,10 @@ none_of o (mv ∷ w) single keeps = (here, none_of (after_move o mv) w single.1 
         on (inl wall) = single.0 0 two (ap (slice_get mv.signs) (at wall) ∙ even)
         on (inr wall) = keeps.0 wall two even over
 
--- such a word of a layout with a property that each reversal keeps
+-- a word by rule R of a layout that is l up to reversals and has a property that each reversal keeps
 pub record HasWordThatKeeps (P : Layout → Type 0) (l : Layout) : Type 0 where
   pub by_rule : HasWordByRuleR l
-  pub kept : P by_rule.turned
+  pub kept : P by_rule.layout
 
 module _ (P : Layout → Type 0) (keep : (l : Layout) → Fits l → P l → (q p r : ℕ) → CanReverse l q p r → P (reversed l q p r)) where
   ruled : (bound : ℕ) (of : Layout) (l : Layout) (fits : Fits l) → IsUpToReversals of l → (HasNoTwins of → HasNoTwins l) → P l
@@ -131,7 +131,7 @@ module _ (P : Layout → Type 0) (keep : (l : Layout) → Fits l → P l → (q 
           → code (of.squares + 4) (of.squares + (of.squares + of.squares)) (digits (first ∷ word)) < bound → HasWordThatKeeps P of) → HasWordThatKeeps P of
       on (inl keeps) more = record {
         by_rule = record {
-          turned = l;
+          layout = l;
           fits = fits;
           same = same;
           word = mv ∷ w;

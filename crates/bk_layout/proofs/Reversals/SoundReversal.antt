@@ -126,7 +126,7 @@ module _ (l : Layout) (fits : Fits l) (q p r : ℕ) (can : CanReverse l q p r) w
           list = ap m.ending i ∙ ending_u ∙ ap (λ (z : ℕ). q ∷ l.ending z) (sym i)
       on (inr n) = other (not_q n k x e) (not_q n (suc k) y f) (back w x y n (k, e, f))
 
--- so it is sound where the layout is
+-- a layout with a square reversed is sound where the layout is
 pub a_reversed_layout_is_sound : AReversedLayoutIsSound
 a_reversed_layout_is_sound n l q p r around can = record {
   sound = record {

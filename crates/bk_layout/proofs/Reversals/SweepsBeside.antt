@@ -28,12 +28,12 @@ module _ (l : Layout) (fits : Fits l) (q p r : ℕ) (can : CanReverse l q p r) w
   Late o st [] tr = (times q st.laid ≡ 0) × (times v st.done ≡ 0) × ((0 < times p st.laid) ⊎ ⊥)
   Late o st (mv ∷ w) tr = (times q st.laid ≡ 0) × (times v st.done ≡ 0) × ((0 < times p st.laid) ⊎ Late (after_move o mv) tr.0 w tr.2)
 
-  -- so q isn't laid, and v isn't closed, where it begins
+  -- where a late trace begins, q isn't laid and v isn't closed
   pub late_out : (o : Outline) (st : State l o) (w : Word) (tr : Trace l fits o st w) → Late o st w tr → (times q st.laid ≡ 0) × (times v st.done ≡ 0)
   late_out o st [] tr late = (late.0, late.1)
   late_out o st (mv ∷ w) tr late = (late.0, late.1)
 
-  -- it was so before
+  -- where q isn't laid and v isn't closed after a step, it was so before
   pub later_out : (o : Outline) (st : State l o) (mv : Move) (next : State l (after_move o mv)) → IsStep l fits o st mv next
       → times q next.laid ≡ 0 → times v next.done ≡ 0 → (times q st.laid ≡ 0) × (times v st.done ≡ 0)
   later_out o st mv next step a b = (omega (arith, a, grown q), under (get_some (l.hanging v) 0 (places l fits q p r can).hv_some))

@@ -18,17 +18,17 @@ module _ (l m : Layout) (same : IsUpToReversals l m) where
   low_l x h = omega (arith, h, same.squares)
 
   touches_back : (f v : ℕ) → Touches m f v → Touches l f v
-  touches_back f v t = on (cases_Bool (same.turned t.square))
+  touches_back f v t = on (cases_Bool (same.is_reversed t.square))
     where
       low : t.square < l.squares
       low = low_l t.square t.within
 
-      on : (same.turned t.square ≡ true) ⊎ (same.turned t.square ≡ false) → Touches l f v
+      on : (same.is_reversed t.square ≡ true) ⊎ (same.is_reversed t.square ≡ false) → Touches l f v
       on (inl e) = record {
         square = t.square;
         within = low;
-        beside = either-swap (either (λ h. sym (same.left_turned t.square low e) ∙ h) (λ h. sym (same.right_turned t.square low e) ∙ h) t.beside);
-        at = either-swap (either (λ h. sym (same.above_turned t.square low e) ∙ h) (λ h. sym (same.below_turned t.square low e) ∙ h) t.at);
+        beside = either-swap (either (λ h. sym (same.left_reversed t.square low e) ∙ h) (λ h. sym (same.right_reversed t.square low e) ∙ h) t.beside);
+        at = either-swap (either (λ h. sym (same.above_reversed t.square low e) ∙ h) (λ h. sym (same.below_reversed t.square low e) ∙ h) t.at);
       }
       on (inr e) = record {
         square = t.square;
@@ -38,7 +38,7 @@ module _ (l m : Layout) (same : IsUpToReversals l m) where
       }
 
   between_over : (f g u v : ℕ) → HasOneBetween l f g u v → HasOneBetween m f g u v
-  between_over f g u v b = on (cases_Bool (same.turned b.square))
+  between_over f g u v b = on (cases_Bool (same.is_reversed b.square))
     where
       low : b.square < m.squares
       low = omega (arith, b.within, same.squares)
@@ -54,9 +54,9 @@ module _ (l m : Layout) (same : IsUpToReversals l m) where
         under = either (λ k. h ∙ k) (λ k. h ∙ k) at_below;
       }
 
-      on : (same.turned b.square ≡ true) ⊎ (same.turned b.square ≡ false) → HasOneBetween m f g u v
-      on (inl e) = here (same.above_turned b.square b.within e) (same.below_turned b.square b.within e) (same.left_turned b.square b.within e)
-          (same.right_turned b.square b.within e) b.right b.left b.under b.above
+      on : (same.is_reversed b.square ≡ true) ⊎ (same.is_reversed b.square ≡ false) → HasOneBetween m f g u v
+      on (inl e) = here (same.above_reversed b.square b.within e) (same.below_reversed b.square b.within e) (same.left_reversed b.square b.within e)
+          (same.right_reversed b.square b.within e) b.right b.left b.under b.above
       on (inr e) = here (same.above_kept b.square b.within e) (same.below_kept b.square b.within e) (same.left_kept b.square b.within e)
           (same.right_kept b.square b.within e) b.left b.right b.above b.under
 
@@ -72,25 +72,25 @@ module _ (l m : Layout) (same : IsUpToReversals l m) where
       (parts f g u v d e (touches_back f u a) (touches_back f v b) (touches_back g u c) (touches_back g v k))
 
   -- a square below the node with one line, or above it with the other: so it is in both layouts, with p and r its lines
-  corner_back : (v x f : ℕ) → x < l.squares → {p r p_l r_l : ℕ} → (same.turned x ≡ false → (p ≡ p_l) × (r ≡ r_l))
-      → (same.turned x ≡ true → (p ≡ r_l) × (r ≡ p_l)) → ((m.below x ≡ v) × (p ≡ f)) ⊎ ((m.above x ≡ v) × (r ≡ f))
+  corner_back : (v x f : ℕ) → x < l.squares → {p r p_l r_l : ℕ} → (same.is_reversed x ≡ false → (p ≡ p_l) × (r ≡ r_l))
+      → (same.is_reversed x ≡ true → (p ≡ r_l) × (r ≡ p_l)) → ((m.below x ≡ v) × (p ≡ f)) ⊎ ((m.above x ≡ v) × (r ≡ f))
       → ((l.below x ≡ v) × (p_l ≡ f)) ⊎ ((l.above x ≡ v) × (r_l ≡ f))
-  corner_back v x f low {p} {r} {p_l} {r_l} kept turned b = on (cases_Bool (same.turned x))
+  corner_back v x f low {p} {r} {p_l} {r_l} kept reversed b = on (cases_Bool (same.is_reversed x))
     where
       moved : {a c d e : ℕ} → a ≡ c → d ≡ e → (a ≡ v) × (d ≡ f) → (c ≡ v) × (e ≡ f)
       moved g h both = (sym g ∙ both.0, sym h ∙ both.1)
 
-      on : (same.turned x ≡ true) ⊎ (same.turned x ≡ false) → ((l.below x ≡ v) × (p_l ≡ f)) ⊎ ((l.above x ≡ v) × (r_l ≡ f))
-      on (inl e) = either-swap (either (moved (same.below_turned x low e) (turned e).0) (moved (same.above_turned x low e) (turned e).1) b)
+      on : (same.is_reversed x ≡ true) ⊎ (same.is_reversed x ≡ false) → ((l.below x ≡ v) × (p_l ≡ f)) ⊎ ((l.above x ≡ v) × (r_l ≡ f))
+      on (inl e) = either-swap (either (moved (same.below_reversed x low e) (reversed e).0) (moved (same.above_reversed x low e) (reversed e).1) b)
       on (inr e) = either (moved (same.below_kept x low e) (kept e).0) (moved (same.above_kept x low e) (kept e).1) b
 
   before_back : (v x f : ℕ) → x < l.squares → IsBefore m v x f → IsBefore l v x f
   before_back v x f low = corner_back v x f low (λ e. (same.left_kept x low e, same.right_kept x low e))
-      (λ e. (same.left_turned x low e, same.right_turned x low e))
+      (λ e. (same.left_reversed x low e, same.right_reversed x low e))
 
   after_back : (v x f : ℕ) → x < l.squares → IsAfter m v x f → IsAfter l v x f
   after_back v x f low = corner_back v x f low (λ e. (same.right_kept x low e, same.left_kept x low e))
-      (λ e. (same.right_turned x low e, same.left_turned x low e))
+      (λ e. (same.right_reversed x low e, same.left_reversed x low e))
 
   -- the lines around its nodes are apart where they are in the other
   pub corners_over : AreCornersApart l → AreCornersApart m

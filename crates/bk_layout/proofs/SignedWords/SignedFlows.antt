@@ -1,4 +1,4 @@
--- The flow of a signed word's net: its wires are those of the Smith diagram, renumbered and turned, so the signed sides are its one flow.
+-- The flow of a signed word's net: its wires are those of the Smith diagram, renumbered and reversed, so the signed sides are its one flow.
 use Rattle.bk_laws.proofs.ListPlaces.{get_some}
 use Rattle.bk_laws.proofs.NumberTests.{eq_test-cases}
 use Rattle.bk_laws.proofs.Outcomes.{some-injective}
@@ -43,23 +43,23 @@ module _ (t : Tiling) (tiling : IsTiling t) (w : Word) (s : IsSignedWordOf t w) 
   abbrev wire_at : ℕ → ℕ × ℕ
   wire_at k = slice_index_or (net_of_word w).wires k (0, 0)
 
-  abbrev turned_at : ℕ → Bool
-  turned_at k = s.turned (s.square k)
+  abbrev reversed_at : ℕ → Bool
+  reversed_at k = s.is_reversed (s.square k)
 
   -- the ends of the tiling's own wire
   abbrev from_at : ℕ → ℕ
-  from_at k = start_of (turned_at k) (wire_at k)
+  from_at k = start_of (reversed_at k) (wire_at k)
 
   abbrev to_at : ℕ → ℕ
-  to_at k = finish_of (turned_at k) (wire_at k)
+  to_at k = finish_of (reversed_at k) (wire_at k)
 
-  -- the word's net is the Smith diagram, renumbered, with the wires of reversed squares turned
-  pub net_of : IsRenumbering (net_of_word w) (reversed_net s.turned (net_of_layout (layout_of t))) s.node s.square
-  net_of = subst (λ (n : Net). IsRenumbering (net_of_word w) (reversed_net s.turned n) s.node s.square) (sym (net_is t tiling)) s.net
+  -- the word's net is the Smith diagram, renumbered, with the wires of reversed squares reversed
+  pub net_of : IsRenumbering (net_of_word w) (reversed_net s.is_reversed (net_of_layout (layout_of t))) s.node s.square
+  net_of = subst (λ (n : Net). IsRenumbering (net_of_word w) (reversed_net s.is_reversed n) s.node s.square) (sym (net_is t tiling)) s.net
 
   -- the word's net has a wire for each square of the tiling
   pub as_many : length (net_of_word w).wires ≡ length t.squares
-  as_many = net_of.wires ∙ reversed_length s.turned 0 (map pair_at (numbers_from 0 (length t.squares)))
+  as_many = net_of.wires ∙ reversed_length s.is_reversed 0 (map pair_at (numbers_from 0 (length t.squares)))
       ∙ numbers_length {A = ℕ × ℕ} pair_at 0 (length t.squares)
 
   -- the square that stands for a wire is one of the tiling
@@ -70,27 +70,27 @@ module _ (t : Tiling) (tiling : IsTiling t) (w : Word) (s : IsSignedWordOf t w) 
   pub square_apart : (j k : ℕ) → j < length t.squares → k < length t.squares → s.square j ≡ s.square k → j ≡ k
   square_apart j k h l e = net_of.wire_apart.apart j k (omega (arith, as_many)) (omega (arith, as_many)) e
 
-  -- a wire of the word's net, turned back where it is reversed, is that of the square which it stands for
+  -- a wire of the word's net, led back where it is reversed, is that of the square which it stands for
   reversed_pair : (k : ℕ) → k < length t.squares
-      → cond (turned_at k) ((pair_at (s.square k)).1, (pair_at (s.square k)).0) (pair_at (s.square k)) ≡ (s.node (wire_at k).0, s.node (wire_at k).1)
+      → cond (reversed_at k) ((pair_at (s.square k)).1, (pair_at (s.square k)).0) (pair_at (s.square k)) ≡ (s.node (wire_at k).0, s.node (wire_at k).1)
   reversed_pair k h = from (get_some (net_of_word w).wires k (omega (arith, as_many)))
     where
       from : (x : ℕ × ℕ) × (slice_get (net_of_word w).wires k ≡ Some x)
-          → cond (turned_at k) ((pair_at (s.square k)).1, (pair_at (s.square k)).0) (pair_at (s.square k)) ≡ (s.node (wire_at k).0, s.node (wire_at k).1)
-      from (x, e) = some-injective (cond (turned_at k) ((pair_at (s.square k)).1, (pair_at (s.square k)).0) (pair_at (s.square k))) (s.node x.0, s.node x.1)
-          (sym (reversed_get s.turned pair_at 0 (length t.squares) (s.square k) (square_below k h)
-          ∙ ap (λ (i : ℕ). Some (cond {A = ℕ × ℕ} (s.turned i) ((pair_at i).1, (pair_at i).0) (pair_at i))) (omega arith))
+          → cond (reversed_at k) ((pair_at (s.square k)).1, (pair_at (s.square k)).0) (pair_at (s.square k)) ≡ (s.node (wire_at k).0, s.node (wire_at k).1)
+      from (x, e) = some-injective (cond (reversed_at k) ((pair_at (s.square k)).1, (pair_at (s.square k)).0) (pair_at (s.square k))) (s.node x.0, s.node x.1)
+          (sym (reversed_get s.is_reversed pair_at 0 (length t.squares) (s.square k) (square_below k h)
+          ∙ ap (λ (i : ℕ). Some (cond {A = ℕ × ℕ} (s.is_reversed i) ((pair_at i).1, (pair_at i).0) (pair_at i))) (omega arith))
           ∙ net_of.each k (omega (arith, as_many)) ∙ ap (option_map (λ w. (s.node w.0, s.node w.1))) e)
           ∙ ap (λ (v : ℕ × ℕ). (s.node v.0, s.node v.1)) (sym (get_or_from_slice_get (net_of_word w).wires k x (0, 0) e))
 
-  turn_back : (b : Bool) (p : ℕ × ℕ) (x : ℕ × ℕ) → cond {A = ℕ × ℕ} b (p.1, p.0) p ≡ (s.node x.0, s.node x.1)
+  reversed_back : (b : Bool) (p : ℕ × ℕ) (x : ℕ × ℕ) → cond {A = ℕ × ℕ} b (p.1, p.0) p ≡ (s.node x.0, s.node x.1)
       → (p.0 ≡ s.node (start_of b x)) × (p.1 ≡ s.node (finish_of b x))
-  turn_back true p x e = (ap (λ (z : ℕ × ℕ). z.1) e, ap (λ (z : ℕ × ℕ). z.0) e)
-  turn_back false p x e = (ap (λ (z : ℕ × ℕ). z.0) e, ap (λ (z : ℕ × ℕ). z.1) e)
+  reversed_back true p x e = (ap (λ (z : ℕ × ℕ). z.1) e, ap (λ (z : ℕ × ℕ). z.0) e)
+  reversed_back false p x e = (ap (λ (z : ℕ × ℕ). z.0) e, ap (λ (z : ℕ × ℕ). z.1) e)
 
   -- the ends of a wire of the word's net are those of the square's own, renumbered
   pub pair_is : (k : ℕ) → k < length t.squares → ((pair_at (s.square k)).0 ≡ s.node (from_at k)) × ((pair_at (s.square k)).1 ≡ s.node (to_at k))
-  pair_is k h = turn_back (turned_at k) (pair_at (s.square k)) (wire_at k) (reversed_pair k h)
+  pair_is k h = reversed_back (reversed_at k) (pair_at (s.square k)) (wire_at k) (reversed_pair k h)
 
   -- the word's net is a net
   pub word_net : IsNet (net_of_word w)
@@ -102,7 +102,7 @@ module _ (t : Tiling) (tiling : IsTiling t) (w : Word) (s : IsSignedWordOf t w) 
 
   -- both ends between which a wire's square lies are nodes of the word's net
   pub own_ends_below : (k : ℕ) → k < length t.squares → (from_at k < (net_of_word w).nodes) × (to_at k < (net_of_word w).nodes)
-  own_ends_below k h = cases (turned_at k) (ends_below k h)
+  own_ends_below k h = cases (reversed_at k) (ends_below k h)
     where
       cases : (b : Bool) → ((wire_at k).0 < (net_of_word w).nodes) × ((wire_at k).1 < (net_of_word w).nodes)
           → (start_of b (wire_at k) < (net_of_word w).nodes) × (finish_of b (wire_at k) < (net_of_word w).nodes)
@@ -132,18 +132,18 @@ module _ (t : Tiling) (tiling : IsTiling t) (w : Word) (s : IsSignedWordOf t w) 
 
   -- what flows out of a node less what flows in is the same by the wires of the word and by those of the tiling
   pub flows : (v : ℕ) → v < (net_of_word w).nodes
-      → outflow (net_of_word w).wires (map (λ k. signed_side t s.turned (s.square k)) (numbers_from 0 (length t.squares))) v
+      → outflow (net_of_word w).wires (map (λ k. signed_side t s.is_reversed (s.square k)) (numbers_from 0 (length t.squares))) v
       ≡ outflow (map pair_at (numbers_from 0 (length t.squares))) (map (λ k. pos (side_at k)) (numbers_from 0 (length t.squares))) (s.node v)
   flows v h = left ∙ (λ i. pos (sum_is v h from_at (λ k. (pair_at k).0) (λ k l. (own_ends_below k l).0) (λ k l. (pair_is k l).0) i) -ℤ pos
       (sum_is v h to_at (λ k. (pair_at k).1) (λ k l. (own_ends_below k l).1) (λ k l. (pair_is k l).1) i)) ∙ sym right
     where
-      left : outflow (net_of_word w).wires (map (λ k. signed_side t s.turned (s.square k)) (numbers_from 0 (length t.squares))) v
+      left : outflow (net_of_word w).wires (map (λ k. signed_side t s.is_reversed (s.square k)) (numbers_from 0 (length t.squares))) v
           ≡ pos (total_from (λ k. cond (from_at k == v) (side_at (s.square k)) 0) 0 (length t.squares)) -ℤ pos
           (total_from (λ k. cond (to_at k == v) (side_at (s.square k)) 0) 0 (length t.squares))
-      left = subst (λ (n : ℕ). outflow (net_of_word w).wires (map (λ k. signed_side t s.turned (s.square k)) (numbers_from 0 n)) v
+      left = subst (λ (n : ℕ). outflow (net_of_word w).wires (map (λ k. signed_side t s.is_reversed (s.square k)) (numbers_from 0 n)) v
           ≡ pos (total_from (λ k. cond (from_at k == v) (side_at (s.square k)) 0) 0 n) -ℤ pos
           (total_from (λ k. cond (to_at k == v) (side_at (s.square k)) 0) 0 n))
-          as_many (signed_total (net_of_word w).wires turned_at (λ k. side_at (s.square k)) wire_at 0 v
+          as_many (signed_total (net_of_word w).wires reversed_at (λ k. side_at (s.square k)) wire_at 0 v
           (λ k x e. ap (λ (i : ℕ). wire_at i) (from_zero k) ∙ get_or_from_slice_get (net_of_word w).wires k x (0, 0) e))
         where
           from_zero : (k : ℕ) → 0 + k ≡ k
@@ -179,7 +179,7 @@ module _ (t : Tiling) (tiling : IsTiling t) (w : Word) (s : IsSignedWordOf t w) 
   smith = subst (λ (n : Net). IsFlow n (smith_flow t)) (sym (net_is t tiling)) (sides_are_the_one_flow t tiling).2.flow
 
   outflow_is : (v : ℕ) → v < (net_of_word w).nodes
-      → outflow (net_of_word w).wires (map (λ k. signed_side t s.turned (s.square k)) (numbers_from 0 (length t.squares))) v
+      → outflow (net_of_word w).wires (map (λ k. signed_side t s.is_reversed (s.square k)) (numbers_from 0 (length t.squares))) v
       ≡ outflow (map pair_at (numbers_from 0 (length t.squares))) (map (λ q. pos q.s) t.squares) (s.node v)
   outflow_is v h = flows v h ∙ ap (λ (cs : List ℤ). outflow (map pair_at (numbers_from 0 (length t.squares))) cs (s.node v)) (sym sides_are)
 
@@ -200,9 +200,9 @@ module _ (t : Tiling) (tiling : IsTiling t) (w : Word) (s : IsSignedWordOf t w) 
       ∙ (levels_of t tiling (square_of t (s.square k)) (in_square t tiling (s.square k) (square_below k h))).1)
 
   -- the current is the difference of the potentials, both ways
-  drops : (k : ℕ) → k < length t.squares → signed_side t s.turned (s.square k)
+  drops : (k : ℕ) → k < length t.squares → signed_side t s.is_reversed (s.square k)
       ≡ potential (signed_flow t w s) (wire_at k).0 -ℤ potential (signed_flow t w s) (wire_at k).1
-  drops k h = cases (turned_at k) (level_from k h) (level_to k h)
+  drops k h = cases (reversed_at k) (level_from k h) (level_to k h)
     where
       cases : (b : Bool) → potential (signed_flow t w s) (start_of b (wire_at k)) ≡ pos t.height -ℤ pos (square_of t (s.square k)).y
           → potential (signed_flow t w s) (finish_of b (wire_at k)) ≡ pos t.height -ℤ pos ((square_of t (s.square k)).y + (square_of t (s.square k)).s)
@@ -213,8 +213,8 @@ module _ (t : Tiling) (tiling : IsTiling t) (w : Word) (s : IsSignedWordOf t w) 
   flow : IsFlow (net_of_word w) (signed_flow t w s)
   flow = record {
     nodes = numbers_length {A = ℤ} (λ v. pos t.height -ℤ pos (slice_index_or (node_levels t) (s.node v) 0)) 0 (net_of_word w).nodes;
-    differences = ap (λ (n : ℕ). map (λ k. signed_side t s.turned (s.square k)) (numbers_from 0 n)) (sym (as_many))
-        ∙ numbers_map {A = ℕ × ℕ} {B = ℤ} (λ k. signed_side t s.turned (s.square k))
+    differences = ap (λ (n : ℕ). map (λ k. signed_side t s.is_reversed (s.square k)) (numbers_from 0 n)) (sym (as_many))
+        ∙ numbers_map {A = ℕ × ℕ} {B = ℤ} (λ k. signed_side t s.is_reversed (s.square k))
         (λ w1. potential (signed_flow t w s) w1.0 -ℤ potential (signed_flow t w s) w1.1) 0 (net_of_word w).wires each;
     first = outflow_is 0 (omega (arith, (word_net).some))
         ∙ ap (outflow (map pair_at (numbers_from 0 (length t.squares))) (map (λ q. pos q.s) t.squares)) net_of.first ∙ smith.first;
@@ -222,14 +222,14 @@ module _ (t : Tiling) (tiling : IsTiling t) (w : Word) (s : IsSignedWordOf t w) 
   }
     where
       each : (k : ℕ) (x : ℕ × ℕ) → slice_get (net_of_word w).wires k ≡ Some x
-          → signed_side t s.turned (s.square (0 + k)) ≡ potential (signed_flow t w s) x.0 -ℤ potential (signed_flow t w s) x.1
-      each k x e = ap (λ (i : ℕ). signed_side t s.turned (s.square i)) (omega arith)
+          → signed_side t s.is_reversed (s.square (0 + k)) ≡ potential (signed_flow t w s) x.0 -ℤ potential (signed_flow t w s) x.1
+      each k x e = ap (λ (i : ℕ). signed_side t s.is_reversed (s.square i)) (omega arith)
           ∙ drops k (omega (arith, as_many, slice_get_within (net_of_word w).wires k x e))
           ∙ ap (λ (y : ℕ × ℕ). potential (signed_flow t w s) y.0 -ℤ potential (signed_flow t w s) y.1)
           (get_or_from_slice_get (net_of_word w).wires k x (0, 0) e)
 
       between : (v : ℕ) → 0 < v → v + 1 < (net_of_word w).nodes
-          → outflow (net_of_word w).wires (map (λ k. signed_side t s.turned (s.square k)) (numbers_from 0 (length t.squares))) v ≡ pos 0
+          → outflow (net_of_word w).wires (map (λ k. signed_side t s.is_reversed (s.square k)) (numbers_from 0 (length t.squares))) v ≡ pos 0
       between v a b = outflow_is v (omega arith)
           ∙ smith.between (s.node v) (above (cases_lt 0 (s.node v))) (below (cases_lt (s.node v + 1) (net_of_word w).nodes))
         where
@@ -271,7 +271,7 @@ module _ (t : Tiling) (tiling : IsTiling t) (w : Word) (s : IsSignedWordOf t w) 
 
   -- a square's level is the drop from there to the node from which it hangs
   pub hangs_by_flow : (k : ℕ) → k < length t.squares
-      → pos (square_of t (s.square k)).y ≡ potential (signed_flow t w s) 0 -ℤ potential (signed_flow t w s) (upper_end w (turned_at k) k)
+      → pos (square_of t (s.square k)).y ≡ potential (signed_flow t w s) 0 -ℤ potential (signed_flow t w s) (upper_end w (reversed_at k) k)
   hangs_by_flow k h = omega (arith, ints, top_potential, level_from k h)
 
 -- the signed sides, with the width as the total, are the one flow of the word's net

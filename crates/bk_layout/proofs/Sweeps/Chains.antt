@@ -159,7 +159,7 @@ chain_behind l ((q ∷ qs) ∷ [] ∷ front) (g ∷ front_signs) signs s segment
 chain_behind l ((q ∷ qs) ∷ (p ∷ ps) ∷ front) (g ∷ front_signs) signs s segments e c =
     chain_behind l ((p ∷ ps) ∷ front) front_signs signs s segments (omega arith) c.3
 
--- other segments behind the same one
+-- a chain stays one with other segments behind the same segment
 pub chain_other : (l : Layout) (front : List (List ℕ)) (front_signs signs others : List Sign) (q : ℕ) (qs : List ℕ)
     (segments more : List (List ℕ)) → length front ≡ length front_signs
     → Chain l (front_signs ++ signs) (front ++ (q ∷ qs) ∷ segments) → Chain l others ((q ∷ qs) ∷ more)

@@ -57,7 +57,7 @@ renumbered = refl
 abbrev pub flow_33 : List ℤ → List ℤ → Flow
 flow_33 potentials currents = record { total = pos 33; potentials = potentials; currents = currents }
 
--- it is one of a net of six nodes, if what comes into each of the four between leaves it
+-- a flow of a net of six nodes is given, if what comes into each of the four between leaves it
 pub flow_by : {net : Net} {flow : Flow} → net.nodes ≡ 6 → length flow.potentials ≡ net.nodes
     → flow.currents ≡ map (λ w. potential flow w.0 -ℤ potential flow w.1) net.wires → outflow net.wires flow.currents 0 ≡ flow.total
     → AllByRecursion (λ v. outflow net.wires flow.currents v ≡ pos 0) (1 ∷ 2 ∷ 3 ∷ 4 ∷ []) → IsFlow net flow

@@ -19,7 +19,7 @@ use Rattle.bk_layout.proofs.Lists.SquareLists.{lists_at, sq_of}
 use Rattle.bk_layout.proofs.Sweeps.Sweep.{State}
 use Rattle.bk_layout.proofs.Sweeps.SweepEnd.{Ended, WholeSweep, laid_many, one_segment}
 use Rattle.bk_layout.proofs.Sweeps.Trace.{sweep}
-use Rattle.bk_layout.proofs.Sweeps.Turning.{AtLeft, walls_of}
+use Rattle.bk_layout.proofs.Sweeps.ValleySides.{AtLeft, walls_of}
 use Rattle.bk_layout.proofs.Sweeps.Chains.{Chain}
 use Rattle.bk_layout.proofs.Sweeps.LayoutNumbers.{closed_many, first_node, hung_is, last_node, node_apart, node_low, square_apart, square_low}
 use Rattle.bk_layout.specs.Layout.{Fits, IsFirst, IsLast, Layout, net_of_layout}

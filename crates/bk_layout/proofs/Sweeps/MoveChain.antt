@@ -7,7 +7,7 @@ use Rattle.bk_layout.proofs.Sweeps.Chains.{Chain, last_from, singles}
 use Rattle.bk_layout.proofs.Lists.SquareLists.{lists_at, sq_of}
 use Rattle.bk_layout.proofs.Sweeps.Sweep.{State, ValleyAt}
 use Rattle.bk_layout.proofs.Sweeps.SweepSteps.{move}
-use Rattle.bk_layout.proofs.Sweeps.Turning.{AtLeft, many_signs}
+use Rattle.bk_layout.proofs.Sweeps.ValleySides.{AtLeft, many_signs}
 use Rattle.bk_layout.proofs.Sweeps.WholeRuns.{Hung, is_last}
 use Rattle.bk_layout.specs.Layout.{Fits, IsLast, Layout}
 
@@ -28,7 +28,7 @@ module _ (l : Layout) (fits : Fits l) (o : Outline) (st : State l o) (v : AtVall
   right_line = fits.lines.same_right (l.below at.q) (last_from at.q at.qs) (last_from h.first h.more) last_there
       (subst (λ (xs : List ℕ). IsLast xs (last_from h.first h.more)) (sym h.is) (is_last h.first h.more))
 
-  -- they are a chain by the signs around the move, at the left wall
+  -- the segments just after a move, each new square still apart, are a chain by the signs around the move
   pub marks_chain : Chain l (v.before_signs ++ ((move l fits o st v at low h).signs ++ v.after_signs)) (apart_of st.laid o v h.first h.more)
       × AtLeft l (apart_of st.laid o v h.first h.more)
   marks_chain = at.left.hang h.first [] (h.more ++ at.right.beyond)

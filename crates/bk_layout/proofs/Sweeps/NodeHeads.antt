@@ -10,7 +10,7 @@ use Rattle.bk_word.specs.declared.Sign.TheVariants.{Above, Even, Under}
 use Rattle.bk_word_net.proofs.Outlines.ValleyCut.{AllPart}
 use Rattle.bk_layout.proofs.Sweeps.Chains.{Chain, Known, Meet, Run, chain_known, known_first}
 use Rattle.bk_layout.proofs.Sweeps.Chains.{even_test, last_from, singles}
-use Rattle.bk_layout.proofs.Sweeps.Turning.{AtLeft}
+use Rattle.bk_layout.proofs.Sweeps.ValleySides.{AtLeft}
 use Rattle.bk_layout.proofs.Sweeps.WholeRuns.{above_right, under_left}
 use Rattle.bk_layout.specs.Layout.{AreNeighbours, Fits, IsFirst, Layout}
 

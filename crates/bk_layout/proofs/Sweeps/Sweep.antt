@@ -14,7 +14,7 @@ use Rattle.bk_word_net.proofs.Outlines.ValleyCut.{AtValley, Beside}
 use Rattle.bk_layout.proofs.Lists.NodeLists.{ending_sorted, hanging_sorted}
 use Rattle.bk_layout.proofs.Sweeps.Chains.{Chain}
 use Rattle.bk_layout.proofs.Lists.SquareLists.{lists_at, sq_of}
-use Rattle.bk_layout.proofs.Sweeps.Turning.{AtLeft, LeftOf, Nonempty, RightOf, chain_at, left_of, right_of}
+use Rattle.bk_layout.proofs.Sweeps.ValleySides.{AtLeft, LeftOf, Nonempty, RightOf, chain_at, left_of, right_of}
 use Rattle.bk_layout.proofs.Sweeps.WholeRuns.{whole_run}
 use Rattle.bk_layout.specs.Layout.{Fits, Layout}
 

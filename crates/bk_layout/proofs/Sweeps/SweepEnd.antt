@@ -82,7 +82,7 @@ module _ (l : Layout) (fits : Fits l) (o : Outline) (st : State l o) (end : Ende
   pub is_laid : (q : ℕ) → q < l.squares → times q st.laid ≡ 1
   is_laid q h = omega (arith, st.laid_times q h, is_closed (l.above q) (fits.nodes.hangs_above q h))
 
-  -- so as many nodes are closed as there are but the bottom
+  -- at the end as many nodes are closed as there are but the bottom
   pub done_many : length st.done ≡ l.bottom
   done_many = just_as_many l.bottom st.done st.done_low is_closed
 

@@ -18,7 +18,7 @@ use Rattle.bk_word_net.proofs.Outlines.Shape.{shaped_move, shaped_start}
 use Rattle.bk_layout.proofs.Sweeps.Chains.{Chain, even_neighbours, last_from, sign, sign_at, signs_of, singles, singles_wall}
 use Rattle.bk_layout.proofs.Lists.SquareLists.{lists_at, map_joined, map_singles, new_numbers, new_numbers_more, sq_of, times_singles}
 use Rattle.bk_layout.proofs.Sweeps.Sweep.{State, hanging_times}
-use Rattle.bk_layout.proofs.Sweeps.Turning.{AtLeft, chain_joined, many_signs}
+use Rattle.bk_layout.proofs.Sweeps.ValleySides.{AtLeft, chain_joined, many_signs}
 use Rattle.bk_layout.proofs.Sweeps.WholeRuns.{Hung, is_last}
 use Rattle.bk_layout.specs.FreeWord.{HangsNoTwins, IsFreeMove}
 use Rattle.bk_layout.specs.LayoutLaws.{HangsByLines, HangsNode}
@@ -41,11 +41,11 @@ module _ (l : Layout) (fits : Fits l) (h : Hung l 0) where
   abbrev pub first_move : Move
   first_move = record { count = length (h.first ∷ h.more); signs = signs_of l (h.first ∷ h.more) }
 
-  -- it is legal
+  -- the first move, which hangs all that hangs from the top, is legal
   pub first_legal : IsLegalMove start first_move
   first_legal = record { some = omega arith; signs = many_signs l (h.first ∷ h.more) (omega arith) ∙ omega arith }
 
-  -- it is free
+  -- the first move is free
   pub first_free : IsFreeMove start first_move
   first_free no_wall e = absurd (cc)
 
@@ -70,7 +70,7 @@ module _ (l : Layout) (fits : Fits l) (h : Hung l 0) where
                 ∙ sign_at l (h.first ∷ h.more) k x y e f) ∙ even)),
           ))
 
-  -- its squares hang along the layout's lines
+  -- the first move's squares hang along the layout's lines
   pub first_by_lines : (more : List ℕ) → HangsByLines l (sq_of ((h.first ∷ h.more) ++ more)) start first_move
   first_by_lines more = record { first = λ a e. absurd (none a e); next = next }
     where
@@ -93,7 +93,7 @@ module _ (l : Layout) (fits : Fits l) (h : Hung l 0) where
           at_two (x, e) (y, f) = ap l.right (new_at k x e (0 + 1 + k) refl) ∙ fits.lines.between 0 x y (side_by_side k x y e f)
               ∙ ap l.left (sym (new_at (suc k) y f (0 + 2 + k) (omega arith)))
 
-  -- its squares are all that hang from the top
+  -- the first move's squares are all that hang from the top
   pub first_by_node : (more : List ℕ) → HangsNode l (sq_of ((h.first ∷ h.more) ++ more)) start first_move
   first_by_node more = record {
     node = 0;
@@ -123,7 +123,7 @@ module _ (l : Layout) (fits : Fits l) (h : Hung l 0) where
   after_is : lists_at new (after_move start first_move).segments ≡ joined (signs_of l new) (singles new)
   after_is = map_joined (sq_of new) (signs_apart start first_move) (segments_apart start first_move) ∙ (λ i. joined (marks_are i) (apart_is i))
 
-  -- its first square stands at the left wall
+  -- the first move's first square stands at the left wall
   pub left_wall : l.left h.first ≡ 0
   left_wall = fits.lines.top_left h.first (ap (λ (xs : List ℕ). slice_get xs 0) h.is)
 

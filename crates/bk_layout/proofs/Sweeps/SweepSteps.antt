@@ -8,7 +8,7 @@ use Rattle.bk_layout.proofs.Lists.SquareLists.{AreLaid, all_laid, list_more, lis
 use Rattle.bk_layout.proofs.Lists.SquareLists.{sq_of, times_singles}
 use Rattle.bk_layout.proofs.Sweeps.Chains.{Chain, even_neighbours, last_from, sign, sign_at, signs_of, singles}
 use Rattle.bk_layout.proofs.Sweeps.Sweep.{State, ValleyAt, ending_times, hanging_times}
-use Rattle.bk_layout.proofs.Sweeps.Turning.{AtLeft, chain_joined, many_signs, walls_of}
+use Rattle.bk_layout.proofs.Sweeps.ValleySides.{AtLeft, chain_joined, many_signs, walls_of}
 use Rattle.bk_layout.proofs.Sweeps.WholeRuns.{Hung, is_last}
 use Rattle.bk_layout.specs.FreeWord.{HangsNoTwins, IsFreeMove}
 use Rattle.bk_layout.specs.Layout.{Fits, HasNoTwins, IsFirst, IsLast, Layout}
@@ -53,7 +53,7 @@ module _ (l : Layout) (fits : Fits l) (o : Outline) (st : State l o) (v : AtVall
   right_many : length at.right.beyond ≡ length v.right
   right_many = at.right.beyond_many ∙ length-map v.right (map (sq_of laid))
 
-  -- it is legal
+  -- the next move, which hangs all that hangs from the valley's node, is legal
   pub legal : IsLegalMove o move
   legal = record {
     some = omega arith;
@@ -70,7 +70,7 @@ module _ (l : Layout) (fits : Fits l) (o : Outline) (st : State l o) (v : AtVall
     );
   }
 
-  -- it is free
+  -- the next move is free
   pub free : IsFreeMove o move
   free no_wall e = at.left.free h.first (h.more ++ at.right.beyond) (omega (arith, left_many, left_open o v, ap open_side no_wall)) e
 

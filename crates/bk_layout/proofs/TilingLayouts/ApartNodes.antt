@@ -17,7 +17,7 @@ module _ (t : Tiling) (tiling : IsTiling t) where
   pub is_in : (x : ℕ) → x < length t.squares → IsOneOf (square_of t x) t.squares
   is_in x h = in_square t tiling x h
 
-  -- it lies within the height
+  -- the square of a number begins within the height
   pub low : (x : ℕ) → x < length t.squares → (square_of t x).y ≤ t.height
   low x h = omega (arith, bottom_within t tiling (square_of t x) (is_in x h))
 
@@ -96,7 +96,7 @@ module _ (t : Tiling) (tiling : IsTiling t) where
               }) in
               absurd (omega (arith, z.on.top, at, some x h, ap (λ (s : Square). s.y) one))
 
-  -- nor is the line at its right that at the left of one that hangs from it
+  -- the line at the right of a square that ends on a node isn't that at the left of one that hangs from it
   pub apart_right : (v x y : ℕ) → x < length t.squares → y < length t.squares → node_below (square_groups t.squares) (square_of t x) ≡ v
       → node_above (square_groups t.squares) (square_of t y) ≡ v
       → (layout_of t).right x ≡ (layout_of t).left y → ⊥

@@ -57,7 +57,7 @@ module _ (t : Tiling) (tiling : IsTiling t) where
   pub bottom_within : (q : Square) → IsOneOf q t.squares → q.y + q.s ≤ t.height
   bottom_within q h = let w = (within_of t tiling q h).bottom in omega arith
 
-  -- its side is at least 1
+  -- the side of a square is at least 1
   pub side : (q : Square) → IsOneOf q t.squares → 0 < q.s
   side = side_of t tiling
 

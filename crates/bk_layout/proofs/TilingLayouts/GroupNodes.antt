@@ -51,7 +51,7 @@ module _ (t : Tiling) (tiling : IsTiling t) (g : List Square) (k : IsGroup t.squ
   first_in : IsOneOf k.row.first g
   first_in = subst (IsOneOf k.row.first) (sym k.row.is) (inl refl)
 
-  -- its squares have their tops at its level
+  -- the squares of a group have their tops at its level
   pub tops : (q : Square) → IsOneOf q g → q.y ≡ k.row.first.y
   tops q h = in_all (λ q. q.y ≡ k.row.first.y) g k.row.tops q h
 
@@ -78,7 +78,7 @@ module _ (t : Tiling) (tiling : IsTiling t) (g : List Square) (k : IsGroup t.squ
   first_own : IsOneOf k.row.first t.squares
   first_own = own k.row.first first_in
 
-  -- it has columns
+  -- a group has columns
   pub some_columns : k.row.first.x < k.row.end
   some_columns = omega (arith, (within k.row.first first_in).1, side t tiling k.row.first first_own)
 
@@ -133,7 +133,7 @@ module _ (t : Tiling) (tiling : IsTiling t) (g : List Square) (k : IsGroup t.squ
           from : Hangs t tiling q k.row.end → ⊥
           from z = none_at_end z.square z.is (omega (arith, z.has, level)) z.on.left z.on.right
 
-  -- where it begins at the top left corner, it reaches to the right edge
+  -- a group that begins at the top left corner reaches to the right edge
   pub reaches : k.row.first.x ≡ 0 → k.row.first.y ≡ 0 → k.row.end ≡ t.width
   reaches x y = cases (cases_lt k.row.end t.width)
     where

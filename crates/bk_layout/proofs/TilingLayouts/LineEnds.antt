@@ -141,7 +141,7 @@ module _ (squares : List Square) (x : ℕ) where
       cases false f h rest (inr k) = let same : c ≡ suc y = omega arith in
           both_ways (is_end squares x (suc y)) f (ends_to squares x (suc y) (subst (Ends squares x) same e))
 
-  -- it is not passed where no line ends
+  -- where no line ends between two levels, the end of the line is not above the lower one
   pub not_passed : (more y b : ℕ) → b ≤ y + more → ((c : ℕ) → y < c → c < b → Ends squares x c → ⊥) → b ≤ line_end squares x more y
   not_passed zero y b hi none = omega arith
   not_passed (suc more) y b hi none = cases (is_end squares x (suc y)) refl

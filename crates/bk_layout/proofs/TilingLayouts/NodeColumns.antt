@@ -80,7 +80,7 @@ module _ (t : Tiling) (tiling : IsTiling t) (v : ℕ) (node : IsNode t v) where
     over = λ q h e c. hangs_at c (low_if_hung q h e);
   }
 
-  -- and so do those that end on it
+  -- the squares that end on a node fill it
   pub ended_fill : DoFill Ended
   ended_fill = record {
     level = node.level - 1;

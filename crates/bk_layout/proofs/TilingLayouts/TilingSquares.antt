@@ -64,7 +64,7 @@ module _ (t : Tiling) (tiling : IsTiling t) where
   abbrev pub hung : ℕ → ℕ → Bool
   hung v q = node_above (square_groups t.squares) (square_of t q) == v
 
-  -- it ends on the node
+  -- whether a square ends on the node
   abbrev pub ended : ℕ → ℕ → Bool
   ended v q = node_below (square_groups t.squares) (square_of t q) == v
 

@@ -38,9 +38,9 @@ fn rows_of_two_sizes() -> &'static [(Wanted, &'static str)] {
     ]
 }
 
-// Three items of one size and two of another, by turns.
+// Three items of one size and two of another, alternating.
 #[test]
-fn two_sizes_by_turns(rt: HostRuntime) {
+fn two_sizes_alternate(rt: HostRuntime) {
     let list = "[2,1][1]\n[1,1]\n[2][1,1]\n[1][1]\n[1,2][1]";
     for (wanted, report) in rows_of_two_sizes() {
         let row = (*wanted, list, Ended::NoneRefused, *report);

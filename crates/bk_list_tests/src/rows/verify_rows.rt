@@ -14,7 +14,7 @@ use std::sync::ledger::{Blank, Ledger};
 
 const NINE: &str = "[18,15][7,8][14,4][10,1][9]";
 
-// The same, turned and twice as large.
+// The nine squares of the rectangle 33x32, turned and twice as large.
 const TURNED: &str = "[36,28][8,20][30,14][2,18][16]";
 
 // Simple, and not perfect.

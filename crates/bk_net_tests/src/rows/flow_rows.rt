@@ -114,7 +114,7 @@ fn flows_narrowly(net: &Net, total: i128, currents: &[i128]) -> bool {
     }
 }
 
-// The same of the net of a line.
+// Whether the flow of the net of a line, as a whole flow and as a narrow one, has this total and these currents.
 fn line_flows_narrowly(line: &str, total: i128, currents: &[i128]) -> bool {
     match net_in(line) {
         Some(net) => flows_narrowly(&net, total, currents),

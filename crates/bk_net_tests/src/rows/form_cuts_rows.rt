@@ -49,7 +49,7 @@ fn is_last_out(word: &Word, class: Class) -> Option<bool> {
     is_out(&skel, &sides, &word.get(last), class)
 }
 
-// The same of the word of a text.
+// Whether the last move of the word of a text is ruled out in a class, if all are legal.
 fn is_ruled_out(alloc: Global, text: &str, class: Class) -> Option<bool> {
     match read_word(alloc, text.as_bytes()) {
         Ok(word) => is_last_out(&word, class),

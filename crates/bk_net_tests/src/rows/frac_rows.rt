@@ -73,7 +73,7 @@ fn least_square() -> Result<Frac, Wide> {
     times(unit, unit)
 }
 
-// It fits; a fourth of it doesn't.
+// The square of 1 over 2^63 - 1 fits; a fourth of it doesn't.
 #[test]
 fn small_limits(rt: HostRuntime) {
     let square = least_square().unwrap_or(whole(0));

@@ -64,8 +64,8 @@ fn column(rt: &impl Abort) -> Tiling {
 // Whether each move of a word is of one square without a sign.
 fn is_single(word: &Word) -> bool {
     for i in 0..word.moves() {
-        let turn = word.get(i);
-        if turn.count != 1 || turn.signs.len() != 0 {
+        let played = word.get(i);
+        if played.count != 1 || played.signs.len() != 0 {
             return false;
         }
     }

@@ -40,7 +40,7 @@ fn meaning(line: &[u8]) -> Result<(u16, Option<u16>), NetFault> {
     }
 }
 
-// The same, if it is read.
+// The nodes and the least loose node of a line, if it is read.
 fn seen_in(line: &[u8]) -> Option<(u16, Option<u16>)> {
     meaning(line).ok()
 }

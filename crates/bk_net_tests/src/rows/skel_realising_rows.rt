@@ -125,7 +125,7 @@ fn is_realised_in(
     }
 }
 
-// The same of the word of a text.
+// Whether the word of a text is realised in this room as this rectangle.
 fn realises_in(
     alloc: Global,
     text: &str,

@@ -14,7 +14,7 @@ fn is_less(first: &Word, second: &Word) -> bool {
         && first.cmp(first) == Ordering::Equal
 }
 
-// The same of the words of two texts.
+// Whether the word of the first text is smaller than that of the second.
 fn reads_less(alloc: Global, less: &str, more: &str) -> bool {
     let Ok(first) = read_word(alloc, less.as_bytes()) else {
         return false;

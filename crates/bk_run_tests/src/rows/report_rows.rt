@@ -35,7 +35,7 @@ fn three_squares() -> Result<Tiling, Fail> {
     Ok(Tiling::try_new(3, 2, &squares)?)
 }
 
-// Their word.
+// The word of three squares in the rectangle 3x2.
 fn word_of_three(alloc: Global) -> Result<Word, Fail> {
     Ok(read_word(alloc, b"2u.1e")?)
 }

@@ -55,7 +55,7 @@ fn are_same(line: &[u8], again: &[u8]) -> bool {
     line == again && line.starts_with(b"trial seed 7 count 40 ok 40 perfect ")
 }
 
-// The same line twice.
+// Forty trials give the same line twice.
 #[test]
 fn forty(rt: HostRuntime) {
     let line = forty_trials();

@@ -208,7 +208,7 @@ fn fits(entry: &Entry, sides: &[u64], text: &str) -> Option<bool> {
     }
 }
 
-// The same of the next member of a walk; none if there is no member.
+// Whether the next member of a walk has the one word of order 10, and then its sides; none if there is no member.
 fn next_fits<L: Ledger>(walk: &mut Walk, steps: &mut Steps<L>) -> Option<bool> {
     let entry = next(walk, steps)?;
     fits(&entry, SIDES_OF_10, ONE_OF_10)
@@ -326,7 +326,7 @@ fn go_together<L: Ledger>(whole: &mut Walk, part: &mut Walk, steps: &mut Steps<L
     }
 }
 
-// The same for eight members of a walk of order 11 that begins here.
+// Goes on with two walks of order 11, one of which begins here; whether they give the same eight members.
 fn go_along<L: Ledger>(
     rt: &impl Abort,
     alloc: Global,

@@ -1,12 +1,7 @@
 use Rattle.std.proofs.Common.{arith}
 use Rattle.bk_sym.proofs.FirstSide.{begins_shorter_at_most}
-use Rattle.bk_tiling.specs.declared.Square.{Square}
 use Rattle.std.proofs.lemmas.Bool.{false≢true}
-use Rattle.bk_sym.proofs.SquaresWithin.{within_by_numbers}
 use Rattle.bk_sym.proofs.begins_shorter.Goals as goal
-
-abbrev none : Square
-none = record { x = 0; y = 0; s = 0 }
 
 pub returns-then-comes_first : goal.returns-then-comes_first
 returns-then-comes_first c = λ _. begins_shorter_at_most c.args.tiling.now c.args.other.now c.args.which c.squares-q-items.result.now c.squares.result.now
@@ -18,11 +13,6 @@ returns-then-comes_first c = λ _. begins_shorter_at_most c.args.tiling.now c.ar
       shorter = omega (arith, c.if-q-first.true);
       corner = c.comes_first.ensures c.if-comes_first.true;
     })
-
-pub comes_first-requires : goal.comes_first-requires
-comes_first-requires c =
-    within_by_numbers c.args.tiling.now c.squares-q-items.ensures.kept.tiling c.width-width.result c.height-height.result c.squares-q-items.result.now
-    c.width-width.ensures.value c.height-height.ensures.value c.squares-q-items.ensures.value c.loop-q.q-index none c.loop-q-test.true
 
 pub returns : goal.returns
 returns c = λ e. absurd (false≢true e)

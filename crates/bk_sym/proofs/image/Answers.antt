@@ -6,7 +6,6 @@ use Rattle.bk_tiling.specs.declared.Square.{Square}
 use Rattle.bk_sym.proofs.KeptImages.{all_turned, kept_image, made, turned_apart, turned_sides}
 use Rattle.bk_sym.specs.Image.{image, image_size, image_square}
 use Rattle.std.proofs.lemmas.List.{length-map, length-take, map_more}
-use Rattle.bk_sym.proofs.SquaresWithin.{within_by_numbers}
 use Rattle.bk_sym.proofs.image.Goals.{After-loop-q, After-turned_size-width}
 use Rattle.bk_sym.proofs.image.Goals as goal
 
@@ -51,11 +50,6 @@ from_known-requires c =
     let at = goal.at.from_known-requires c in
     subst IsKept (sym (whole at.After-turned_size-width (items at.After-loop-q))) (kept_image c.args.which c.args.tiling.now c.squares-q-items.ensures.kept)
 
-pub turned-requires : goal.turned-requires
-turned-requires c =
-    within_by_numbers c.args.tiling.now c.squares-q-items.ensures.kept.tiling c.width-width.result c.height-height.result c.squares-q-items.result.now
-    c.width-width.ensures.value c.height-height.ensures.value c.squares-q-items.ensures.value c.loop-q.q-index none c.loop-q-test.true
-
 pub push-requires : goal.push-requires
 push-requires c = (
   lit< tt,
@@ -66,9 +60,9 @@ push-requires c = (
 
 pub loop-q-preserved : goal.loop-q-preserved
 loop-q-preserved c =
-    c.push.ensures.items ∙ ap (λ (s : List Square). s ++ c.turned.result ∷ []) c.loop-q.invariant
+    c.push.ensures.items ∙ ap (λ (s : List Square). s ++ c.image_square.result ∷ []) c.loop-q.invariant
     ∙ ap (λ (q : Square). map (image_square c.args.which c.width-width.result c.height-height.result)
-    (take c.loop-q.q-index c.squares-q-items.result.now) ++ q ∷ []) c.turned.ensures
+    (take c.loop-q.q-index c.squares-q-items.result.now) ++ q ∷ []) c.image_square.ensures
     ∙ sym (map_more
     (image_square c.args.which c.width-width.result c.height-height.result) c.squares-q-items.result.now c.loop-q.q-index none c.loop-q-test.true)
 

@@ -171,7 +171,7 @@ fn from_start_with_little_room<L: Ledger>(
     assert_leaps(rt, wanted, pushed);
 }
 
-// So one walk begins inside a table, one at its last word.
+// A walk from each member on: one begins inside a table, one at its last word.
 fn after_members<L: Ledger>(rt: &impl Abort, alloc: Global, wanted: &Wanted, steps: &mut Steps<L>) {
     for member in wanted.members {
         let walk: Walk = walk_after(rt, alloc, wanted.order, wanted.class, &member.word);

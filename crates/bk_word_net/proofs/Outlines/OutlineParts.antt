@@ -92,7 +92,7 @@ module _ (o : Outline) (v : AtValley o) where
   pub none_before : length v.left ≡ 0 → length v.before ≡ 0
   none_before e = ap length (v.no_before (none v.left e))
 
-  -- nor at the right
+  -- where no segment is just at the right of the valley, none is further there
   pub none_after : length v.right ≡ 0 → length v.after ≡ 0
   none_after e = ap length (v.no_after (none v.right e))
 

@@ -73,7 +73,7 @@ filled_singles : (numbers : List ℕ) → AllFilled (map (λ q. q ∷ []) number
 filled_singles [] = tt
 filled_singles (n ∷ numbers) = (omega arith, filled_singles numbers)
 
--- so there are at most as many segments as squares
+-- where each segment has a square, there are at most as many segments as squares
 pub filled_many : (segments : List (List ℕ)) → AllFilled segments → length segments ≤ length (concat segments)
 filled_many [] all = omega arith
 filled_many (s ∷ segments) all = omega (arith, all.0, filled_many segments all.1, length-append s (concat segments))
@@ -109,7 +109,7 @@ filled_parts o v shaped = cases shaped.filled
         back : AllFilled (v.left ++ (v.valley ∷ (v.right ++ v.after)))
         back = all_right (λ s. 0 < length s) v.before (v.left ++ (v.valley ∷ (v.right ++ v.after))) whole
 
--- such an outline is cut at its leftmost valley
+-- a shaped outline is cut at its leftmost valley
 pub valley_in : (o : Outline) → Shaped o → AtValley o
 valley_in o shaped = at_valley o shaped.parted shaped.many
 

@@ -183,6 +183,6 @@ module _ (O : Outline) (played : Played O) (f : Flow) (flow : IsFlow (net_after 
   abbrev pub built : Tiling
   built = record { width = width; height = nat_abs (potential f 0 -ℤ potential f (length O.closed)); squares = in_code_order all }
 
-  -- it is a tiling
+  -- the squares that were placed make a tiling
   pub is_tiling : 0 < length all → IsTiling built
   is_tiling = columns_are_tiling width (nat_abs (potential f 0 -ℤ potential f (length O.closed))) all base.inside base.filled all_deep

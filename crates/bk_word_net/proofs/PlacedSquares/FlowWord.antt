@@ -37,7 +37,7 @@ module _ (t : Tiling) (tiling : IsTiling t) (all : List Square) (all_in : (q : S
     same_valley : (p : Placed t.width laid 0 d.runs) → p.valley ≡ v
     same_valley p = one_leftmost_valley t.width laid p.valley v p.leftmost found
 
-    -- so the move is the tiling's
+    -- where the bottoms compare as a move's signs say, the move is the tiling's
     pub move_is : m.signs ≡ signs_between (bottoms_of_move bottom o m) → m ≡ move_under t laid v
     move_is e = λ i. record { count = count i; signs = (e ∙ ap signs_between compared) i }
       where

@@ -58,7 +58,7 @@ module _ (w : Word) (complete : IsComplete w) (f : Flow) (one : IsOneFlow (net_o
   not_long never t tiling word = never (placed_by t tiling word).long
 
   module _ (sides : List ℕ) (currents : f.currents ≡ map pos sides) where
-    -- nor where the sides place nothing
+    -- where the sides place nothing, no tiling has the word
     pub not_placed : ((t : Tiling) → IsLaidWith w sides t → ⊥) → (t : Tiling) → IsTiling t → IsWordOf t w → ⊥
     not_placed never t tiling word = from (a_flow_places_a_tiling w f complete one.flow (placed_by t tiling word))
       where

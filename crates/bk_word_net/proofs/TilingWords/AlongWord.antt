@@ -155,7 +155,7 @@ module _ (t : Tiling) (laid : List Square) (nodes : List Segment) (o : Outline) 
     deep = λ c h. omega (arith, b.deep c h, depth-append laid (squares_under t v) c);
   }
 
-  -- it stays so when the squares under the leftmost valley are laid
+  -- once the squares under the leftmost valley are laid, too, what is laid goes along with the outline after the move
   pub along_move : Along t (laid ++ squares_under t v) (nodes ++ v ∷ []) (after_move o (move_under t laid v))
   along_move = record {
     fills = (valley_is_filled t laid v tiling a.fills found low).1;

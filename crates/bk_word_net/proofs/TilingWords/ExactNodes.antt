@@ -18,7 +18,7 @@ use Rattle.bk_word_net.proofs.TilingWords.GroupRuns.{Exact, IsGroupRun, deeper, 
 
 module _ (t : Tiling) (laid : List Square) (nodes : List Segment) (o : Outline) (v : Segment) (tiling : IsTiling t)
     (a : Along t laid nodes o) (x : Exact t laid nodes) (found : IsLeftmostValley t.width laid v) (low : v.level < t.height) where
-  -- it stays so when the squares under the leftmost valley are laid
+  -- once the squares under the leftmost valley are laid, too, the valleys that are filled are exactly the runs of groups
   pub exact_move : Exact t (laid ++ squares_under t v) (nodes ++ v ∷ [])
   exact_move = record {
     right = λ q h e. right q (from_append laid (squares_under t v) q h) e;

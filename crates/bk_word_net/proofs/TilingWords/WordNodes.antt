@@ -61,7 +61,7 @@ module _ (t : Tiling) (w : Word) (tiling : IsTiling t) (p : IsWordOf t w) where
     ),
   )
 
-  -- whose place is among the groups
+  -- the place of a word's node is among the groups
   pub node_below_groups : (k : ℕ) → k < length (e t w tiling p).nodes → node_of_word k < length (square_groups t.squares)
   node_below_groups k h = let n = node_run k h in let r = (n.1).0 in omega (arith, (n.1).2, slice_get_within (square_groups t.squares) r.place r.group r.is)
 

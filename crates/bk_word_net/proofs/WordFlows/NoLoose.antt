@@ -171,7 +171,7 @@ module _ (o : Outline) (p : Played o) (one : length o.segments ≡ 1) where
       cases (inl e) rest = subst (λ (u : ℕ). IsJoined (net_after o).wires v u) e here
       cases (inr h) rest = let w = onwards v h in along w.3 (rest w.0 (omega (arith, w.2)) (omega (arith, w.1)))
 
-  -- so no node is loose
+  -- no node of a complete word's net is loose
   pub no_loose : HasNoLoose (net_after o)
   no_loose v h = subst (λ (u : ℕ). IsJoined (net_after o).wires v u) last (joined_to_last (length o.closed) v (omega arith) (omega arith))
     where

@@ -177,5 +177,6 @@ span_within laid level x (n ∷ numbers) end m (q, at, has_node_below, bottom, r
     cases : (n ≡ m) ⊎ ◌≡◌ {A = ℕ} (cond (nat_eq m n) 1 0) 0
         → (0 < times m numbers → (r : Square) × IsNumbered laid m r × (r.y + r.s ≡ level) × (x + q.s ≤ r.x) × (r.x + r.s ≤ end))
         → (q : Square) × IsNumbered laid m q × (q.y + q.s ≡ level) × (x ≤ q.x) × (q.x + q.s ≤ end)
-    cases (inl e) more = (q, subst (λ (k : ℕ). IsNumbered laid k q) e at, bottom, omega (arith, has_node_below), omega (arith, has_node_below, order numbers (x + q.s) rest))
+    cases (inl e) more =
+        (q, subst (λ (k : ℕ). IsNumbered laid k q) e at, bottom, omega (arith, has_node_below), omega (arith, has_node_below, order numbers (x + q.s) rest))
     cases (inr e) more = let r = more (omega (arith, e)) in (r.0, r.1, r.2, omega (arith, r.3), r.4)

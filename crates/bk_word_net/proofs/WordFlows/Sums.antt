@@ -59,7 +59,7 @@ out_sum-here (s ∷ sides) v = omega (arith, same, out_sum-here sides v)
     same : cond (nat_eq v v) s 0 ≡ s
     same = grind (arith, nat_tests)
 
--- none
+-- from a node from which nothing hangs nothing flows out
 pub out_sum-none : (hung sides : List ℕ) (v : ℕ) → times v hung ≡ 0 → out_sum hung sides v ≡ 0
 out_sum-none [] sides v e = refl
 out_sum-none (h ∷ hung) [] v e = refl

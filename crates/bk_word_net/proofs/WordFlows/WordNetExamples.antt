@@ -19,7 +19,7 @@ pub net_65x47 : net_of_word word_65x47 ≡ record {
 }
 net_65x47 = refl
 
--- and that of the word of four equal squares three
+-- the net of the word of four equal squares has three nodes
 pub net_of_four : net_of_word word_of_four ≡ record { nodes = 3; wires = (0, 1) ∷ (0, 1) ∷ (1, 2) ∷ (1, 2) ∷ [] }
 net_of_four = refl
 

@@ -9,5 +9,6 @@ use Rattle.bk_ask.proofs.command_options.class_in.Goals as goal
 pub returns-in-Some-clause-none : goal.returns-in-Some-clause-none
 returns-in-Some-clause-none c =
     if_none-weaken c.class_named.result _ _
-    (no_meaning_or (options_in (map string_bytes c.args.options.now)) (codes "--class") c.in-Some.name.now IsClassName Perfect c.requires c.in-Some.ensures.some)
+    (no_meaning_or (options_in (map string_bytes c.args.options.now)) (codes "--class") c.in-Some.name.now IsClassName Perfect
+    c.requires c.in-Some.ensures.some)
     c.class_named.ensures.none

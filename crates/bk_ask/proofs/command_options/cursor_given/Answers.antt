@@ -15,7 +15,8 @@ pub returns-in_err-cursor_in-in-Some-clause-some : goal.returns-in_err-cursor_in
 returns-in_err-cursor_in-in-Some-clause-some c = if_some-of_none c.from_residual.result _ c.from_residual.ensures
 
 pub returns-in_ok-cursor_in-in-Some-clause-some : goal.returns-in_ok-cursor_in-in-Some-clause-some
-returns-in_ok-cursor_in-in-Some-clause-some c = record { value = c.in-Some.text.now; stands = c.in-Some.ensures.some; means = c.in_ok-cursor_in-in-Some.ensures.some }
+returns-in_ok-cursor_in-in-Some-clause-some c =
+    record { value = c.in-Some.text.now; stands = c.in-Some.ensures.some; means = c.in_ok-cursor_in-in-Some.ensures.some }
 
 pub returns-in-None-clause-some : goal.returns-in-None-clause-some
 returns-in-None-clause-some c = c.in-None.ensures.none

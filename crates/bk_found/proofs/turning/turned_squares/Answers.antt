@@ -23,9 +23,9 @@ push-requires c = (lit< tt, omega (arith, c.squares.invariant.many, c.squares-te
 pub squares-preserved : goal.squares-preserved
 squares-preserved c = record {
   read = c.push.ensures.items
-      ∙ ap (λ (l : List Square). l ++ c.turned.result ∷ []) c.squares.invariant.read
+      ∙ ap (λ (l : List Square). l ++ c.image_square.result ∷ []) c.squares.invariant.read
       ∙ ap (λ (s : Square). map (image_square c.args.which c.args.placed.now.width c.args.placed.now.height)
-      (take c.squares.q-index c.as_slice-q-items.result.now) ++ s ∷ []) c.turned.ensures
+      (take c.squares.q-index c.as_slice-q-items.result.now) ++ s ∷ []) c.image_square.ensures
       ∙ sym (map_more (image_square c.args.which c.args.placed.now.width c.args.placed.now.height) c.as_slice-q-items.result.now c.squares.q-index _
       c.squares-test.true);
   many = c.push.ensures.len ∙ ap (λ n. n + 1) c.squares.invariant.many;

@@ -1,6 +1,8 @@
-use Rattle.std.proofs.Common.{[], ap, arith, false, length, true, ◌++◌, ◌+◌, ◌<◌, ◌∙◌, ◌∷◌, ◌≡◌}
+use Rattle.std.specs.Prelude.{◌/◌}
+use Rattle.std.proofs.Common.{[], ap, arith, cond, false, length, nat_lt, subst, true, ℕ, ◌++◌, ◌+◌, ◌<◌, ◌∙◌, ◌∷◌, ◌≡◌}
 use Rattle.std.proofs.lemmas.List.{length-append}
 use Rattle.bk_laws.proofs.NumberTests.{lt-from_nat_lt}
+use Rattle.bk_word.specs.Play.{IsLegal}
 use Rattle.bk_word.specs.Word.{Move, Word, order_of}
 use Rattle.bk_word.proofs.StoredBytes.{order_append, order_more}
 use Rattle.bk_layout.proofs.NormalCuts.LastMoves.{all_under_at_left_is_normal_barren, all_under_at_right_is_normal_barren, all_under_is_normal_barren}
@@ -42,9 +44,10 @@ overflow_add-result c = omega (arith, c.look_after-after.ensures.few.1, c.look_a
 
 pub returns-then-order-from : goal.returns-then-order-from
 returns-then-order-from c _ = all_under_is_normal_barren c.args.order c.most_moves.result (c.args.board.now ++ c.args.m.now ∷ [])
-    (all_under c.args.order c.args.board.now c.skel.result.now c.args.m.now c.look_after-after.result c.most_moves.result c.max.result c.requires
-    c.look_after-after.ensures.stands c.skel.ensures.legal c.skel.ensures.value (c.are_under_then.ensures c.if-not-are_under_then.false) c.max.ensures
-    c.most_moves.ensures (omega (arith, c.if-moves-most_moves.false, c.moves.ensures.value, ap (λ (w : Word). length w) c.skel.ensures.value)))
+    (all_under c.args.order c.args.board.now c.args.m.now c.look_after-after.result c.most_moves.result c.requires c.look_after-after.ensures.stands
+    (subst IsLegal c.skel.ensures.value c.skel.ensures.legal) (c.are_under_then.ensures c.if-not-are_under_then.false)
+    (c.most_moves.ensures ∙ ap (λ (k : ℕ). cond {A = ℕ} (nat_lt c.look_after-after.result.top k) (c.args.order / 2) ((c.args.order + 1) / 2)) c.max.ensures)
+    (omega (arith, c.if-moves-most_moves.false, c.moves.ensures.value, ap (λ (w : Word). length w) c.skel.ensures.value)))
     (λ even. c.if-order-from.true (omega (
       arith,
       even,
@@ -60,9 +63,10 @@ returns-then-order-from c _ = all_under_is_normal_barren c.args.order c.most_mov
 
 pub returns-then-after : goal.returns-then-after
 returns-then-after c _ = all_under_at_left_is_normal_barren c.args.order c.most_moves.result (c.args.board.now ++ c.args.m.now ∷ [])
-    (all_under c.args.order c.args.board.now c.skel.result.now c.args.m.now c.look_after-after.result c.most_moves.result c.max.result c.requires
-    c.look_after-after.ensures.stands c.skel.ensures.legal c.skel.ensures.value (c.are_under_then.ensures c.if-not-are_under_then.false) c.max.ensures
-    c.most_moves.ensures (omega (arith, c.if-moves-most_moves.false, c.moves.ensures.value, ap (λ (w : Word). length w) c.skel.ensures.value)))
+    (all_under c.args.order c.args.board.now c.args.m.now c.look_after-after.result c.most_moves.result c.requires c.look_after-after.ensures.stands
+    (subst IsLegal c.skel.ensures.value c.skel.ensures.legal) (c.are_under_then.ensures c.if-not-are_under_then.false)
+    (c.most_moves.ensures ∙ ap (λ (k : ℕ). cond {A = ℕ} (nat_lt c.look_after-after.result.top k) (c.args.order / 2) ((c.args.order + 1) / 2)) c.max.ensures)
+    (omega (arith, c.if-moves-most_moves.false, c.moves.ensures.value, ap (λ (w : Word). length w) c.skel.ensures.value)))
     (omega (
       arith,
       c.if-after.true,
@@ -73,9 +77,10 @@ returns-then-after c _ = all_under_at_left_is_normal_barren c.args.order c.most_
 
 pub returns-then-are_most_moves : goal.returns-then-are_most_moves
 returns-then-are_most_moves c told = all_under_at_right_is_normal_barren c.args.order c.most_moves.result (c.args.board.now ++ c.args.m.now ∷ [])
-    (all_under c.args.order c.args.board.now c.skel.result.now c.args.m.now c.look_after-after.result c.most_moves.result c.max.result c.requires
-    c.look_after-after.ensures.stands c.skel.ensures.legal c.skel.ensures.value (c.are_under_then.ensures c.if-not-are_under_then.false) c.max.ensures
-    c.most_moves.ensures (omega (arith, c.if-moves-most_moves.false, c.moves.ensures.value, ap (λ (w : Word). length w) c.skel.ensures.value)))
+    (all_under c.args.order c.args.board.now c.args.m.now c.look_after-after.result c.most_moves.result c.requires c.look_after-after.ensures.stands
+    (subst IsLegal c.skel.ensures.value c.skel.ensures.legal) (c.are_under_then.ensures c.if-not-are_under_then.false)
+    (c.most_moves.ensures ∙ ap (λ (k : ℕ). cond {A = ℕ} (nat_lt c.look_after-after.result.top k) (c.args.order / 2) ((c.args.order + 1) / 2)) c.max.ensures)
+    (omega (arith, c.if-moves-most_moves.false, c.moves.ensures.value, ap (λ (w : Word). length w) c.skel.ensures.value)))
     (omega (
       arith,
       c.are_most_moves.ensures c.if-are_most_moves.true,

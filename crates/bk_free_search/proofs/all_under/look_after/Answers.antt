@@ -1,7 +1,8 @@
-use Rattle.std.proofs.Common.{ap, arith, cond, length, subst, ℕ, ◌∙◌}
+use Rattle.std.proofs.Common.{ap, arith, cond, count_by, length, subst, ℕ, ◌∙◌}
 use Rattle.bk_laws.proofs.TestsAsNumbers.{cond_count-le_one}
 use Rattle.bk_word.specs.Outline.{has_left_wall, has_right_wall}
 use Rattle.bk_word.specs.Play.{IsLegal, outline_of}
+use Rattle.bk_word.specs.Signs.{is_even}
 use Rattle.bk_word.specs.Word.{Move, Word, order_of}
 use Rattle.bk_free_search.proofs.NextWords.Cutting.{few_signs_open}
 use Rattle.bk_layout.specs.Normal.{Counts}
@@ -34,18 +35,22 @@ returns-clause-stands c =
       );
       signs_are = omega (
         arith,
-        signs_shown c.args.board.now c.skel-2.result.now c.args.m.now c.signs.result.now c.as_slice.result.now c.evens_in.result c.from-3.result
-            (subst IsLegal c.skel.ensures.value c.skel.ensures.legal) c.requires.legal c.skel-2.ensures.value c.signs.ensures c.evens_in.ensures
-            (c.as_slice.ensures.items ∙ ap (λ (m : Move). m.signs) c.m.view_is) (c.from-3.ensures ∙ ap (λ (m : Move). m.count) c.m.view_is),
+        signs_shown c.args.board.now c.args.m.now (length c.signs.result.now) c.evens_in.result c.from-3.result
+            (subst IsLegal c.skel.ensures.value c.skel.ensures.legal) c.requires.legal
+            (ap length c.signs.ensures ∙ ap (λ (w : Word). length (outline_of w).signs) c.skel-2.ensures.value)
+            (c.evens_in.ensures ∙ ap (count_by is_even) (c.as_slice.ensures.items ∙ ap (λ (m : Move). m.signs) c.m.view_is))
+            (c.from-3.ensures ∙ ap (λ (m : Move). m.count) c.m.view_is),
       );
     }
 
 pub overflow_sub-result-2 : goal.overflow_sub-result-2
 overflow_sub-result-2 c = omega (
   arith,
-  signs_shown c.args.board.now c.skel-2.result.now c.args.m.now c.signs.result.now c.as_slice.result.now c.evens_in.result c.from-3.result
-      (subst IsLegal c.skel.ensures.value c.skel.ensures.legal) c.requires.legal c.skel-2.ensures.value c.signs.ensures c.evens_in.ensures
-      (c.as_slice.ensures.items ∙ ap (λ (m : Move). m.signs) c.m.view_is) (c.from-3.ensures ∙ ap (λ (m : Move). m.count) c.m.view_is),
+  signs_shown c.args.board.now c.args.m.now (length c.signs.result.now) c.evens_in.result c.from-3.result
+      (subst IsLegal c.skel.ensures.value c.skel.ensures.legal) c.requires.legal
+      (ap length c.signs.ensures ∙ ap (λ (w : Word). length (outline_of w).signs) c.skel-2.ensures.value)
+      (c.evens_in.ensures ∙ ap (count_by is_even) (c.as_slice.ensures.items ∙ ap (λ (m : Move). m.signs) c.m.view_is))
+      (c.from-3.ensures ∙ ap (λ (m : Move). m.count) c.m.view_is),
 )
 
 pub returns-clause-few : goal.returns-clause-few

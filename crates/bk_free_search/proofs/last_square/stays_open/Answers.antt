@@ -5,7 +5,7 @@ use Rattle.bk_word.specs.Outline.{valley_of}
 use Rattle.bk_word.specs.Play.{outline_of}
 use Rattle.bk_word.specs.Word.{Word}
 use Rattle.bk_free_search.proofs.NextWords.LastSquare.{lone_is_barred, others_are_barred}
-use Rattle.bk_free_search.specs.LastSquare.{neighbours}
+use Rattle.bk_catalogue.specs.NextMove.{open_sides}
 use Rattle.bk_free_search.proofs.last_square.stays_open.Goals as goal
 
 pub returns-then-valley_squares-eq1 : goal.returns-then-valley_squares-eq1
@@ -15,11 +15,11 @@ returns-then-valley_squares-eq1 c _ = lone_is_barred c.args.order c.args.board.n
 
 pub returns : goal.returns
 returns c told = others_are_barred c.args.order c.args.board.now c.requires.least c.requires.one (λ same.
-    ne-from_nat_eq (length c.signs.result.now) c.neighbours.result (false-of_not (nat_eq (length c.signs.result.now) c.neighbours.result) told) (omega (
+    ne-from_nat_eq (length c.signs.result.now) c.open_sides.result (false-of_not (nat_eq (length c.signs.result.now) c.open_sides.result) told) (omega (
       arith,
       same,
       ap length c.signs.ensures,
       ap (λ (w : Word). length (outline_of w).signs) c.skel-skel.ensures.value,
-      c.neighbours.ensures.is,
-      ap (λ (w : Word). neighbours (outline_of w)) c.skel-skel.ensures.value,
+      c.open_sides.ensures.is,
+      ap (λ (w : Word). open_sides (outline_of w)) c.skel-skel.ensures.value,
     )))

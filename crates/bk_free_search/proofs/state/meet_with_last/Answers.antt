@@ -5,9 +5,9 @@ use Rattle.bk_word.proofs.StoredBytes.{order_one}
 use Rattle.bk_word.specs.Play.{IsComplete, outline_of}
 use Rattle.bk_word.specs.Word.{Move, Word, order_of}
 use Rattle.bk_free_search.proofs.NextWords.LastSquare.{last_is_whole, last_legal}
-use Rattle.bk_free_search.proofs.NextWords.TurnsTaken.{none_met, without_last}
+use Rattle.bk_free_search.proofs.NextWords.HandedOn.{none_met, without_last}
 use Rattle.bk_free_search.specs.BoardOutlines.{IsBoardOutline}
-use Rattle.bk_free_search.specs.LastSquare.{neighbours}
+use Rattle.bk_catalogue.specs.NextMove.{open_sides}
 use Rattle.bk_free_search.proofs.state.meet_with_last.Goals as goal
 
 pub returns-in-None-clause-all : goal.returns-in-None-clause-all
@@ -35,7 +35,7 @@ pub returns-clause-kept : goal.returns-clause-kept
 returns-clause-kept g c = c.meet_closed.ensures.kept
 
 pub push-requires-clause-legal : goal.push-requires-clause-legal
-push-requires-clause-legal g c = last_legal (outline_of c.args.board.now) c.in-Some.last (neighbours (outline_of c.args.board.now))
+push-requires-clause-legal g c = last_legal (outline_of c.args.board.now) c.in-Some.last (open_sides (outline_of c.args.board.now))
     (ap (λ (m : Move). m.count) c.in-Some.ensures.last) (ap (λ (m : Move). m.signs) c.in-Some.ensures.last) refl
 
 pub push-requires-clause-few : goal.push-requires-clause-few

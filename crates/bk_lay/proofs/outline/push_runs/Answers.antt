@@ -2,7 +2,7 @@ use Rattle.std.proofs.Common.{List, [], append-nil, ap, arith, drop, get_or, len
 use Rattle.std.proofs.lemmas.List.{append_assoc, at_drop_more, drop_all}
 use Rattle.bk_tiling.specs.declared.Square.{Square}
 use Rattle.bk_lay.specs.LevelRuns.{run_under, runs_under}
-use Rattle.bk_lay.specs.declared.outline.Run.{Run}
+use Rattle.bk_lay.specs.declared.outline.LevelRun.{LevelRun}
 use Rattle.bk_lay.proofs.SquaresAt.{holds_at}
 use Rattle.bk_lay.proofs.outline.push_runs.Goals as goal
 
@@ -10,20 +10,20 @@ abbrev none : Square
 none = record { x = 0; y = 0; s = 0 }
 
 -- the run under one square more, which stands before the others
-one_more : (right : List Run) (squares : List Square) (i : ℕ) (d : Square) → 0 < i → i ≤ length squares
+one_more : (right : List LevelRun) (squares : List Square) (i : ℕ) (d : Square) → 0 < i → i ≤ length squares
     → right ++ runs_under (drop i squares) ++ run_under (get_or squares (i - 1) d) ∷ [] ≡ right ++ runs_under (drop (i - 1) squares)
 one_more right squares i d some within =
     let back : i ≡ i - 1 + 1 = omega (arith, some) in
     append_assoc right (runs_under (drop i squares)) (run_under (get_or squares (i - 1) d) ∷ [])
     ∙ ap (λ n. right ++ (runs_under (drop n squares) ++ run_under (get_or squares (i - 1) d) ∷ [])) back
-    ∙ ap (λ (l : List Run). right ++ l) (sym (at_drop_more runs_under squares (i - 1) d (omega (arith, some, within))))
+    ∙ ap (λ (l : List LevelRun). right ++ l) (sym (at_drop_more runs_under squares (i - 1) d (omega (arith, some, within))))
 
 pub loop-i-preserved : goal.loop-i-preserved
 loop-i-preserved c = record {
   within = omega (arith, c.loop-i.invariant.within);
   count = omega (arith, c.loop-i.invariant.count, c.push.ensures.len, c.loop-i-test.true);
   items = c.push.ensures.items
-      ∙ ap (λ (l : List Run). l ++ run_under (get_or c.args.squares.now (c.loop-i.i - 1) none) ∷ []) c.loop-i.invariant.items
+      ∙ ap (λ (l : List LevelRun). l ++ run_under (get_or c.args.squares.now (c.loop-i.i - 1) none) ∷ []) c.loop-i.invariant.items
       ∙ one_more c.args.right.now.items c.args.squares.now c.loop-i.i none c.loop-i-test.true c.loop-i.invariant.within;
 }
 

@@ -2,7 +2,7 @@ use Rattle.std.proofs.Common.{Option, [], ap, arith, false, length, suc, true, z
 use Rattle.std.specs.Prelude.{option_to_list}
 use Rattle.std.proofs.lemmas.List.{length-append}
 use Rattle.bk_lay.proofs.MeetingRuns.{first_from_right, last_from_left}
-use Rattle.bk_lay.specs.declared.outline.Run.{Run}
+use Rattle.bk_lay.specs.declared.outline.LevelRun.{LevelRun}
 use Rattle.bk_lay.proofs.outline.take_last.Goals as goal
 
 pub returns-in-Some-clause-beside : goal.returns-in-Some-clause-beside
@@ -16,7 +16,7 @@ pub returns-in-None-clause-beside : goal.returns-in-None-clause-beside
 returns-in-None-clause-beside c width laid m =
     first_from_right width laid c.args.left.now.items c.pop.new.self.items c.pop-in-None.new.self.items c.args.right.now.items c.unwrap.result
     (ap (λ v. v.items) c.in-None.ensures.empty) (λ h. no (c.in-None.ensures.variant.1 h))
-    (c.pop-in-None.ensures.items ∙ ap (λ (o : Option Run). c.pop-in-None.new.self.items ++ option_to_list o) c.unwrap.ensures) m
+    (c.pop-in-None.ensures.items ∙ ap (λ (o : Option LevelRun). c.pop-in-None.new.self.items ++ option_to_list o) c.unwrap.ensures) m
 
 -- what is left where there is none at the left
 right_left : (n m : ℕ) → (0 < n → ⊥) → 0 < n + m → 0 < m
@@ -34,6 +34,6 @@ pub returns-in-None-clause-fewer : goal.returns-in-None-clause-fewer
 returns-in-None-clause-fewer c = omega (
   arith,
   ap (λ v. length v.items) c.in-None.ensures.empty,
-  ap length (c.pop-in-None.ensures.items ∙ ap (λ (o : Option Run). c.pop-in-None.new.self.items ++ option_to_list o) c.unwrap.ensures),
+  ap length (c.pop-in-None.ensures.items ∙ ap (λ (o : Option LevelRun). c.pop-in-None.new.self.items ++ option_to_list o) c.unwrap.ensures),
   length-append c.pop-in-None.new.self.items (c.unwrap.result ∷ []),
 )

@@ -3,14 +3,14 @@ use Rattle.std.proofs.lemmas.List.{length-append}
 use Rattle.arrayvec.specs.ArrayVec.{ArrayVec}
 use Rattle.bk_lay.proofs.MeetingRuns.{falls_on, joins}
 use Rattle.bk_lay.specs.LevelRuns.{AreBeside, IsDeeperAtEnd}
-use Rattle.bk_lay.specs.declared.outline.Run.{Run}
+use Rattle.bk_lay.specs.declared.outline.LevelRun.{LevelRun}
 use Rattle.bk_lay.proofs.outline.take_valley.Goals as goal
 
 pub falling-preserved-then-next-valley : goal.falling-preserved-then-next-valley
 falling-preserved-then-next-valley c = record {
-  beside = λ width laid m. subst (λ (l : List Run). AreBeside width laid l c.in-Some.next c.pop_no_deeper.new.runs.items) (sym c.push.ensures.items)
+  beside = λ width laid m. subst (λ (l : List LevelRun). AreBeside width laid l c.in-Some.next c.pop_no_deeper.new.runs.items) (sym c.push.ensures.items)
       (falls_on width laid c.falling.left.items c.falling.valley c.pop_no_deeper.new.runs.items c.in-Some.next
-      (subst (λ (l : List Run). AreBeside width laid c.falling.left.items c.falling.valley l) c.in-Some.ensures.taken.0
+      (subst (λ (l : List LevelRun). AreBeside width laid c.falling.left.items c.falling.valley l) c.in-Some.ensures.taken.0
       (c.falling.invariant.beside width laid m)) c.if-next-valley.true);
   fewer = omega (
     arith,
@@ -24,14 +24,14 @@ falling-preserved-then-next-valley c = record {
 pub falling-preserved : goal.falling-preserved
 falling-preserved c = record {
   beside = λ width laid m. joins width laid c.falling.left.items c.falling.valley c.pop_no_deeper.new.runs.items c.in-Some.next
-      (subst (λ (l : List Run). AreBeside width laid c.falling.left.items c.falling.valley l) c.in-Some.ensures.taken.0
+      (subst (λ (l : List LevelRun). AreBeside width laid c.falling.left.items c.falling.valley l) c.in-Some.ensures.taken.0
       (c.falling.invariant.beside width laid m)) (omega (arith, c.in-Some.ensures.taken.1, c.if-next-valley.false));
   fewer = omega (arith, ap length c.in-Some.ensures.taken.0, length-append c.pop_no_deeper.new.runs.items (c.in-Some.next ∷ []), c.falling.invariant.fewer);
 }
 
 pub returns-clause-beside : goal.returns-clause-beside
 returns-clause-beside c width laid m =
-    subst (λ (v : ArrayVec Run). AreBeside width laid c.falling.left.items c.falling.valley v.items) (sym c.in_default.ensures.kept.0)
+    subst (λ (v : ArrayVec LevelRun). AreBeside width laid c.falling.left.items c.falling.valley v.items) (sym c.in_default.ensures.kept.0)
     (c.falling.invariant.beside width laid m)
 
 pub take_last-valley-requires : goal.take_last-valley-requires
@@ -59,7 +59,7 @@ falling-smaller c = omega (
 
 pub returns-clause-deeper : goal.returns-clause-deeper
 returns-clause-deeper c =
-    subst (λ (v : ArrayVec Run). IsDeeperAtEnd c.falling.valley.level v.items) (sym c.in_default.ensures.kept.0) c.in_default.ensures.kept.1
+    subst (λ (v : ArrayVec LevelRun). IsDeeperAtEnd c.falling.valley.level v.items) (sym c.in_default.ensures.kept.0) c.in_default.ensures.kept.1
 
 pub returns-clause-fewer : goal.returns-clause-fewer
-returns-clause-fewer c = omega (arith, ap (λ (v : ArrayVec Run). length v.items) c.in_default.ensures.kept.0, c.falling.invariant.fewer)
+returns-clause-fewer c = omega (arith, ap (λ (v : ArrayVec LevelRun). length v.items) c.in_default.ensures.kept.0, c.falling.invariant.fewer)

@@ -1,4 +1,4 @@
--- The net that the loop builds: with each turn one more of the wires, each of which its nodes allow.
+-- The net that the loop builds: with each step one more of the wires, each of which its nodes allow.
 use Rattle.std.proofs.Common.{List, [], ap, arith, length, subst, sym, ℕ, ◌++◌, ◌<◌, ◌∙◌, ◌∷◌}
 use Rattle.std.specs.Prelude.{slice_index_or}
 use Rattle.std.proofs.lemmas.List.{length-append, take_all, take_more}

@@ -2,7 +2,7 @@ use Rattle.std.specs.Prelude.{List, Option, Some, ℕ}
 use Rattle.std.proofs.Common.{ap, arith, subst, sym, ◌∙◌}
 use Rattle.bk_net.specs.GatheredWires.{KeepsWires, and_wire}
 use Rattle.bk_net.specs.NetReading.{ended_wire, next_net_place}
-use Rattle.bk_net.specs.declared.reader.Ending.{Ending}
+use Rattle.bk_net.specs.declared.reader.NetEnding.{NetEnding}
 use Rattle.bk_net.proofs.NetProgress.{HasWires, at_first, fault_is, progress_more, item_is, no_ending, no_next, skip_found, progress_all, wires_found}
 use Rattle.bk_net.proofs.read.read_net.Goals as goal
 
@@ -48,7 +48,7 @@ pub returns-in-Empty-clause-read : goal.returns-in-Empty-clause-read
 returns-in-Empty-clause-read c =
     skip_found c.args.line.now c.loop-at.place c.loop-at.wires.items c.loop-at.many
     (progress_all c.args.line.now c.loop-at.at c.loop-at.place c.loop-at.wires.items c.loop-at.many (omega arith) c.loop-at.invariant)
-    (sym c.ending.ensures ∙ c.in-Some-ending.is ∙ ap (λ (e : Ending). Some e) c.in-Empty.is)
+    (sym c.ending.ensures ∙ c.in-Some-ending.is ∙ ap (λ (e : NetEnding). Some e) c.in-Empty.is)
 
 -- all wires, and what is kept of them
 wires : (c : goal.After-net_item) → HasWires c.args.line.now c.in-Nodes.nodes c.deref.result.now c.with_wire-many-2.result
@@ -57,7 +57,7 @@ wires c =
     (wires_found c.args.line.now c.loop-at.place c.loop-at.wires.items c.with_wire-many-2.new.wires.items c.loop-at.many c.with_wire-many-2.result
     c.in-Nodes.nodes
     (progress_all c.args.line.now c.loop-at.at c.loop-at.place c.loop-at.wires.items c.loop-at.many (omega arith) c.loop-at.invariant)
-    (sym c.ending.ensures ∙ c.in-Some-ending.is ∙ ap (λ (e : Ending). Some e) c.in-Nodes.is)
+    (sym c.ending.ensures ∙ c.in-Some-ending.is ∙ ap (λ (e : NetEnding). Some e) c.in-Nodes.is)
     (λ all keeps. subst (λ (o : Option (ℕ × ℕ)). KeepsWires (and_wire o all) c.with_wire-many-2.new.wires.items c.with_wire-many-2.result)
     c.last_wire.ensures (c.with_wire-many-2.ensures all keeps)))
 

@@ -23,7 +23,7 @@ record_at_valley-requires-clause-place c = c.from.ensures ∙ c.requires.stands.
 
 pub record_at_valley-requires-clause-within : goal.record_at_valley-requires-clause-within
 record_at_valley-requires-clause-within c =
-    omega (arith, c.from.ensures, c.requires.stands.place_is, place_within c.args.open.now.signs.items, ap length c.as_slice-2.ensures.items)
+    omega (arith, c.from.ensures, c.requires.stands.place_is, place_within c.args.segments.now.signs.items, ap length c.as_slice-2.ensures.items)
 
 pub record_at_valley-requires-clause-first : goal.record_at_valley-requires-clause-first
 record_at_valley-requires-clause-first c = c.from-2.ensures ∙ c.requires.stands.first_is
@@ -43,7 +43,7 @@ record_at_valley-requires-clause-from c = c.requires.from
 
 pub returns : goal.returns
 returns c =
-    subst (λ (m : Move). with_parted c.record_at_valley.result (count_by parts m.signs) ≡ record_of c.args.open.now.sizes.items
-    c.args.open.now.signs.items m c.args.from) c.m.view_is (c.record_at_valley.ensures c.m.inside.signs.items (sym c.len.ensures.value)
+    subst (λ (m : Move). with_parted c.record_at_valley.result (count_by parts m.signs) ≡ record_of c.args.segments.now.sizes.items
+    c.args.segments.now.signs.items m c.args.from) c.m.view_is (c.record_at_valley.ensures c.m.inside.signs.items (sym c.len.ensures.value)
     ∙ (λ i. record_of (c.as_slice.ensures.items i) (c.as_slice-2.ensures.items i)
     (record { count = c.m.inside.count; signs = c.m.inside.signs.items }) c.args.from))

@@ -5,7 +5,7 @@ use Rattle.std.specs.Io.KnownBytes.{Consumes}
 use Rattle.bk_laws.proofs.Bytes.{appends-nothing, consumes-nothing}
 use Rattle.bk_ports.specs.Causes.{Rose}
 use Rattle.bk_ports.specs.Answered.{CountFits}
-use Rattle.bk_ports.specs.Ending.{ended_of, verdict_of}
+use Rattle.bk_ports.specs.Ending.{ended_of, streams_between, verdict_of}
 use Rattle.bk_ports.specs.Entering.{entering_from, entries_of}
 use Rattle.bk_ports.specs.Faults.{CountsTell, Faults}
 use Rattle.bk_ports.specs.declared.Ended.{Ended}
@@ -41,12 +41,7 @@ nothing_consumed (Some xs) = refl
 pub returns-in-Ok-enter_last-clause-ending : goal.returns-in-Ok-enter_last-clause-ending
 returns-in-Ok-enter_last-clause-ending g c =
     ends_verdict (record { enters = g.R.Register.enters; may_want = g.R.Register.may_want }) c.args.register.now c.enter_last.new.register
-    (record {
-      left = g.S.Source.left c.args.source.now;
-      left_after = g.S.Source.left c.read_block.new.source;
-      written = g.O.Sink.written c.args.out.now;
-      written_after = g.O.Sink.written c.enter_last.new.out;
-    })
+    (streams_between g.S.Source.left g.O.Sink.written (c.args.source.now, c.args.out.now) (c.read_block.new.source, c.enter_last.new.out))
     (c.reads.refused || c.in-Ok-enter_last.is_refused) c.verdict.result c.verdict.ensures
     (ends_all (record { enters = g.R.Register.enters; may_want = g.R.Register.may_want }) c.args.register.now c.reads.register
     (g.S.Source.left c.args.source.now) (g.S.Source.left c.reads.source) (g.S.Source.left c.read_block.new.source) (g.O.Sink.written c.args.out.now)
@@ -134,12 +129,7 @@ pub returns-in-Err-clause-complete : goal.returns-in-Err-clause-complete
 returns-in-Err-clause-complete g c =
     calm_is_done
     (entries_of (entering_from (record { enters = g.R.Register.enters; may_want = g.R.Register.may_want }) c.args.register.now 1) c.enter_last.new.register)
-    (record {
-      left = g.S.Source.left c.args.source.now;
-      left_after = g.S.Source.left c.read_block.new.source;
-      written = g.O.Sink.written c.args.out.now;
-      written_after = g.O.Sink.written c.enter_last.new.out;
-    })
+    (streams_between g.S.Source.left g.O.Sink.written (c.args.source.now, c.args.out.now) (c.read_block.new.source, c.enter_last.new.out))
     _ c.ended.result (returns-in-Err-clause-ending g c) (returns-in-Err-clause-faults g c)
 
 pub returns-then-taken-eq-MOST_BYTES-clause-faults : goal.returns-then-taken-eq-MOST_BYTES-clause-faults
@@ -156,12 +146,7 @@ pub returns-in-Err-enter_block-clause-complete : goal.returns-in-Err-enter_block
 returns-in-Err-enter_block-clause-complete g c =
     calm_is_done
     (entries_of (entering_from (record { enters = g.R.Register.enters; may_want = g.R.Register.may_want }) c.args.register.now 1) c.enter_block.new.register)
-    (record {
-      left = g.S.Source.left c.args.source.now;
-      left_after = g.S.Source.left c.read_block.new.source;
-      written = g.O.Sink.written c.args.out.now;
-      written_after = g.O.Sink.written c.enter_block.new.out;
-    })
+    (streams_between g.S.Source.left g.O.Sink.written (c.args.source.now, c.args.out.now) (c.read_block.new.source, c.enter_block.new.out))
     _ c.ended-in-Err-enter_block.result (returns-in-Err-enter_block-clause-ending g c) (returns-in-Err-enter_block-clause-faults g c)
 
 pub enter_last-requires-clause-ready : goal.enter_last-requires-clause-ready
@@ -186,12 +171,7 @@ pub returns-then-taken-eq-MOST_BYTES-clause-complete : goal.returns-then-taken-e
 returns-then-taken-eq-MOST_BYTES-clause-complete g c =
     calm_is_done
     (entries_of (entering_from (record { enters = g.R.Register.enters; may_want = g.R.Register.may_want }) c.args.register.now 1) c.reads.register)
-    (record {
-      left = g.S.Source.left c.args.source.now;
-      left_after = g.S.Source.left c.read_block.new.source;
-      written = g.O.Sink.written c.args.out.now;
-      written_after = g.O.Sink.written c.reads.out;
-    })
+    (streams_between g.S.Source.left g.O.Sink.written (c.args.source.now, c.args.out.now) (c.read_block.new.source, c.reads.out))
     _ TooMany (returns-then-taken-eq-MOST_BYTES-clause-ending g c) (returns-then-taken-eq-MOST_BYTES-clause-faults g c)
 
 pub slice_bounds-block-end : goal.slice_bounds-block-end

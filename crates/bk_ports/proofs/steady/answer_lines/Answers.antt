@@ -1,6 +1,7 @@
 use Rattle.std.proofs.Common.{refl, subst, ◌∙◌, ◌≡◌}
 use Rattle.bk_ports.proofs.Stateless.{ends_alike}
 use Rattle.bk_ports.specs.Answered.{of_fronts}
+use Rattle.bk_ports.specs.Ending.{streams_between}
 use Rattle.bk_ports.specs.Lines.{kept_front}
 use Rattle.bk_ports.proofs.steady.answer_lines.Goals as goal
 
@@ -19,12 +20,7 @@ returns-clause-ending g c =
       wants = λ s n line served h. subst (λ a. g.A.Answerer.may_want a (kept_front line)) served h;
     })
     (record { answerer = c.args.answerer; desk = c.desk.result }) c.enter_lines-ended.new.register
-    (record {
-      left = g.S.Source.left c.args.source.now;
-      left_after = g.S.Source.left c.enter_lines-ended.new.source;
-      written = g.O.Sink.written c.args.out.now;
-      written_after = g.O.Sink.written c.enter_lines-ended.new.out;
-    })
+    (streams_between g.S.Source.left g.O.Sink.written (c.args.source.now, c.args.out.now) (c.enter_lines-ended.new.source, c.enter_lines-ended.new.out))
     c.enter_lines-ended.result refl c.enter_lines-ended.ensures.ending
 
 pub returns-clause-complete : goal.returns-clause-complete

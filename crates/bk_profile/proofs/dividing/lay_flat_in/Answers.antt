@@ -2,8 +2,8 @@ use Rattle.std.proofs.Common.{Err, List, Ok, [], arith, drop, false, length, ref
 use Rattle.std.proofs.lemmas.List.{length-drop, take_all}
 use Rattle.bk_laws.proofs.ListParts.{empty-of_length_test}
 use Rattle.bk_profile.proofs.Division.{flat_refused_has_none}
-use Rattle.bk_profile.proofs.FlatTurns.{Dividing, ends_ok, ends_only, ends_refused, misfit_turn, next_turn, number-at_most_one_more}
-use Rattle.bk_profile.proofs.FlatTurns.{last_turn, rest_good, rest_room, too_wide}
+use Rattle.bk_profile.proofs.FlatSteps.{Dividing, ends_ok, ends_only, ends_refused, misfit_step, next_step, number-at_most_one_more}
+use Rattle.bk_profile.proofs.FlatSteps.{is_laid_out, rest_good, rest_room, too_wide}
 use Rattle.bk_profile.specs.Laid.{Laid}
 use Rattle.bk_profile.specs.declared.laying.Refusal.TheVariants.{Gap}
 use Rattle.bk_profile.proofs.dividing.lay_flat_in.Goals as goal
@@ -17,13 +17,13 @@ some_left (s ∷ sides) e = omega arith
 fewer_left : (all left taken : ℕ) → 0 < taken → left + taken ≡ all → left < all
 fewer_left all left taken some sum = omega (arith, some, sum)
 
-pub returns-then-width-gt-WIDEST-clause-refused : goal.returns-then-width-gt-WIDEST-clause-refused
-returns-then-width-gt-WIDEST-clause-refused c =
-    too_wide c.args.width c.sum_of.result c.args.sides.now c.requires.some c.requires.few c.requires.sides c.if-width-gt-WIDEST.true c.sum_of.ensures.sum
+pub returns-then-width-gt-WIDEST_PROFILE-clause-refused : goal.returns-then-width-gt-WIDEST_PROFILE-clause-refused
+returns-then-width-gt-WIDEST_PROFILE-clause-refused c =
+    too_wide c.args.width c.sum_of.result c.args.sides.now c.requires.some c.requires.few c.requires.sides c.if-width-gt-WIDEST_PROFILE.true c.sum_of.ensures.sum
 
-pub returns-then-width-gt-WIDEST-clause-only : goal.returns-then-width-gt-WIDEST-clause-only
-returns-then-width-gt-WIDEST-clause-only c t has = absurd (flat_refused_has_none c.args.width c.args.sides.now (Gap 1 c.args.width c.sum_of.result)
-    (too_wide c.args.width c.sum_of.result c.args.sides.now c.requires.some c.requires.few c.requires.sides c.if-width-gt-WIDEST.true
+pub returns-then-width-gt-WIDEST_PROFILE-clause-only : goal.returns-then-width-gt-WIDEST_PROFILE-clause-only
+returns-then-width-gt-WIDEST_PROFILE-clause-only c t has = absurd (flat_refused_has_none c.args.width c.args.sides.now (Gap 1 c.args.width c.sum_of.result)
+    (too_wide c.args.width c.sum_of.result c.args.sides.now c.requires.some c.requires.few c.requires.sides c.if-width-gt-WIDEST_PROFILE.true
     c.sum_of.ensures.sum) t has)
 
 pub overflow_add-group : goal.overflow_add-group
@@ -70,7 +70,7 @@ pub restart-requires-clause-some : goal.restart-requires-clause-some
 restart-requires-clause-some c = c.requires.wide
 
 pub restart-requires-clause-narrow : goal.restart-requires-clause-narrow
-restart-requires-clause-narrow c = omega (arith, c.if-width-gt-WIDEST.false)
+restart-requires-clause-narrow c = omega (arith, c.if-width-gt-WIDEST_PROFILE.false)
 
 pub loop-rest-init : goal.loop-rest-init
 loop-rest-init c =
@@ -79,14 +79,14 @@ loop-rest-init c =
 
 pub even_height-requires : goal.even_height-requires
 even_height-requires c =
-    last_turn c.args.width c.args.sides.now c.loop-rest.group c.loop-rest.profile c.loop-rest.rest.now c.loop-rest.invariant c.requires.few
+    is_laid_out c.args.width c.args.sides.now c.loop-rest.group c.loop-rest.profile c.loop-rest.rest.now c.loop-rest.invariant c.requires.few
     c.requires.some (empty-of_length_test c.loop-rest.rest.now c.is_empty.result c.is_empty.ensures c.loop-rest-test.false)
 
 pub leave_tiling-requires : goal.leave_tiling-requires
 leave_tiling-requires c = c.in-Ok-even_height.ensures.even
 
-pub returns-then-width-gt-WIDEST-clause-same : goal.returns-then-width-gt-WIDEST-clause-same
-returns-then-width-gt-WIDEST-clause-same c = refl
+pub returns-then-width-gt-WIDEST_PROFILE-clause-same : goal.returns-then-width-gt-WIDEST_PROFILE-clause-same
+returns-then-width-gt-WIDEST_PROFILE-clause-same c = refl
 
 pub returns-in-Err-even_height-clause-same : goal.returns-in-Err-even_height-clause-same
 returns-in-Err-even_height-clause-same c = refl
@@ -103,20 +103,20 @@ lay_next-requires-clause-room c =
 
 pub returns-in-Err-clause-refused : goal.returns-in-Err-clause-refused
 returns-in-Err-clause-refused c =
-    misfit_turn c.args.width c.args.sides.now c.loop-rest.group c.loop-rest.profile c.loop-rest.rest.now c.loop-rest.invariant c.requires.few
+    misfit_step c.args.width c.args.sides.now c.loop-rest.group c.loop-rest.profile c.loop-rest.rest.now c.loop-rest.invariant c.requires.few
     c.requires.sides
     c.in-Err.fault.gap c.in-Err.fault.sum (some_left c.loop-rest.rest.now c.loop-rest-test.ensures) c.in-Err.ensures.err
 
 pub returns-in-Err-clause-only : goal.returns-in-Err-clause-only
 returns-in-Err-clause-only c t has =
     absurd (flat_refused_has_none c.args.width c.args.sides.now (Gap c.loop-rest.group c.in-Err.fault.gap c.in-Err.fault.sum)
-    (misfit_turn c.args.width c.args.sides.now c.loop-rest.group c.loop-rest.profile c.loop-rest.rest.now c.loop-rest.invariant c.requires.few
+    (misfit_step c.args.width c.args.sides.now c.loop-rest.group c.loop-rest.profile c.loop-rest.rest.now c.loop-rest.invariant c.requires.few
     c.requires.sides
     c.in-Err.fault.gap c.in-Err.fault.sum (some_left c.loop-rest.rest.now c.loop-rest-test.ensures) c.in-Err.ensures.err) t has)
 
 pub loop-rest-preserved : goal.loop-rest-preserved
 loop-rest-preserved c =
-    next_turn c.args.width c.args.sides.now c.loop-rest.group c.loop-rest.profile c.loop-rest.rest.now c.loop-rest.invariant c.requires.few
+    next_step c.args.width c.args.sides.now c.loop-rest.group c.loop-rest.profile c.loop-rest.rest.now c.loop-rest.invariant c.requires.few
     c.requires.sides
     c.lay_next.new.self c.in-Ok.count (take (length c.loop-rest.rest.now - c.in-Ok.count) (drop c.in-Ok.count c.loop-rest.rest.now))
     (take_all (length c.loop-rest.rest.now - c.in-Ok.count) (drop c.in-Ok.count c.loop-rest.rest.now)

@@ -1,5 +1,5 @@
 use Rattle.std.proofs.Common.{length}
-use Rattle.bk_profile.proofs.FlatTurns.{Dividing}
+use Rattle.bk_profile.proofs.FlatSteps.{Dividing}
 use Rattle.bk_profile.proofs.dividing.lay_flat_in.Given as goal
 
 abbrev pub invariant-loop-rest : goal.invariant-loop-rest

@@ -1,5 +1,5 @@
 use Rattle.bk_profile.proofs.Division.{flat_refused_has_none}
-use Rattle.bk_profile.proofs.Turns.{refused_has_none}
+use Rattle.bk_profile.proofs.LayingSteps.{refused_has_none}
 use Rattle.bk_profile.proofs.laws.a_refusal_excludes_every_tiling.Goals as goal
 
 pub returns-clause-code : goal.returns-clause-code

@@ -4,8 +4,8 @@ use Rattle.std.specs.List.{AllByRecursion}
 use Rattle.bk_code.specs.Code.{Code}
 use Rattle.bk_code.specs.KeptCode.{IsKeptCode, IsSideGroup}
 use Rattle.bk_tiling.specs.KeptTiling.{IsSide}
-use Rattle.bk_profile.proofs.FirstGroup.{first_turn}
-use Rattle.bk_profile.proofs.Turns.{ends_ok, ends_only, last_turn, misfit_turn, next_turn, open_refused, read_room, refused_has_none}
+use Rattle.bk_profile.proofs.FirstGroup.{first_step}
+use Rattle.bk_profile.proofs.LayingSteps.{ends_ok, ends_only, is_laid_out, misfit_step, next_step, open_refused, read_room, refused_has_none}
 use Rattle.bk_profile.specs.Refused.{Misfits, first_sum}
 use Rattle.bk_profile.specs.declared.laying.Refusal.TheVariants.{Gap}
 use Rattle.bk_profile.proofs.laying.lay_code_in.Goals as goal
@@ -20,18 +20,18 @@ lay-requires-clause-room c = read_room c.args.code.now c.loop-g.g c.group-in-loo
 
 pub returns-in-Err-clause-refused : goal.returns-in-Err-clause-refused
 returns-in-Err-clause-refused c =
-    misfit_turn c.args.code.now c.loop-g.g c.group-in-loop-g.result.now c.loop-g.profile _ _ c.loop-g.invariant
+    misfit_step c.args.code.now c.loop-g.g c.group-in-loop-g.result.now c.loop-g.profile _ _ c.loop-g.invariant
     (omega (arith, c.loop-g-test.true, c.groups-count.ensures.value)) c.group-in-loop-g.ensures c.in-Err.ensures.err
 
 pub returns-in-Err-clause-only : goal.returns-in-Err-clause-only
 returns-in-Err-clause-only c t has =
     let misfit : Misfits (first_sum c.args.code.now) c.args.code.now (c.loop-g.g + 1) c.in-Err.fault.gap c.in-Err.fault.sum =
-    misfit_turn c.args.code.now c.loop-g.g c.group-in-loop-g.result.now c.loop-g.profile _ _ c.loop-g.invariant
+    misfit_step c.args.code.now c.loop-g.g c.group-in-loop-g.result.now c.loop-g.profile _ _ c.loop-g.invariant
     (omega (arith, c.loop-g-test.true, c.groups-count.ensures.value)) c.group-in-loop-g.ensures c.in-Err.ensures.err in
     absurd (refused_has_none c.args.code.now (Gap (c.loop-g.g + 1) c.in-Err.fault.gap c.in-Err.fault.sum) c.requires misfit t has)
 
 pub loop-g-preserved : goal.loop-g-preserved
-loop-g-preserved c = next_turn c.args.code.now c.loop-g.g c.group-in-loop-g.result.now c.loop-g.profile c.lay.new.self c.loop-g.invariant
+loop-g-preserved c = next_step c.args.code.now c.loop-g.g c.group-in-loop-g.result.now c.loop-g.profile c.lay.new.self c.loop-g.invariant
     (omega (arith, c.loop-g-test.true, c.groups-count.ensures.value)) c.group-in-loop-g.ensures c.in_default.ensures.ok
 
 pub returns-in-Ok-clause-ok : goal.returns-in-Ok-clause-ok
@@ -73,7 +73,7 @@ overflow_add-result c = omega (arith, c.loop-g-test.true, c.groups-count.type_in
 
 pub even_height-requires : goal.even_height-requires
 even_height-requires c =
-    last_turn c.args.code.now c.loop-g.g c.loop-g.profile c.groups-count.ensures.kept c.requires c.loop-g.invariant
+    is_laid_out c.args.code.now c.loop-g.g c.loop-g.profile c.groups-count.ensures.kept c.requires c.loop-g.invariant
     (omega (arith, c.loop-g-test.false, c.groups-count.ensures.value))
 
 pub leave_tiling-requires : goal.leave_tiling-requires
@@ -103,4 +103,4 @@ restart_with-requires-clause-sides c = (first_good c.args.code.now c.groups-coun
 pub loop-g-init : goal.loop-g-init
 loop-g-init c =
     let good : IsSideGroup c.group.result.now = first_good c.args.code.now c.groups-count.ensures.kept c.requires c.group.ensures in
-    first_turn c.args.code.now c.group.result.now c.restart_with.new.self c.requires good.0 good.1 c.group.ensures c.restart_with.ensures
+    first_step c.args.code.now c.group.result.now c.restart_with.new.self c.requires good.0 good.1 c.group.ensures c.restart_with.ensures

@@ -1,5 +1,5 @@
-use Rattle.bk_profile.proofs.Turns.{Turn}
+use Rattle.bk_profile.proofs.LayingSteps.{FirstLaid}
 use Rattle.bk_profile.proofs.laying.lay_code_in.Given as goal
 
 abbrev pub invariant-loop-g : goal.invariant-loop-g
-invariant-loop-g l = Turn l.code l.g l.profile
+invariant-loop-g l = FirstLaid l.code l.g l.profile

@@ -54,3 +54,13 @@ returns-clause-some c = c.requires.some
 
 pub returns-clause-within : goal.returns-clause-within
 returns-clause-within c = le_refl (length c.args.sides.now)
+
+pub returns-then-sum-gap-clause-sum : goal.returns-then-sum-gap-clause-sum
+returns-then-sum-gap-clause-sum c =
+    omega (arith, c.loop-i.invariant.total, sum_by_more (λ (n : ℕ). n) c.args.sides.now c.loop-i.i 0 c.loop-i-test.true)
+
+pub returns-clause-sum : goal.returns-clause-sum
+returns-clause-sum c =
+    let whole : take (length c.args.sides.now) c.args.sides.now ≡ c.args.sides.now = take_all (length c.args.sides.now) c.args.sides.now (omega arith) in
+    let all : take c.loop-i.i c.args.sides.now ≡ c.args.sides.now = take_all c.loop-i.i c.args.sides.now (omega (arith, c.loop-i-test.false)) in
+    c.loop-i.invariant.total ∙ ap (λ (l : List ℕ). sum l) (all ∙ sym whole)

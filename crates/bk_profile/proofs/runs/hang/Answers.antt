@@ -6,17 +6,17 @@ use Rattle.std.proofs.lemmas.List.{drop-set-lt, drop_at, length-take-le, take_al
 use Rattle.std.proofs.lemmas.List.Elements.{All-from_recursion}
 use Rattle.bk_tiling.specs.KeptTiling.{IsSide}
 use Rattle.bk_profile.specs.OutlineRuns.{run_under_side, runs_under_group}
-use Rattle.bk_profile.specs.declared.runs.Run.{Run}
+use Rattle.bk_profile.specs.declared.runs.OutlineRun.{OutlineRun}
 use Rattle.bk_profile.proofs.runs.hang.Goals as goal
 
 -- the run under the first square set in the place of the first run, the others taken out, and those under the other squares put in
-hung : (runs one mid new : List Run) (sides : List ℕ) (first end level : ℕ) → first < end → end ≤ length runs → 0 < length sides
+hung : (runs one mid new : List OutlineRun) (sides : List ℕ) (first end level : ℕ) → first < end → end ≤ length runs → 0 < length sides
     → one ≡ slice_set runs first (run_under_side level (slice_index_or sides 0 0)) → mid ≡ take (first + 1) one ++ drop end one
     → new ≡ (take (first + 1) mid ++ runs_under_group level (take (length sides - 1) (drop 1 sides))) ++ drop (first + 1) mid
     → new ≡ (take first runs ++ runs_under_group level sides) ++ drop end runs
 hung runs one mid new [] first end level order within some is_one is_mid is_new = absurd (omega arith)
 hung runs one mid new (s ∷ rest) first end level order within some is_one is_mid is_new =
-    let r : Run = run_under_side level s in
+    let r : OutlineRun = run_under_side level s in
     let front : take (first + 1) one ≡ take first runs ++ r ∷ [] = ap (take (first + 1)) is_one ∙ take_more_set runs first r (omega arith) in
     let back : drop end one ≡ drop end runs = ap (drop end) is_one ∙ drop-set-lt end runs first r order in
     let whole : mid ≡ (take first runs ++ r ∷ []) ++ drop end runs = is_mid ∙ (λ i. front i ++ back i) in
@@ -28,10 +28,10 @@ hung runs one mid new (s ∷ rest) first end level order within some is_one is_m
     ap (drop (first + 1)) whole ∙ drop_at (take first runs ++ r ∷ []) (drop end runs) (first + 1) size in
     let others : take (length (s ∷ rest) - 1) rest ≡ rest = take_all (length (s ∷ rest) - 1) rest (omega arith) in
     is_new ∙ (λ i. (left i ++ runs_under_group level (others i)) ++ right i)
-    ∙ ap (λ (z : List Run). z ++ drop end runs) (append_assoc (take first runs) (r ∷ []) (runs_under_group level rest))
+    ∙ ap (λ (z : List OutlineRun). z ++ drop end runs) (append_assoc (take first runs) (r ∷ []) (runs_under_group level rest))
 
 -- how many runs there are without those taken out
-left_over : (runs one mid : List Run) (r : Run) (first end : ℕ) → first < end → end ≤ length runs → one ≡ slice_set runs first r
+left_over : (runs one mid : List OutlineRun) (r : OutlineRun) (first end : ℕ) → first < end → end ≤ length runs → one ≡ slice_set runs first r
     → mid ≡ take (first + 1) one ++ drop end one → length mid + end ≡ length runs + first + 1
 left_over runs one mid r first end order within is_one is_mid =
     let same : length one ≡ length runs = ap length is_one ∙ length-set runs first r in
@@ -78,7 +78,7 @@ pub take_out-requires-clause-order : goal.take_out-requires-clause-order
 take_out-requires-clause-order c = omega (arith, c.requires.order)
 
 pub take_out-requires-clause-within : goal.take_out-requires-clause-within
-take_out-requires-clause-within c = omega (arith, c.requires.within, ap length c.set_run.ensures, length-set {A = Run})
+take_out-requires-clause-within c = omega (arith, c.requires.within, ap length c.set_run.ensures, length-set {A = OutlineRun})
 
 pub overflow_add-first-2 : goal.overflow_add-first-2
 overflow_add-first-2 c = omega (arith, c.requires.order, c.ranges.end)

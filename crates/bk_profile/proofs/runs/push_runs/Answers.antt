@@ -3,7 +3,7 @@ use Rattle.std.proofs.lemmas.List.Elements.{All-from_recursion}
 use Rattle.std.proofs.lemmas.List.{map-append, take_more}
 use Rattle.bk_tiling.specs.KeptTiling.{IsSide}
 use Rattle.bk_profile.specs.OutlineRuns.{run_under_side, runs_under_group}
-use Rattle.bk_profile.specs.declared.runs.Run.{Run}
+use Rattle.bk_profile.specs.declared.runs.OutlineRun.{OutlineRun}
 use Rattle.bk_profile.proofs.runs.push_runs.Goals as goal
 
 pub returns : goal.returns
@@ -20,9 +20,9 @@ pub loop-i-preserved : goal.loop-i-preserved
 loop-i-preserved c = record {
   count = omega (arith, c.push.ensures.len, c.loop-i.invariant.count);
   items = c.push.ensures.items
-      ∙ ap (λ (l : List Run). l ++ run_under_side c.args.level (get_or c.args.sides.now c.loop-i.i 0) ∷ []) c.loop-i.invariant.items
+      ∙ ap (λ (l : List OutlineRun). l ++ run_under_side c.args.level (get_or c.args.sides.now c.loop-i.i 0) ∷ []) c.loop-i.invariant.items
       ∙ append_assoc c.args.outline.now.items (runs_under_group c.args.level (take c.loop-i.i c.args.sides.now)) _
-      ∙ ap (λ (l : List Run). c.args.outline.now.items ++ l)
+      ∙ ap (λ (l : List OutlineRun). c.args.outline.now.items ++ l)
       (sym (ap (λ l. runs_under_group c.args.level l) (take_more c.args.sides.now c.loop-i.i 0 c.loop-i-test.true)
       ∙ map-append (run_under_side c.args.level) (take c.loop-i.i c.args.sides.now) (get_or c.args.sides.now c.loop-i.i 0 ∷ [])));
 }

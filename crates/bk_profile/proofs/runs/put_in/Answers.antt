@@ -3,19 +3,19 @@ use Rattle.std.proofs.Common.{◌+◌, ◌<◌, ◌∙◌, ◌∷◌, ◌≡◌,
 use Rattle.std.proofs.lemmas.List.{drop_at, length-take-le, map-append, take-append-drop, take_all, take_at, take_more}
 use Rattle.bk_profile.proofs.Hanging.{length_under}
 use Rattle.bk_profile.specs.OutlineRuns.{run_under_side, runs_under_group}
-use Rattle.bk_profile.specs.declared.runs.Run.{Run}
+use Rattle.bk_profile.specs.declared.runs.OutlineRun.{OutlineRun}
 use Rattle.std.proofs.lemmas.List.Elements.{All-from_recursion}
 use Rattle.bk_tiling.specs.KeptTiling.{IsSide}
 use Rattle.bk_profile.proofs.runs.put_in.Goals as goal
 
 -- one run more
-put_in_more : (old now new : List Run) (sides : List ℕ) (first i level : ℕ) → first ≤ length old → i < length sides
+put_in_more : (old now new : List OutlineRun) (sides : List ℕ) (first i level : ℕ) → first ≤ length old → i < length sides
     → now ≡ (take first old ++ runs_under_group level (take i sides)) ++ drop first old
     → new ≡ insert now (first + i) (run_under_side level (get_or sides i 0))
     → new ≡ (take first old ++ runs_under_group level (take (i + 1) sides)) ++ drop first old
 put_in_more old now new sides first i level place more is inserted =
-    let r : Run = run_under_side level (get_or sides i 0) in
-    let before : List Run = take first old ++ runs_under_group level (take i sides) in
+    let r : OutlineRun = run_under_side level (get_or sides i 0) in
+    let before : List OutlineRun = take first old ++ runs_under_group level (take i sides) in
     let size : length before ≡ first + i =
     omega (
       arith,

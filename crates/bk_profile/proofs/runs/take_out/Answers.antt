@@ -2,11 +2,11 @@ use Rattle.std.proofs.Common.{List, [], add-one, ap, append_assoc, arith, drop, 
 use Rattle.std.proofs.Common.{◌-◌, ◌<◌, ◌∙◌, ◌∷◌, ◌≡◌, ◌≤◌}
 use Rattle.std.proofs.lemmas.List.{drop_at, length-take-le, take-append-drop, take_at, take_more}
 use Rattle.bk_profile.proofs.RunStarts.{no_run}
-use Rattle.bk_profile.specs.declared.runs.Run.{Run}
+use Rattle.bk_profile.specs.declared.runs.OutlineRun.{OutlineRun}
 use Rattle.bk_profile.proofs.runs.take_out.Goals as goal
 
 -- the last of the runs to be taken out
-last_is_there : (old now : List Run) (last end : ℕ) → 0 < last → last ≤ end → end ≤ length old → now ≡ take last old ++ drop end old
+last_is_there : (old now : List OutlineRun) (last end : ℕ) → 0 < last → last ≤ end → end ≤ length old → now ≡ take last old ++ drop end old
     → last - 1 < length now
 last_is_there old now last end some before within is =
     omega (arith, some, ap length is, length-append (take last old) (drop end old), length-take-le last old (omega (arith, before, within)))
@@ -15,7 +15,7 @@ less_left : (last first : ℕ) → first < last → last - 1 - first < last - fi
 less_left last first before = omega (arith, before)
 
 -- without it
-last_taken_out : (old now new : List Run) (m end : ℕ) → m < end → end ≤ length old → now ≡ take (suc m) old ++ drop end old
+last_taken_out : (old now new : List OutlineRun) (m end : ℕ) → m < end → end ≤ length old → now ≡ take (suc m) old ++ drop end old
     → new ≡ remove now m → new ≡ take m old ++ drop end old
 last_taken_out old now new m end before within is removed =
     let front : take (suc m) old ≡ take m old ++ get_or old m no_run ∷ [] = ap (λ n. take n old) (sym (add-one m))

@@ -1,7 +1,7 @@
 use Rattle.std.proofs.Common.{arith, length, ◌+◌, ◌∙◌, ◌≡◌}
 use Rattle.bk_laws.proofs.NumberTests.{positive-from_zero_test}
 use Rattle.bk_lay.proofs.Valleys.{segment_path}
-use Rattle.bk_skel.proofs.PlacingTurn.{gap_some}
+use Rattle.bk_skel.proofs.PlacingGap.{gap_some}
 use Rattle.bk_skel.proofs.placing.gap_under.Goals as goal
 
 pub columns_over-requires-clause-fits : goal.columns_over-requires-clause-fits

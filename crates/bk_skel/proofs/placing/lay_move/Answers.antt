@@ -69,8 +69,8 @@ signs_fit-requires-clause-count c =
     c.saturating_sub-left.ensures (omega arith)) in
     window.count
 
-pub returns-clause-turn : goal.returns-clause-turn
-returns-clause-turn c e =
+pub returns-clause-fills : goal.returns-clause-fills
+returns-clause-fills c e =
     let m = lays_move c.requires in
     let found = c.gap_under-gap.ensures m.valley (m.fitting c.deref.result.now c.deref-2.result.now c.deref.ensures.0 c.deref-2.ensures.0) in
     let window = window_then m (after_steps (c.saturating_sub-left.result + length c.args.signs.now + 1 - c.saturating_sub-left.result) found
@@ -78,7 +78,7 @@ returns-clause-turn c e =
     c.saturating_sub-left.ensures (omega arith)) in (
       m.valley,
       (
-        m.turn (sym c.sum_of.ensures.sum ∙ c.if-sum_of-gap.false ∙ ap (λ (v : Segment). v.width) found)
+        m.fills (sym c.sum_of.ensures.sum ∙ c.if-sum_of-gap.false ∙ ap (λ (v : Segment). v.width) found)
             (c.signs_fit.ensures.0 e ∙ ap signs_between window.bottoms),
         c.push_group.ensures ∙ ap (λ (v : Segment). c.args.laying.now.laid.items ++ laid_group v.x v.level c.args.new.now) found,
       ),
@@ -104,8 +104,8 @@ sum_of-requires-clause-few c = omega (arith, (lays_move c.requires).room)
 pub sum_of-requires-clause-sides : goal.sum_of-requires-clause-sides
 sum_of-requires-clause-sides c = (c.requires.1).sides
 
-pub returns-then-sum_of-gap-clause-turn : goal.returns-then-sum_of-gap-clause-turn
-returns-then-sum_of-gap-clause-turn c e = absurd (false≢true e)
+pub returns-then-sum_of-gap-clause-fills : goal.returns-then-sum_of-gap-clause-fills
+returns-then-sum_of-gap-clause-fills c e = absurd (false≢true e)
 
 pub returns-then-sum_of-gap-clause-numbers : goal.returns-then-sum_of-gap-clause-numbers
 returns-then-sum_of-gap-clause-numbers c e = absurd (false≢true e)

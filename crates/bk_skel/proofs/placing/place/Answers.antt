@@ -59,7 +59,7 @@ loop-i-preserved c = record {
       c.from-in-loop-i-2.result c.signs_at-signs.result.now
       (take (c.len-from.result + c.from-in-loop-i.result - c.len-from.result) (drop c.len-from.result c.args.sides.now))
       c.loop-i.invariant.width c.len-from.ensures.value c.from-in-loop-i.ensures c.from-first.ensures c.from-in-loop-i-2.ensures
-      c.signs_at-signs.ensures refl c.lay_move.new.laying.laid.items c.lay_move.new.laying.numbers.items (c.lay_move.ensures.turn c.if-not-lay_move.false)
+      c.signs_at-signs.ensures refl c.lay_move.new.laying.laid.items c.lay_move.new.laying.numbers.items (c.lay_move.ensures.fills c.if-not-lay_move.false)
       (c.lay_move.ensures.numbers c.if-not-lay_move.false);
 }
 

@@ -13,8 +13,8 @@ group_at [] i groups within = absurd (omega arith)
 group_at (g ∷ code) zero groups within = groups.0
 group_at (g ∷ code) (suc i) groups within = group_at code i groups.1 (omega arith)
 
-pub write_group-requires-clause-room : goal.write_group-requires-clause-room
-write_group-requires-clause-room c =
+pub spell_group-requires-clause-room : goal.spell_group-requires-clause-room
+spell_group-requires-clause-room c =
     subst (λ (g : List ℕ). length c.loop-g.line.items + 17 * length g ≤ 9000) (sym c.group.ensures)
     (room_for_group c.args.code.now c.args.line.now.items c.loop-g.line.items c.loop-g.g c.groups-g-end.ensures.kept c.requires.room
     c.loop-g.invariant (omega arith))
@@ -28,13 +28,13 @@ loop-g-init c = sym (append-nil c.args.line.now.items)
 pub group-requires : goal.group-requires
 group-requires c = omega (arith, c.loop-g-test.true, c.groups-g-end.ensures.value)
 
-pub write_group-requires-clause-some : goal.write_group-requires-clause-some
-write_group-requires-clause-some c =
+pub spell_group-requires-clause-some : goal.spell_group-requires-clause-some
+spell_group-requires-clause-some c =
     subst (λ (g : List ℕ). 0 < length g) (sym c.group.ensures) (group_at c.args.code.now c.loop-g.g c.groups-g-end.ensures.kept.groups
     (omega (arith, c.loop-g-test.true, c.groups-g-end.ensures.value))).0
 
-pub write_group-requires-clause-sides : goal.write_group-requires-clause-sides
-write_group-requires-clause-sides c =
+pub spell_group-requires-clause-sides : goal.spell_group-requires-clause-sides
+spell_group-requires-clause-sides c =
     subst (λ (g : List ℕ). AllByRecursion IsSide g) (sym c.group.ensures) (group_at c.args.code.now c.loop-g.g c.groups-g-end.ensures.kept.groups
     (omega (arith, c.loop-g-test.true, c.groups-g-end.ensures.value))).1
 

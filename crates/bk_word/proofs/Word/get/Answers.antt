@@ -2,7 +2,7 @@
 use Rattle.std.proofs.Common.{List, ap, arith, get_or, length, lit<, refl, ℕ}
 use Rattle.std.proofs.lemmas.Bool.{ltb-true}
 use Rattle.bk_word.proofs.CountPlaces.{got_move, kept_at}
-use Rattle.bk_word.specs.StoredWord.{moves_in}
+use Rattle.bk_word.specs.StoredWord.{word_in}
 use Rattle.bk_word.specs.Word.{Word}
 use Rattle.bk_word.proofs.Word.get.Goals as goal
 
@@ -14,7 +14,7 @@ returns-clause-value c =
 
 pub count_place-place-requires : goal.count_place-place-requires
 count_place-place-requires c =
-    omega (arith, c.requires, ap (λ (l : List ℕ). length (moves_in l)) c.as_slice-bytes.ensures, ap (λ (w : Word). length w) c.self.view_is)
+    omega (arith, c.requires, ap (λ (l : List ℕ). length (word_in l)) c.as_slice-bytes.ensures, ap (λ (w : Word). length w) c.self.view_is)
 
 pub as_slice-bytes-requires : goal.as_slice-bytes-requires
 as_slice-bytes-requires c = lit< tt

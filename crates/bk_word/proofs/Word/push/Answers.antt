@@ -3,7 +3,7 @@ use Rattle.std.specs.Prelude.{length, map, ◌+◌, ◌++◌, ◌∷◌, ◌≡�
 use Rattle.std.proofs.Common.{ap, arith, lit<, refl, subst, sym, ◌∙◌}
 use Rattle.std.proofs.lemmas.List.{length-map}
 use Rattle.bk_laws.proofs.Outcomes.{ok-is_not_err, on_ok-use}
-use Rattle.bk_word.specs.StoredWord.{IsStoredWord, moves_in, sign_byte, stored_move}
+use Rattle.bk_word.specs.StoredWord.{IsStoredWord, sign_byte, stored_move, word_in}
 use Rattle.bk_word.specs.Word.{Move}
 use Rattle.bk_word.proofs.StoredBytes.{has_bytes, has_room, pushed}
 use Rattle.bk_word.proofs.Word.push.Goals as goal
@@ -27,7 +27,7 @@ invariant_of-self-2 c = record {
 }
 
 pub returns-clause-ok : goal.returns-clause-ok
-returns-clause-ok c = ap moves_in (appended c)
+returns-clause-ok c = ap word_in (appended c)
     ∙ (pushed c.self.inside.bytes.items c.args.self.now c.args.m.now c.self.invariant.stored c.self.view_is c.requires.stands c.requires.few).0
 
 move_length : (c : goal.Then-is_err) → 1 + length c.as_slice-signs.result.now ≡ length (stored_move c.args.m.now)
@@ -73,7 +73,7 @@ invariant_of-self c = record {
 }
 
 pub returns-then-is_err-clause-unchanged : goal.returns-then-is_err-clause-unchanged
-returns-then-is_err-clause-unchanged c = ap moves_in c.reserve.ensures.items ∙ c.self.view_is
+returns-then-is_err-clause-unchanged c = ap word_in c.reserve.ensures.items ∙ c.self.view_is
 
 pub returns-clause-inline : goal.returns-clause-inline
 returns-clause-inline c = λ few. refl

@@ -2,7 +2,7 @@
 use Rattle.std.proofs.lemmas.Grind.{common_steps}
 use Rattle.std.proofs.Common.{List, ap, arith, ℕ}
 use Rattle.std.proofs.lemmas.List.{drop_all}
-use Rattle.bk_word.specs.StoredWord.{moves_in}
+use Rattle.bk_word.specs.StoredWord.{word_in}
 use Rattle.bk_word.specs.Word.{order_of}
 use Rattle.bk_word.proofs.storage.sum_of_counts.Goals as goal
 
@@ -20,5 +20,5 @@ returns c =
     omega (
       arith,
       c.loop-byte.invariant,
-      ap (λ (z : List ℕ). order_of (moves_in z)) (drop_all c.loop-byte.byte-index c.args.bytes.now c.loop-byte-test.false),
+      ap (λ (z : List ℕ). order_of (word_in z)) (drop_all c.loop-byte.byte-index c.args.bytes.now c.loop-byte-test.false),
     )

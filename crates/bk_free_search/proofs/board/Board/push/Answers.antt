@@ -1,11 +1,11 @@
-use Rattle.std.proofs.Common.{List, [], ap, arith, length, lit<, refl, subst, sym, ℕ, ◌++◌, ◌+◌, ◌-◌, ◌∷◌, ◌∙◌}
+use Rattle.std.proofs.Common.{List, [], ap, arith, length, lit<, refl, subst, sym, ℕ, ◌++◌, ◌+◌, ◌-◌, ◌∷◌, ◌∙◌, ◌≡◌}
 use Rattle.bk_word.specs.Outline.{IsLegalMove, start, valley_of}
 use Rattle.bk_word.specs.Play.{numbers_from, outline_of}
 use Rattle.bk_word.specs.Word.{Move, Word, order_of}
 use Rattle.bk_word.proofs.PlayLaws.{moves_many}
 use Rattle.bk_free_search.specs.Lefts.{first_left}
 use Rattle.bk_free_search.specs.Rights.{last_right}
-use Rattle.bk_free_search.proofs.Boards.BoardMoves.{beside_same, board_more, lists_of}
+use Rattle.bk_free_search.proofs.Boards.BoardMoves.{WithNew, beside_same, board_more, lists_of}
 use Rattle.bk_free_search.proofs.Boards.LeftLines.{left_count}
 use Rattle.bk_free_search.proofs.Boards.LowLines.{low_lefts_then, low_rights_then}
 use Rattle.bk_free_search.proofs.Boards.OpenSquares.{are_squares-more, valley_squares-are_squares}
@@ -20,6 +20,27 @@ pub invariant_of-self : goal.invariant_of-self
 invariant_of-self c =
     let w = c.self.inside.skel in
     let valley = c.valley_squares-squares.ensures in
+    let read : WithNew = record {
+      lefts = c.as_slice-3.result.now;
+      rights = c.as_slice-4.result.now;
+      squares = c.valley_squares-squares.result.now;
+      hung = c.order-behind.result;
+      count = c.m.inside.count;
+    } in
+    let kept : WithNew = record {
+      lefts = c.push_lefts.new.lefts.items;
+      rights = c.push_rights.new.rights.items;
+      squares = valley_of (outline_of w);
+      hung = c.order-behind.result;
+      count = c.m.inside.count;
+    } in
+    let same : read ≡ kept = λ i. record {
+      lefts = c.as_slice-3.ensures.items i;
+      rights = c.as_slice-4.ensures.items i;
+      squares = valley i;
+      hung = c.order-behind.result;
+      count = c.m.inside.count;
+    } in
     board_more w c.play.new.self c.args.m.now (lists_of c.self.inside)
     (record {
       lefts = c.push_lefts.new.lefts.items;
@@ -44,14 +65,8 @@ invariant_of-self c =
       lefts_are = c.push_lefts.ensures;
       rights_are = c.push_rights.ensures;
       lines = c.node_lines-lines.result;
-      only = λ line has. beside_same c.as_slice-3.result.now c.push_lefts.new.lefts.items c.as_slice-4.result.now c.push_rights.new.rights.items
-          c.valley_squares-squares.result.now (valley_of (outline_of w))
-          c.order-behind.result c.order-behind.result c.m.inside.count c.m.inside.count line c.as_slice-3.ensures.items c.as_slice-4.ensures.items
-          valley refl refl (c.node_lines-lines.ensures.only line has);
-      all = λ line low b. c.node_lines-lines.ensures.all line low (beside_same c.push_lefts.new.lefts.items c.as_slice-3.result.now
-          c.push_rights.new.rights.items c.as_slice-4.result.now (valley_of (outline_of w)) c.valley_squares-squares.result.now
-          c.order-behind.result c.order-behind.result c.m.inside.count c.m.inside.count line (sym c.as_slice-3.ensures.items) (sym c.as_slice-4.ensures.items)
-          (sym valley) refl refl b);
+      only = λ line has. beside_same read kept line same (c.node_lines-lines.ensures.only line has);
+      all = λ line low b. c.node_lines-lines.ensures.all line low (beside_same kept read line (sym same) b);
       nodes_are = c.push.ensures;
       first_is = c.first_after-self-inside.ensures;
       left_then_is = c.at_wall_after-self-inside.ensures;
@@ -122,19 +137,31 @@ at_wall_after-self-inside-requires-2 c = omega (arith, c.self.invariant.right_is
 
 pub node_lines-lines-requires-clause-lefts : goal.node_lines-lines-requires-clause-lefts
 node_lines-lines-requires-clause-lefts c = low_lefts_then c.self.inside.skel c.args.m.now c.self.inside.lefts.items c.as_slice-3.result.now
-    c.left_of_first-first.result c.m.inside.count c.order-behind.result c.self.invariant.left_word
-    (subst (λ (v : Word). IsLegalMove (outline_of v) c.args.m.now) (sym c.self.view_is) c.requires.legal)
+    c.self.invariant.left_word (subst (λ (v : Word). IsLegalMove (outline_of v) c.args.m.now) (sym c.self.view_is) c.requires.legal)
     (omega (arith, c.requires.few, ap order_of c.self.view_is))
-    (c.left_of_first-first.ensures ∙ (λ i. first_left (c.as_slice.ensures.items i) (c.valley_squares-squares.ensures i)))
-    (ap (λ (m : Move). m.count) c.m.view_is) c.order-behind.ensures.value (c.as_slice-3.ensures.items ∙ c.push_lefts.ensures)
+    (record {
+      hung = c.order-behind.result;
+      hung_is = c.order-behind.ensures.value;
+      count = c.m.inside.count;
+      count_is = ap (λ (m : Move). m.count) c.m.view_is;
+      first = c.left_of_first-first.result;
+      first_is = c.left_of_first-first.ensures ∙ (λ i. first_left (c.as_slice.ensures.items i) (c.valley_squares-squares.ensures i));
+      are = c.as_slice-3.ensures.items ∙ c.push_lefts.ensures;
+    })
 
 pub node_lines-lines-requires-clause-rights : goal.node_lines-lines-requires-clause-rights
 node_lines-lines-requires-clause-rights c = low_rights_then c.self.inside.skel c.args.m.now c.self.inside.rights.items c.as_slice-4.result.now
-    c.right_of_last-last.result c.m.inside.count c.order-behind.result c.self.invariant.rights_are
-    (subst (λ (v : Word). IsLegalMove (outline_of v) c.args.m.now) (sym c.self.view_is) c.requires.legal)
+    c.self.invariant.rights_are (subst (λ (v : Word). IsLegalMove (outline_of v) c.args.m.now) (sym c.self.view_is) c.requires.legal)
     (omega (arith, c.requires.few, ap order_of c.self.view_is))
-    (c.right_of_last-last.ensures ∙ (λ i. last_right (c.as_slice-2.ensures.items i) (c.valley_squares-squares.ensures i)))
-    (ap (λ (m : Move). m.count) c.m.view_is) c.order-behind.ensures.value (c.as_slice-4.ensures.items ∙ c.push_rights.ensures)
+    (record {
+      hung = c.order-behind.result;
+      hung_is = c.order-behind.ensures.value;
+      count = c.m.inside.count;
+      count_is = ap (λ (m : Move). m.count) c.m.view_is;
+      last = c.right_of_last-last.result;
+      last_is = c.right_of_last-last.ensures ∙ (λ i. last_right (c.as_slice-2.ensures.items i) (c.valley_squares-squares.ensures i));
+      are = c.as_slice-4.ensures.items ∙ c.push_rights.ensures;
+    })
 
 pub node_lines-lines-requires-clause-at_left : goal.node_lines-lines-requires-clause-at_left
 node_lines-lines-requires-clause-at_left c =
@@ -165,7 +192,13 @@ node_lines-lines-requires-clause-at_right c =
 
 pub node_lines-lines-requires-clause-between : goal.node_lines-lines-requires-clause-between
 node_lines-lines-requires-clause-between c = stand_between c.self.inside.lefts.items c.self.inside.rights.items c.as_slice-3.result.now
-    c.as_slice-4.result.now c.order-behind.result c.m.inside.count c.left_of_first-first.result c.right_of_last-last.result
+    c.as_slice-4.result.now
+    (record {
+      hung = c.order-behind.result;
+      count = c.m.inside.count;
+      first = c.left_of_first-first.result;
+      last = c.right_of_last-last.result;
+    })
     (omega (arith, c.requires.legal.some, ap (λ (m : Move). m.count) c.m.view_is))
     (left_count c.self.inside.skel c.self.inside.lefts.items c.self.invariant.left_word ∙ sym c.order-behind.ensures.value)
     (ap (λ (l : List ℕ). length l) c.self.invariant.rights_are ∙ as_many_rights c.self.inside.skel ∙ sym c.order-behind.ensures.value)

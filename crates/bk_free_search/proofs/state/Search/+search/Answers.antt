@@ -21,8 +21,8 @@ use Rattle.bk_free_search.proofs.NextWords.NextMoves.{HasNextMove, by_count, by_
 use Rattle.bk_free_search.proofs.NextWords.NextMoves.{next_fertile, next_fits, next_move, sought_in}
 use Rattle.bk_free_search.proofs.NextWords.SignPhases.{above_at_left_is_barred, evens_now, few_now, first_missing}
 use Rattle.bk_free_search.proofs.NextWords.SignPhases.{last_missing, none_missing, not_whole, own_even_is_barred, whole_is_next}
-use Rattle.bk_free_search.proofs.NextWords.TurnsTaken.{begun_with, few_steps, first_fits, handed_on, met_twice, none_met, own_few, own_wanted}
-use Rattle.bk_free_search.proofs.NextWords.TurnsTaken.{room_for_sign, unchanged_twice, without_last}
+use Rattle.bk_free_search.proofs.NextWords.HandedOn.{begun_with, few_steps, first_fits, handed_on, met_twice, none_met, own_few, own_wanted}
+use Rattle.bk_free_search.proofs.NextWords.HandedOn.{room_for_sign, unchanged_twice, without_last}
 use Rattle.bk_free_search.specs.AskedSigns.{BarsNext, BarsSigns, IsAsked, IsMoveBegun, IsNextCount, IsOwnSign, IsWithOwn}
 use Rattle.bk_free_search.specs.BoardOutlines.{IsBoardOutline}
 use Rattle.bk_free_search.specs.Sought.{GoesOn}
@@ -304,8 +304,9 @@ with_left-returns g t c = by_each_sign c.requires.begun.some (first_missing c.re
     apart : has_left_wall (outline_of c.args.self.now.board) ≡ false
     apart = sym c.requires.begun.around_is.left_is ∙ c.if-around.false
 
-    each : (s : Sign) → MeetsAllBy g.S.Leaves.has_met g.S.Leaves.fixed (c.args.begun.now.m.signs ++ s ∷ []) c.args.self.now c.args.begun.now
-        c.args.leaves.now c.with_sign-2.new.self c.with_sign-2.new.begun c.with_sign-2.new.leaves
+    each : (s : Sign) → MeetsAllBy g.S.Leaves.has_met g.S.Leaves.fixed (c.args.begun.now.m.signs ++ s ∷ [])
+        (record { search = c.args.self.now; begun = c.args.begun.now; leaves = c.args.leaves.now })
+        (record { search = c.with_sign-2.new.self; begun = c.with_sign-2.new.begun; leaves = c.with_sign-2.new.leaves })
     each Above = then_kept (none_by c.args.leaves.now (above_at_left_is_barred c.args.self.now.order c.args.self.now.board c.args.begun.now.m.count
         c.args.begun.now.m.signs apart c.requires.none)) (then_kept c.with_sign.ensures c.with_sign-2.ensures)
     each Even = then_kept c.with_sign.ensures c.with_sign-2.ensures
@@ -360,8 +361,9 @@ with_own-returns g t c = by_each_sign c.requires.begun.some (not_whole c.args.se
     low : length c.args.begun.now.m.signs < c.args.begun.now.next.own
     low = still_own c.requires.own c.if-len-begun.false c.len.ensures.value c.begun.view_is
 
-    each : (s : Sign) → MeetsAllBy g.S.Leaves.has_met g.S.Leaves.fixed (c.args.begun.now.m.signs ++ s ∷ []) c.args.self.now c.args.begun.now
-        c.args.leaves.now c.with_sign.new.self c.with_sign.new.begun c.with_sign.new.leaves
+    each : (s : Sign) → MeetsAllBy g.S.Leaves.has_met g.S.Leaves.fixed (c.args.begun.now.m.signs ++ s ∷ [])
+        (record { search = c.args.self.now; begun = c.args.begun.now; leaves = c.args.leaves.now })
+        (record { search = c.with_sign.new.self; begun = c.with_sign.new.begun; leaves = c.with_sign.new.leaves })
     each Above = then_kept c.with_above.ensures c.with_sign.ensures
     each Even = then_kept (none_by c.args.leaves.now (own_even_is_barred c.args.self.now.order c.args.self.now.board c.args.begun.now.m.count
         c.args.begun.now.m.signs c.requires.from (omega (arith, low, c.requires.begun.next_is.own_is)))) (then_kept c.with_above.ensures c.with_sign.ensures)
@@ -519,8 +521,9 @@ with_right-returns g t c = by_each_sign c.requires.with_own.begun.some (not_whol
     c.args.begun.now.m.count c.args.begun.now.m.signs c.args.begun.now.next c.requires.with_own.begun.next_is
     (omega (arith, last_missing c.requires.with_own.begun c.requires.own c.if-around.false))) each
   where
-    each : (s : Sign) → MeetsAllBy g.S.Leaves.has_met g.S.Leaves.fixed (c.args.begun.now.m.signs ++ s ∷ []) c.args.self.now c.args.begun.now
-        c.args.leaves.now c.with_last-3.new.self c.with_last-3.new.begun c.with_last-3.new.leaves
+    each : (s : Sign) → MeetsAllBy g.S.Leaves.has_met g.S.Leaves.fixed (c.args.begun.now.m.signs ++ s ∷ [])
+        (record { search = c.args.self.now; begun = c.args.begun.now; leaves = c.args.leaves.now })
+        (record { search = c.with_last-3.new.self; begun = c.with_last-3.new.begun; leaves = c.with_last-3.new.leaves })
     each Even = then_kept (then_kept c.with_last.ensures c.with_last-2.ensures) c.with_last-3.ensures
     each Above = then_kept (then_by Above c.with_last.ensures c.with_last-2.ensures) c.with_last-3.ensures
     each Under = then_by Under (then_kept c.with_last.ensures c.with_last-2.ensures) c.with_last-3.ensures

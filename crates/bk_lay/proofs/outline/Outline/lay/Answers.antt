@@ -4,11 +4,11 @@ use Rattle.bk_lay.proofs.MeetingRuns.{rises_after}
 use Rattle.bk_lay.proofs.NextLaidMove.{length_under}
 use Rattle.bk_lay.specs.LevelRuns.{Meet, runs_under}
 use Rattle.bk_tiling.specs.declared.Square.{Square}
-use Rattle.bk_lay.specs.declared.outline.Run.{Run}
+use Rattle.bk_lay.specs.declared.outline.LevelRun.{LevelRun}
 use Rattle.bk_lay.proofs.outline.Outline.lay.Goals as goal
 
 -- as many runs more as squares
-runs_pushed : (after right : List Run) (squares : List Square) → after ≡ right ++ runs_under squares → length after ≡ length right + length squares
+runs_pushed : (after right : List LevelRun) (squares : List Square) → after ≡ right ++ runs_under squares → length after ≡ length right + length squares
 runs_pushed after right squares is = omega (arith, ap length is, length-append right (runs_under squares), length_under squares)
 
 pub take_valley-self-requires-clause-some : goal.take_valley-self-requires-clause-some
@@ -19,7 +19,7 @@ take_valley-self-requires-clause-room c = omega (arith, runs_pushed _ c.args.sel
 
 pub returns-clause-outline : goal.returns-clause-outline
 returns-clause-outline c width laid m =
-    let beside = c.take_valley-self.ensures.beside width laid (subst (λ (l : List Run). Meet width laid c.args.self.now.left.items l)
+    let beside = c.take_valley-self.ensures.beside width laid (subst (λ (l : List LevelRun). Meet width laid c.args.self.now.left.items l)
     (sym c.push_runs.ensures) m) in
     record {
       runs = beside;

@@ -20,8 +20,8 @@ returns-in-Last-clause-leads c =
 pub sides-init : goal.sides-init
 sides-init c = record { within = omega arith; leads = λ _. refl }
 
-pub slice_bounds-front_of-count : goal.slice_bounds-front_of-count
-slice_bounds-front_of-count c = c.sides.invariant.within
+pub slice_bounds-side_in_front-count : goal.slice_bounds-side_in_front-count
+slice_bounds-side_in_front-count c = c.sides.invariant.within
 
 pub add_side-requires : goal.add_side-requires
 add_side-requires c = c.in-Inner.ensures.side_fits
@@ -48,11 +48,11 @@ returns-clause-within c = c.sides.invariant.within
 pub returns-clause-leads : goal.returns-clause-leads
 returns-clause-leads c = c.sides.invariant.leads
 
-pub slice_bounds-front_of-start : goal.slice_bounds-front_of-start
-slice_bounds-front_of-start c = c.sides.invariant.within
+pub slice_bounds-side_in_front-start : goal.slice_bounds-side_in_front-start
+slice_bounds-side_in_front-start c = c.sides.invariant.within
 
-pub slice_bounds-front_of-end : goal.slice_bounds-front_of-end
-slice_bounds-front_of-end c = le_refl (length c.args.bytes.now)
+pub slice_bounds-side_in_front-end : goal.slice_bounds-side_in_front-end
+slice_bounds-side_in_front-end c = le_refl (length c.args.bytes.now)
 
 pub overflow_add-taken : goal.overflow_add-taken
 overflow_add-taken c =

@@ -5,39 +5,39 @@ use Rattle.bk_text.specs.LineReading.{behind_number}
 use Rattle.bk_text.specs.declared.reader.Bracket.{Bracket}
 use Rattle.bk_text.specs.declared.reader.Field.TheVariants.{Column, First, Height, Second, Side, Third}
 use Rattle.bk_text.specs.declared.reader.Header.{Header}
-use Rattle.bk_text.specs.declared.reader.Kind.{Kind}
-use Rattle.bk_text.specs.declared.reader.Kind.TheVariants.{Blank, Close, Comma, Cross, Open, Semicolon}
+use Rattle.bk_text.specs.declared.reader.ByteKind.{ByteKind}
+use Rattle.bk_text.specs.declared.reader.ByteKind.TheVariants.{Blank, Close, Comma, Cross, Open, Semicolon}
 use Rattle.bk_text.specs.declared.reader.Table.{Table}
 use Rattle.bk_text.proofs.reader.Field.behind.Goals as goal
 
 -- bytes with which a line does not go on behind a number of each field
-none_first : (n : ℕ) (k : Kind) → (k ≡ Blank → ⊥) → (k ≡ Cross → ⊥) → ((b : Bracket) → k ≡ Open b → ⊥) → None ≡ behind_number First n k
+none_first : (n : ℕ) (k : ByteKind) → (k ≡ Blank → ⊥) → (k ≡ Cross → ⊥) → ((b : Bracket) → k ≡ Open b → ⊥) → None ≡ behind_number First n k
 none_first n Blank blank cross opens = absurd (blank refl)
 none_first n Cross blank cross opens = absurd (cross refl)
 none_first n (Open b) blank cross opens = absurd (opens b refl)
 none_first n k blank cross opens = refl
 
-none_second : (order n : ℕ) (k : Kind) → (k ≡ Blank → ⊥) → (k ≡ Cross → ⊥) → None ≡ behind_number (Second order) n k
+none_second : (order n : ℕ) (k : ByteKind) → (k ≡ Blank → ⊥) → (k ≡ Cross → ⊥) → None ≡ behind_number (Second order) n k
 none_second order n Blank blank cross = absurd (blank refl)
 none_second order n Cross blank cross = absurd (cross refl)
 none_second order n k blank cross = refl
 
-none_height : (order : Option ℕ) (width n : ℕ) (k : Kind) → (k ≡ Blank → ⊥) → ((b : Bracket) → k ≡ Open b → ⊥)
+none_height : (order : Option ℕ) (width n : ℕ) (k : ByteKind) → (k ≡ Blank → ⊥) → ((b : Bracket) → k ≡ Open b → ⊥)
     → None ≡ behind_number (Height order width) n k
 none_height order width n Blank blank opens = absurd (blank refl)
 none_height order width n (Open b) blank opens = absurd (opens b refl)
 none_height order width n k blank opens = refl
 
-none_third : (order width n : ℕ) (k : Kind) → (k ≡ Blank → ⊥) → None ≡ behind_number (Third order width) n k
+none_third : (order width n : ℕ) (k : ByteKind) → (k ≡ Blank → ⊥) → None ≡ behind_number (Third order width) n k
 none_third order width n Blank blank = absurd (blank refl)
 none_third order width n k blank = refl
 
-none_column : (table : Table) (n : ℕ) (k : Kind) → (k ≡ Blank → ⊥) → (k ≡ Semicolon → ⊥) → None ≡ behind_number (Column table) n k
+none_column : (table : Table) (n : ℕ) (k : ByteKind) → (k ≡ Blank → ⊥) → (k ≡ Semicolon → ⊥) → None ≡ behind_number (Column table) n k
 none_column table n Blank blank semicolon = absurd (blank refl)
 none_column table n Semicolon blank semicolon = absurd (semicolon refl)
 none_column table n k blank semicolon = refl
 
-none_side : (header : Header) (bracket : Bracket) (n : ℕ) (k : Kind) → (k ≡ Blank → ⊥) → (k ≡ Comma → ⊥) → ((b : Bracket) → k ≡ Close b → ⊥)
+none_side : (header : Header) (bracket : Bracket) (n : ℕ) (k : ByteKind) → (k ≡ Blank → ⊥) → (k ≡ Comma → ⊥) → ((b : Bracket) → k ≡ Close b → ⊥)
     → None ≡ behind_number (Side header bracket) n k
 none_side header bracket n Blank blank comma close = absurd (blank refl)
 none_side header bracket n Comma blank comma close = absurd (comma refl)

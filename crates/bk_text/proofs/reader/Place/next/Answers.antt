@@ -4,29 +4,29 @@ use Rattle.bk_text.specs.LineReading.{next_line_place}
 use Rattle.bk_text.specs.declared.reader.Bracket.{Bracket}
 use Rattle.bk_text.specs.declared.reader.Field.TheVariants.{Column, Height, Third}
 use Rattle.bk_text.specs.declared.reader.Header.{Header}
-use Rattle.bk_text.specs.declared.reader.Kind.{Kind}
-use Rattle.bk_text.specs.declared.reader.Kind.TheVariants.{Blank, Digit, Open}
+use Rattle.bk_text.specs.declared.reader.ByteKind.{ByteKind}
+use Rattle.bk_text.specs.declared.reader.ByteKind.TheVariants.{Blank, Digit, Open}
 use Rattle.bk_text.specs.declared.reader.Place.{Place}
 use Rattle.bk_text.specs.declared.reader.Place.TheVariants.{BeforeGroup, BeforeHeight, BehindSecond, BehindThird, Number}
 use Rattle.bk_text.specs.declared.reader.Table.{Table}
 use Rattle.bk_text.proofs.reader.Place.next.Goals as goal
 
 -- bytes with which a line does not go on at a place
-none_second : (order width : ℕ) (k : Kind) → (k ≡ Blank → ⊥) → ((d : ℕ) → k ≡ Digit d → ⊥) → None ≡ next_line_place (BehindSecond order width) k
+none_second : (order width : ℕ) (k : ByteKind) → (k ≡ Blank → ⊥) → ((d : ℕ) → k ≡ Digit d → ⊥) → None ≡ next_line_place (BehindSecond order width) k
 none_second order width Blank blank digit = absurd (blank refl)
 none_second order width (Digit d) blank digit = absurd (digit d refl)
 none_second order width k blank digit = refl
 
-none_height : (order : Option ℕ) (width : ℕ) (k : Kind) → ((d : ℕ) → k ≡ Digit d → ⊥) → None ≡ next_line_place (BeforeHeight order width) k
+none_height : (order : Option ℕ) (width : ℕ) (k : ByteKind) → ((d : ℕ) → k ≡ Digit d → ⊥) → None ≡ next_line_place (BeforeHeight order width) k
 none_height order width (Digit d) digit = absurd (digit d refl)
 none_height order width k digit = refl
 
-none_third : (table : Table) (k : Kind) → (k ≡ Blank → ⊥) → ((d : ℕ) → k ≡ Digit d → ⊥) → None ≡ next_line_place (BehindThird table) k
+none_third : (table : Table) (k : ByteKind) → (k ≡ Blank → ⊥) → ((d : ℕ) → k ≡ Digit d → ⊥) → None ≡ next_line_place (BehindThird table) k
 none_third table Blank blank digit = absurd (blank refl)
 none_third table (Digit d) blank digit = absurd (digit d refl)
 none_third table k blank digit = refl
 
-none_group : (header : Header) (k : Kind) → (k ≡ Blank → ⊥) → ((b : Bracket) → k ≡ Open b → ⊥) → None ≡ next_line_place (BeforeGroup header) k
+none_group : (header : Header) (k : ByteKind) → (k ≡ Blank → ⊥) → ((b : Bracket) → k ≡ Open b → ⊥) → None ≡ next_line_place (BeforeGroup header) k
 none_group header Blank blank opens = absurd (blank refl)
 none_group header (Open b) blank opens = absurd (opens b refl)
 none_group header k blank opens = refl

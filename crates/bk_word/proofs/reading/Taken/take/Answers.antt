@@ -4,7 +4,7 @@ use Rattle.std.proofs.Common.{Bool, ap, false, inl, inr, subst, sym, true, â—Œâˆ
 use Rattle.bk_word.specs.Taken.{Before, Count, KeepsWord, Reading, Signs, bare, moves_counted, step, taken, with_sign}
 use Rattle.bk_word.specs.Word.{Move, Word}
 use Rattle.bk_word.specs.declared.Sign.{Sign}
-use Rattle.bk_word.specs.declared.reader.Kind.TheVariants.{Digit, Dot, Letter, Other}
+use Rattle.bk_word.specs.declared.reader.ByteKind.TheVariants.{Digit, Dot, Letter, Other}
 use Rattle.bk_word.specs.declared.reading.Taken.{Taken}
 use Rattle.bk_word.proofs.reading.Taken.take.Goals as goal
 

@@ -7,7 +7,7 @@ use Rattle.std.proofs.lemmas.List.Sorted.{IsNonDecreasingBy-from_sort}
 use Rattle.bk_tiling.specs.Tiling.{Tiling, order, sides_of}
 use Rattle.bk_tiling.specs.declared.Square.{Square}
 use Rattle.bk_pair.specs.Pair.{pair_sides}
-use Rattle.bk_pair.proofs.sorted_sides.Goals as goal
+use Rattle.bk_pair.proofs.sorted_pair_sides.Goals as goal
 
 -- how many sides there are behind those of a tiling
 long : (t : Tiling) (first all : List ℕ) → all ≡ first ++ sides_of t → length all ≡ length first + order t

@@ -1,4 +1,4 @@
--- Laying a code group by group: what each turn needs and keeps, and how it ends.
+-- Laying a code group by group: what each step needs and keeps, and how it ends.
 use Rattle.std.specs.Prelude.{IfErr, IfOk, IsOkAnd, Result}
 use Rattle.std.specs.declared.result.Result.TheVariants.{Err, Ok}
 use Rattle.std.proofs.Common.{List, [], ap, arith, drop, get_or, length, refl, subst, sum, sym, take, ℕ, ◌++◌, ◌+◌, ◌<◌, ◌∙◌, ◌∷◌, ◌≡◌, ◌≤◌}
@@ -45,22 +45,22 @@ first_read [] group n some is e = absurd (omega arith)
 first_read (first ∷ code) group n some is e = e ∙ ap (λ (l : List ℕ). sum l) is
 
 -- the first k groups are laid
-pub record Turn (code : Code) (k : ℕ) (p : Laid) : Type 0 where
+pub record FirstLaid (code : Code) (k : ℕ) (p : Laid) : Type 0 where
   pub width : p.width ≡ first_sum code
   pub lays : LaysTo (first_sum code) [] (take k code) p.squares
   pub count : length p.squares ≡ length (flat (take k code))
 
 -- with a group laid, one more of the code is laid
-pub next_turn : (code : Code) (k : ℕ) (group : List ℕ) (old new : Laid) → Turn code k old → k < length code → group ≡ get_or code k []
-    → LaysGroup old group new → Turn code (k + 1) new
-next_turn code k group old new turn l is lay =
+pub next_step : (code : Code) (k : ℕ) (group : List ℕ) (old new : Laid) → FirstLaid code k old → k < length code → group ≡ get_or code k []
+    → LaysGroup old group new → FirstLaid code (k + 1) new
+next_step code k group old new so_far l is lay =
     let more : take (k + 1) code ≡ take k code ++ group ∷ [] = take_more code k [] l ∙ ap (λ (g : List ℕ). take k code ++ g ∷ []) (sym is) in
-    let gap : IsGap (first_sum code) old.squares lay.gap = subst (λ n. IsGap n old.squares lay.gap) turn.width lay.is_gap in
+    let gap : IsGap (first_sum code) old.squares lay.gap = subst (λ n. IsGap n old.squares lay.gap) so_far.width lay.is_gap in
     let lays : LaysTo (first_sum code) [] (take k code ++ group ∷ []) (laid_with_group old.squares lay.gap group) =
-    lays_push (first_sum code) [] (take k code) old.squares group lay.gap turn.lays gap lay.fits in
-    subst (λ (q : Laid). Turn code (k + 1) q) (sym lay.laid)
+    lays_push (first_sum code) [] (take k code) old.squares group lay.gap so_far.lays gap lay.fits in
+    subst (λ (q : Laid). FirstLaid code (k + 1) q) (sym lay.laid)
     (record {
-      width = turn.width;
+      width = so_far.width;
       lays = subst (λ (c : Code). LaysTo (first_sum code) [] c (laid_with_group old.squares lay.gap group)) (sym more) lays;
       count = omega (
         arith,
@@ -90,12 +90,12 @@ misfits_at width code before after group number p gap_width total split place sa
 }
 
 -- a group that misfits the gap is where the code misfits
-pub misfit_turn : (code : Code) (k : ℕ) (group : List ℕ) (old : Laid) (gap_width total : ℕ) → Turn code k old → k < length code
+pub misfit_step : (code : Code) (k : ℕ) (group : List ℕ) (old : Laid) (gap_width total : ℕ) → FirstLaid code k old → k < length code
     → group ≡ get_or code k [] → MisfitsGap old group gap_width total → Misfits (first_sum code) code (k + 1) gap_width total
-misfit_turn code k group old gap_width total turn l is =
+misfit_step code k group old gap_width total so_far l is =
     misfits_at (first_sum code) code (take k code) (drop (k + 1) code) group (k + 1) old gap_width total
     (split_at code k l ∙ ap (λ (g : List ℕ). take k code ++ g ∷ drop (k + 1) code) (sym is)) (omega (arith, length-take-le k code (omega (arith, l))))
-    turn.width turn.lays
+    so_far.width so_far.lays
 
 -- no tiling has a code that is refused
 pub refused_has_none : (code : Code) (refusal : Refusal) → 0 < length code → IsRefused (first_sum code) code refusal → (t : Tiling) → HasCode code t → ⊥
@@ -104,18 +104,18 @@ refused_has_none code (Gap number gap_width total) some refused t has =
 refused_has_none code (Open least greatest) some refused t has =
     not_open (first_sum code) code t least greatest has.tiling (sym (width_is code t has some)) (lays_code code t has some) refused
 
--- after the last turn
-module _ (code : Code) (k : ℕ) (p : Laid) (kept : IsKeptCode code) (some : 0 < length code) (turn : Turn code k p) (all : length code ≤ k) where
-  -- after the last turn the code lays what is laid
+-- after the last step
+module _ (code : Code) (k : ℕ) (p : Laid) (kept : IsKeptCode code) (some : 0 < length code) (so_far : FirstLaid code k p) (all : length code ≤ k) where
+  -- after the last step the code lays what is laid
   pub lays : LaysTo (first_sum code) [] code p.squares
-  lays = subst (λ (c : Code). LaysTo (first_sum code) [] c p.squares) (take_all k code all) turn.lays
+  lays = subst (λ (c : Code). LaysTo (first_sum code) [] c p.squares) (take_all k code all) so_far.lays
 
-  -- after the last turn all groups of the code are laid
-  abbrev pub last_turn : IsLaidOut p
-  last_turn = record { code = code; kept = kept; some = some; lays = subst (λ n. LaysTo n [] code p.squares) (sym turn.width) lays }
+  -- after the last step all groups of the code are laid
+  abbrev pub is_laid_out : IsLaidOut p
+  is_laid_out = record { code = code; kept = kept; some = some; lays = subst (λ n. LaysTo n [] code p.squares) (sym so_far.width) lays }
 
   groups : side_groups p.squares ≡ code
-  groups = (laid_out p last_turn).groups
+  groups = (laid_out p is_laid_out).groups
 
   has_code : (t : Tiling) → IsLaidTiling p t → HasCode code t
   has_code t is = record { tiling = is.tiling; code_is = ap side_groups is.squares_are ∙ groups }
@@ -124,10 +124,10 @@ module _ (code : Code) (k : ℕ) (p : Laid) (kept : IsKeptCode code) (some : 0 <
   pub open_refused : (refusal : Refusal) → IsOpen p refusal → IsRefused (first_sum code) code refusal
   open_refused (Gap number gap_width total) h = absurd h
   open_refused (Open least greatest) h =
-      record { laid = p.squares; lays = lays; uneven = subst (λ (n : ℕ). IsUneven (record { width = n; squares = p.squares }) least greatest) turn.width h }
+      record { laid = p.squares; lays = lays; uneven = subst (λ (n : ℕ). IsUneven (record { width = n; squares = p.squares }) least greatest) so_far.width h }
 
   the_one : (t u : Tiling) → IsLaidTiling p t → HasCode code u → t ≡ u
-  the_one t u is has = same_tiling t u is.tiling has.tiling (is.width_is ∙ turn.width ∙ width_is code u has some)
+  the_one t u is has = same_tiling t u is.tiling has.tiling (is.width_is ∙ so_far.width ∙ width_is code u has some)
       (is.squares_are ∙ lays_unique (first_sum code) [] code p.squares u.squares lays (lays_code code u has some))
 
   -- where what is laid is a tiling, it has the code

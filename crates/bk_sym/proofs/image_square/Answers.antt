@@ -1,5 +1,5 @@
 use Rattle.std.proofs.Common.{rules}
-use Rattle.bk_sym.proofs.turned.Goals as goal
+use Rattle.bk_sym.proofs.image_square.Goals as goal
 
 pub returns-in-FlipX : goal.returns-in-FlipX
 returns-in-FlipX c = search rules

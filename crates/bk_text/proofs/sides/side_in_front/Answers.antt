@@ -2,7 +2,7 @@ use Rattle.std.specs.Prelude.{false, true}
 use Rattle.std.proofs.Common.{arith, get_or, lit≤, subst, sym, ◌∙◌}
 use Rattle.bk_text.specs.declared.reader.Bracket.{Bracket}
 use Rattle.bk_text.proofs.Fronts.{Ends, bracket_ends, comma_ends, front_side}
-use Rattle.bk_text.proofs.sides.front_of.Goals as goal
+use Rattle.bk_text.proofs.sides.side_in_front.Goals as goal
 
 pub returns-in-Comma : goal.returns-in-Comma
 returns-in-Comma c =

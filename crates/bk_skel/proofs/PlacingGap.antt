@@ -62,7 +62,7 @@ module _ (width : ℕ) (laid : List Square) (numbers : List ℕ) (first end : �
   pub parts : numbers ≡ front_of o ++ (valley_of o ++ back_of o)
   parts = (c.partly).numbers_are ∙ open_parts o
 
-  -- they are numbers of squares
+  -- the numbers in front of the valley, in it and behind it are those of squares
   pub known_numbers : AllByRecursion (IsNumber laid) (front_of o ++ (valley_of o ++ back_of o))
   known_numbers = subst (AllByRecursion (IsNumber laid)) parts (c.partly).known
 
@@ -74,7 +74,7 @@ module _ (width : ℕ) (laid : List Square) (numbers : List ℕ) (first end : �
   pub within : end ≤ length numbers
   within = omega (arith, c.end_is, ap length parts, length-append (front_of o) (valley_of o ++ back_of o), length-append (valley_of o) (back_of o))
 
-  -- it is cut out between them
+  -- the valley is cut out between the two places
   pub valley_is : take (end - first) (drop first numbers) ≡ valley_of o
   valley_is = ap (λ (ns : List ℕ). take (end - first) (drop first ns)) parts
       ∙ take-drop_middle (front_of o) (valley_of o) (back_of o) first (end - first) c.first_is (omega (arith, c.first_is, c.end_is))
@@ -120,23 +120,25 @@ module _ (width : ℕ) (laid : List Square) (numbers : List ℕ) (first end : �
   pub new_sides_fit : sum new ≡ valley_gap.width → valley_gap.x + sum new < 2 ^ 63
   new_sides_fit e = omega (arith, e, flat_within, (c.partly).narrow)
 
-  -- there is no turn but one that fills this gap
+  -- the move fills no valley but this gap
   pub only : (v : Segment) → FillsValley width laid (record { count = length new; signs = signs }) new v → v ≡ valley_gap
-  only v turn = one_leftmost_valley width laid v valley_gap turn.found seen.found
+  only v fills = one_leftmost_valley width laid v valley_gap fills.found seen.found
 
   positive : (sides : List ℕ) → AllByRecursion IsSide sides → AllByRecursion (λ s. 0 < s) sides
   positive [] a = tt
   positive (s ∷ sides) a = ((a.0).0, positive sides a.1)
 
-  -- the move is a turn where it fills the gap, and its signs compare the bottoms
-  pub is_turn : sum new ≡ valley_gap.width → signs ≡ signs_between
-      (depth_before laid valley_gap.x ++ map (λ q. q.y + q.s) (laid_group valley_gap.x valley_gap.level new) ++ depth_from width laid (valley_gap.x + valley_gap.width))
+  -- it fills the gap where the sides are as wide together, and its signs compare the bottoms
+  pub fills_gap : sum new ≡ valley_gap.width → signs ≡ signs_between
+      (depth_before laid valley_gap.x ++ map (λ q. q.y + q.s) (laid_group valley_gap.x valley_gap.level new)
+      ++ depth_from width laid (valley_gap.x + valley_gap.width))
       → FillsValley width laid (record { count = length new; signs = signs }) new valley_gap
-  is_turn e f = record { found = seen.found; count = refl; some = (c.legal).some; positive = positive new c.sides; fills = e; signs = f }
+  fills_gap e f = record { found = seen.found; count = refl; some = (c.legal).some; positive = positive new c.sides; fills = e; signs = f }
 
-  -- the signs of each turn do
+  -- the signs of a move that fills a valley do
   pub signs_as : (v : Segment) → FillsValley width laid (record { count = length new; signs = signs }) new v
-      → signs ≡ signs_between (depth_before laid valley_gap.x ++ map (λ q. q.y + q.s) (laid_group valley_gap.x valley_gap.level new) ++ depth_from width laid (valley_gap.x + valley_gap.width))
+      → signs ≡ signs_between (depth_before laid valley_gap.x ++ map (λ q. q.y + q.s) (laid_group valley_gap.x valley_gap.level new)
+      ++ depth_from width laid (valley_gap.x + valley_gap.width))
   signs_as v t = t.signs ∙ ap (λ (w : Segment). signs_between
       (depth_before laid w.x ++ map (λ q. q.y + q.s) (laid_group w.x w.level new) ++ depth_from width laid (w.x + w.width))) (only v t)
 

@@ -2,7 +2,7 @@ use Rattle.std.specs.Fmt.{decimal}
 use Rattle.std.specs.Prelude.{flat_map, length, take, ◌*◌, ◌++◌, ◌+◌, ◌∷◌, ◌≡◌, ◌≤◌}
 use Rattle.std.proofs.Common.{get_or}
 use Rattle.bk_text.proofs.Spelling.{side_text}
-use Rattle.bk_text.proofs.writer.write_group.Given as goal
+use Rattle.bk_text.proofs.writer.spell_group.Given as goal
 
 abbrev pub invariant-loop-side : goal.invariant-loop-side
 invariant-loop-side l = record {

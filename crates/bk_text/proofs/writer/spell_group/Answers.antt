@@ -6,7 +6,7 @@ use Rattle.std.proofs.lemmas.Grind.{flat_map-append}
 use Rattle.std.proofs.lemmas.List.{take_more}
 use Rattle.bk_tiling.specs.KeptTiling.{IsSide}
 use Rattle.bk_text.proofs.Spelling.{side_text, whole_group}
-use Rattle.bk_text.proofs.writer.write_group.Goals as goal
+use Rattle.bk_text.proofs.writer.spell_group.Goals as goal
 
 -- each side of a group is one
 side_at : (ns : List ℕ) (i : ℕ) → AllByRecursion IsSide ns → i < length ns → IsSide (get_or ns i 0)
