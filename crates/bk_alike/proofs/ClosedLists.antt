@@ -7,7 +7,7 @@ use Rattle.bk_ports.proofs.KnownSteps.{prefix_after}
 use Rattle.bk_ports.specs.Causes.{HasCause, Rose}
 use Rattle.bk_ports.specs.declared.Failed.{Failed}
 use Rattle.bk_ports.proofs.OtherOutputs.{IsStop, stops_as, whole_behind}
-use Rattle.bk_ports.specs.Ending.{EndsWith, HasVerdict, IsReadWhole, Streams}
+use Rattle.bk_ports.specs.Ending.{EndsWith, HasVerdict, IsReadWhole, Streams, streams_told}
 use Rattle.bk_ports.specs.Entering.{AreAllEntered, entering_from, entries_of}
 use Rattle.bk_ports.specs.Faults.{CountsTell, Faults}
 use Rattle.bk_ports.specs.Reply.{text_of}
@@ -17,10 +17,6 @@ use Rattle.bk_alike.specs.GroupsEnd.{IsListText, closing_lines, list_output}
 use Rattle.bk_alike.specs.Listed.{Listed, listing_start}
 use Rattle.bk_alike.specs.declared.Wanted.{Wanted}
 use Rattle.bk_alike.specs.WrittenLines.{WritesLines}
-
--- the streams of a run: what its source had left and its sink had written, before and after
-abbrev pub streams_of : Option (List ℕ) → Option (List ℕ) → Option (List ℕ) → Option (List ℕ) → Streams
-streams_of left left_after written written_after = record { left = left; left_after = left_after; written = written; written_after = written_after }
 
 -- all lines are entered
 abbrev pub IsVerdict : Ended → Type 0
@@ -34,9 +30,10 @@ verdict_told ended (inl e) = subst IsVerdict (sym e) tt
 verdict_told ended (inr e) = subst IsVerdict (sym e) tt
 
 -- what was entered into a list without items or refused lines yet was entered from the start
-pub from_start : (s last : Listed) (streams : Streams) (ended : Ended) → s ≡ listing_start.state
+pub entered_from_the_start_of_listing : (s last : Listed) (streams : Streams) (ended : Ended) → s ≡ listing_start.state
     → EndsWith (entries_of (entering_from listing_start.rules s 1) last) streams ended → EndsWith (entries_of listing_start last) streams ended
-from_start s last streams ended = subst (λ (t : Listed). EndsWith (entries_of (entering_from listing_start.rules t 1) last) streams ended)
+entered_from_the_start_of_listing s last streams ended = subst
+    (λ (t : Listed). EndsWith (entries_of (entering_from listing_start.rules t 1) last) streams ended)
 
 -- a run that stops at its lines
 pub stops_listing : (wanted : Wanted) (last : Listed) (streams : Streams) (ended : Ended) → IsStop ended
@@ -77,23 +74,23 @@ module _ (wanted : Wanted) (last : Listed) (left left_after a b c : Option (List
   )
 
   listed_behind : (refused : Bool) → (r : Result (Unit {0}) Failed) → WritesLines (closing_lines wanted last) b c r → r ≡ Ok tt
-      → IsReadWhole (λ lines. AreAllEntered listing_start last lines refused) (streams_of left left_after a b)
-      → IsReadWhole (λ lines. (list_output wanted).whole lines refused) (streams_of left left_after a c)
+      → IsReadWhole (λ lines. AreAllEntered listing_start last lines refused) (streams_told left left_after a b)
+      → IsReadWhole (λ lines. (list_output wanted).whole lines refused) (streams_told left left_after a c)
   listed_behind refused r w e all =
       whole_behind (λ lines. AreAllEntered listing_start last lines refused) (λ lines. (list_output wanted).whole lines refused)
       left left_after a b c all (λ lines. listed refused lines r w e)
 
   closing_broken : (refused : Bool) → (r : Result (Unit {0}) Failed) → WritesLines (closing_lines wanted last) b c r → (f : Failed) → r ≡ Err f
-      → IsReadWhole (λ lines. AreAllEntered listing_start last lines refused) (streams_of left left_after a b)
-      → IsReadWhole (list_output wanted).begun_behind (streams_of left left_after a c)
+      → IsReadWhole (λ lines. AreAllEntered listing_start last lines refused) (streams_told left left_after a b)
+      → IsReadWhole (list_output wanted).begun_behind (streams_told left left_after a c)
   closing_broken refused r w f e all =
       whole_behind (λ lines. AreAllEntered listing_start last lines refused) (list_output wanted).begun_behind left left_after a b c all
       (λ lines. broken refused lines r w f e)
 
   -- where all lines are entered, and what is wanted was written or not
-  pub closes_well : (ended : Ended) → EndsWith (entries_of listing_start last) (streams_of left left_after a b) ended → IsVerdict ended
+  pub closes_well : (ended : Ended) → EndsWith (entries_of listing_start last) (streams_told left left_after a b) ended → IsVerdict ended
       → (r : Result (Unit {0}) Failed) → WritesLines (closing_lines wanted last) b c r → r ≡ Ok tt
-      → EndsWith (list_output wanted) (streams_of left left_after a c) ended
+      → EndsWith (list_output wanted) (streams_told left left_after a c) ended
   closes_well NoneRefused h v r w e = listed_behind false r w e h
   closes_well SomeRefused h v r w e = listed_behind true r w e h
   closes_well ReadFailed h v r w e = absurd v
@@ -102,9 +99,9 @@ module _ (wanted : Wanted) (last : Listed) (left left_after a b c : Option (List
   closes_well TooMany h v r w e = absurd v
 
   -- a listing with a verdict whose closing lines can't be written ends with a failed write
-  pub closes_broken : (ended : Ended) → EndsWith (entries_of listing_start last) (streams_of left left_after a b) ended → IsVerdict ended
+  pub closes_broken : (ended : Ended) → EndsWith (entries_of listing_start last) (streams_told left left_after a b) ended → IsVerdict ended
       → (r : Result (Unit {0}) Failed) → WritesLines (closing_lines wanted last) b c r → (f : Failed) → r ≡ Err f
-      → EndsWith (list_output wanted) (streams_of left left_after a c) WriteFailed
+      → EndsWith (list_output wanted) (streams_told left left_after a c) WriteFailed
   closes_broken NoneRefused h v r w f e = inr (closing_broken false r w f e h)
   closes_broken SomeRefused h v r w f e = inr (closing_broken true r w f e h)
   closes_broken ReadFailed h v r w f e = absurd v

@@ -15,7 +15,7 @@ use Rattle.bk_alike.specs.Pairs.{all_pairs}
 use Rattle.bk_alike.specs.WrittenLines.{WritesLines}
 use Rattle.bk_alike.specs.declared.Wanted.TheVariants.{Groups, Pairs}
 use Rattle.bk_alike.proofs.WrittenLines.{broken_before, last_written}
-use Rattle.bk_alike.proofs.ListLoops.{ends_broken}
+use Rattle.bk_alike.proofs.ListLoops.{lines_broken_by_a_failed_call}
 use Rattle.bk_alike.proofs.GroupMembers.{length-groups}
 
 -- a write failed at the groups
@@ -23,7 +23,7 @@ pub groups_broken : {T E : Type 0} (Q : E → Type 0) (s : Listed) (items : List
     → items ≡ s.items
     → AppendsPrefix a c (concat (flat_map (group_lines items) (sizes items))) → WritesLines (closing_lines Groups s) a c r
 groups_broken Q s items a c r is e h =
-    ends_broken _ (closing_lines Groups s) a c r is
+    lines_broken_by_a_failed_call _ (closing_lines Groups s) a c r is
     (broken_before (flat_map (group_lines s.items) (sizes s.items)) (alike_line (length (sizes s.items)) (length s.items) s.refused ∷ []) a c
     (subst (λ (l : List KeptItem). AppendsPrefix a c (concat (flat_map (group_lines l) (sizes l)))) e h))
 
@@ -45,7 +45,7 @@ pub pairs_cut : {T E : Type 0} (Q : E → Type 0) (kind : Kind) (s : Listed) (it
     → items ≡ s.items
     → AppendsPrefix a c (concat (all_pairs kind items)) → WritesLines (closing_lines (Pairs kind) s) a c r
 pairs_cut Q kind s items a c r is e h =
-    ends_broken _ (closing_lines (Pairs kind) s) a c r is
+    lines_broken_by_a_failed_call _ (closing_lines (Pairs kind) s) a c r is
     (broken_before (all_pairs kind s.items) (pairs_line (length (all_pairs kind s.items)) (length s.items) s.refused ∷ []) a c
     (subst (λ (l : List KeptItem). AppendsPrefix a c (concat (all_pairs kind l))) e h))
 

@@ -17,13 +17,13 @@ use Rattle.bk_report.specs.ListLines.{member_line}
 use Rattle.bk_alike.specs.GroupsEnd.{member_at}
 use Rattle.bk_alike.specs.WrittenLines.{WritesLines}
 use Rattle.bk_alike.proofs.PairLines.{IsItemAt}
-use Rattle.bk_alike.proofs.WrittenLines.{IsWrittenTo, item_at, one_broken, prefix_more, written_broken, written_more}
+use Rattle.bk_alike.proofs.WrittenLines.{IsWrittenTo, item_at, lines_written_with_the_next_ones, one_broken, prefix_more, written_broken}
 
 -- lines of which a beginning was written where a call failed
-pub ends_broken : {T E : Type 0} (Q : E → Type 0) (lines : List (List ℕ)) (a b : Option (List ℕ)) (r : Result T E) → IsErrAnd r Q
+pub lines_broken_by_a_failed_call : {T E : Type 0} (Q : E → Type 0) (lines : List (List ℕ)) (a b : Option (List ℕ)) (r : Result T E) → IsErrAnd r Q
     → AppendsPrefix a b (concat lines) → WritesLines lines a b r
-ends_broken Q lines a b (Ok x) e h = absurd e
-ends_broken Q lines a b (Err f) e h = h
+lines_broken_by_a_failed_call Q lines a b (Ok x) e h = absurd e
+lines_broken_by_a_failed_call Q lines a b (Err f) e h = h
 
 -- ---- the lines of each element
 
@@ -37,7 +37,7 @@ next_of {A} f xs k x below e =
 pub loop_more : {A : Type 0} (f : A → List (List ℕ)) (all : List (List ℕ)) (xs : List A) (k : ℕ) (x : A) (a b c : Option (List ℕ)) → k < length xs
     → slice_get xs k ≡ Some x
     → IsWrittenTo all (flat_map f (drop k xs)) a b → Appends b c (concat (f x)) → IsWrittenTo all (flat_map f (drop (k + 1) xs)) a c
-loop_more f all xs k x a b c below e state here = written_more all (flat_map f (drop k xs)) (f x) (flat_map f (drop (k + 1) xs)) a b c state
+loop_more f all xs k x a b c below e state here = lines_written_with_the_next_ones all (flat_map f (drop k xs)) (f x) (flat_map f (drop (k + 1) xs)) a b c state
     (next_of f xs k x below e) here
 
 -- where a write of them fails, a beginning of all lines stands written
@@ -86,9 +86,9 @@ pub first_broken : (line piece : List ℕ) (rest : List (List ℕ)) (a b : Optio
 first_broken line piece rest a b is h = prefix_more a b line (concat rest) (subst (λ (l : List ℕ). AppendsPrefix a b l) is h)
 
 -- the first line is written, and the call for the others tells how it ended
-pub first_then : {T E : Type 0} (line piece : List ℕ) (rest : List (List ℕ)) (a b c : Option (List ℕ)) (r : Result T E) → piece ≡ line
+pub first_line_written_then_the_others : {T E : Type 0} (line piece : List ℕ) (rest : List (List ℕ)) (a b c : Option (List ℕ)) (r : Result T E) → piece ≡ line
     → Appends a b piece → WritesLines rest b c r → WritesLines (line ∷ rest) a c r
-first_then line piece rest a b c (Ok x) is here later =
+first_line_written_then_the_others line piece rest a b c (Ok x) is here later =
     appends-then a b c line (concat rest) (concat (line ∷ rest)) (subst (λ (l : List ℕ). Appends a b l) is here) later refl
-first_then line piece rest a b c (Err f) is here later =
+first_line_written_then_the_others line piece rest a b c (Err f) is here later =
     prefix_after a b c line (concat rest) (subst (λ (l : List ℕ). Appends a b l) is here) later

@@ -59,8 +59,8 @@ full_line s next number bytes t has full is =
     (no_more t has full)
 
 -- where a call that keeps an item doesn't say that 16,384 are kept, fewer are
-pub has_room : (n : ℕ) (r : Result (Unit {0}) AddFault) → (r ≡ Err Full → ⊥) → (r ≡ Err Full) ↔ (16384 ≤ n) → n < 16384
-has_room n r other full = by (cases_lt n 16384)
+pub fewer_items_kept_unless_full : (n : ℕ) (r : Result (Unit {0}) AddFault) → (r ≡ Err Full → ⊥) → (r ≡ Err Full) ↔ (16384 ≤ n) → n < 16384
+fewer_items_kept_unless_full n r other full = by (cases_lt n 16384)
   where
     by : (n < 16384) ⊎ (16384 ≤ n) → n < 16384
     by (inl few) = few
@@ -75,9 +75,10 @@ pub wanting_apart : (r : Result (Unit {0}) AddFault) → r ≡ Err NoMemory → 
 wanting_apart r is e = absurd (cc)
 
 -- memory was wanting at an accepted line
-pub wanting_line : (s : Listed) (number : ℕ) (bytes : List ℕ) (t : Tiling) (a : Option (List ℕ)) → HasTiling bytes t → length s.items < 16384
+pub memory_wanting_at_an_accepted_line : (s : Listed) (number : ℕ) (bytes : List ℕ) (t : Tiling) (a : Option (List ℕ)) → HasTiling bytes t
+    → length s.items < 16384
     → IsWanting (MayWantItem s number bytes) a a
-wanting_line s number bytes t a has few = record { cause = (t, has, few); kept = Keeps-refl a }
+memory_wanting_at_an_accepted_line s number bytes t a has few = record { cause = (t, has, few); kept = Keeps-refl a }
 
 -- a refused line
 pub refused_entry : (s next : Listed) (number : ℕ) (bytes : List ℕ) (refused : Refused) → IsLineRefused bytes refused → next ≡ with_refused s

@@ -3,13 +3,13 @@ use Rattle.std.specs.Prelude.{false, refl}
 use Rattle.std.proofs.Common.{Bool, List, [], ap, arith, subst, sym, ℕ, ◌+◌, ◌∙◌, ◌∷◌, ◌≡◌}
 use Rattle.std.proofs.lemmas.Bool.{true≢false}
 use Rattle.bk_tiling.specs.Tiling.{Tiling}
-use Rattle.bk_text.proofs.LinesRead.{one_meaning}
+use Rattle.bk_text.proofs.LinesRead.{line_stands_for_one_thing}
 use Rattle.bk_text.specs.CodeLine.{Line}
 use Rattle.bk_sym.proofs.CanonicalLaws.{a_canonical_tiling_is_one}
 use Rattle.bk_sym.specs.Canonical.{IsCanonicalOf}
 use Rattle.bk_report.specs.ListLines.{refused_line}
 use Rattle.bk_report.specs.declared.refusal.Refused.{Refused}
-use Rattle.bk_answer.proofs.ItemSteps.{is_tiling}
+use Rattle.bk_answer.proofs.ItemSteps.{stated_is_a_tiling}
 use Rattle.bk_answer.proofs.OneAnswer.{cause_of, not_refused, one_line_cause, one_tiling, skip_not_refused, skip_not_stated}
 use Rattle.bk_answer.specs.Item.{HasTiling, IsLaidBy}
 use Rattle.bk_ports.specs.Entering.{AreEntered, entering_from}
@@ -23,7 +23,7 @@ use Rattle.bk_alike.specs.ListingLaw.{LinesHaveOneListing}
 line_tiling : (line : List ℕ) (t u : Tiling) → HasTiling line t → HasTiling line u → t ≡ u
 line_tiling line t u one other =
     one_tiling one.item t u one.stated.laid
-    (subst (λ (i : Line). IsLaidBy i u) (one_meaning line other.item one.item other.is_item.meaning one.is_item.meaning) other.stated.laid)
+    (subst (λ (i : Line). IsLaidBy i u) (line_stands_for_one_thing line other.item one.item other.is_item.meaning one.is_item.meaning) other.stated.laid)
 
 -- the reply to a line and the state behind it
 abbrev IsOneEntry : List (List ℕ) → List (List ℕ) → Bool → Bool → Listed → Listed → Type 0
@@ -35,7 +35,7 @@ module _ (s : Listed) (n : ℕ) where
       → with_item s n c ≡ with_item s n d
   kept_once line a b c d has had h k =
       ap (with_item s n)
-      (a_canonical_tiling_is_one a c d (is_tiling has.item a has.stated) h
+      (a_canonical_tiling_is_one a c d (stated_is_a_tiling has.item a has.stated) h
       (subst (λ (t : Tiling). IsCanonicalOf t d) (line_tiling line b a had has) k)).1
 
   -- any line

@@ -30,8 +30,9 @@ abbrev pub IsItemAt : List KeptItem → ℕ → ℕ → Tiling → Type 0
 IsItemAt items k line t = (item : KeptItem) × (slice_get items k ≡ Some item) × (line ≡ item.line) × (t ≡ item.tiling)
 
 -- the number that an item at a place has is the line of the item there
-pub line_at : (items : List KeptItem) (k line : ℕ) (t : Tiling) (a : KeptItem) → IsItemAt items k line t → slice_get items k ≡ Some a → line ≡ a.line
-line_at items k line t a is e = is.2 ∙ ap (λ (item : KeptItem). item.line) (some-unique (slice_get items k) is.0 a is.1 e)
+pub number_of_an_item_is_its_line : (items : List KeptItem) (k line : ℕ) (t : Tiling) (a : KeptItem) → IsItemAt items k line t → slice_get items k ≡ Some a
+    → line ≡ a.line
+number_of_an_item_is_its_line items k line t a is e = is.2 ∙ ap (λ (item : KeptItem). item.line) (some-unique (slice_get items k) is.0 a is.1 e)
 
 -- the tiling that an item at a place has is that of the item there
 pub tiling_at : (items : List KeptItem) (k line : ℕ) (t : Tiling) (a : KeptItem) → IsItemAt items k line t → slice_get items k ≡ Some a → t ≡ a.tiling

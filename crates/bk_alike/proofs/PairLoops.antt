@@ -10,7 +10,7 @@ use Rattle.bk_pair.specs.declared.Kind.{Kind}
 use Rattle.bk_alike.specs.declared.item.KeptItem.{KeptItem}
 use Rattle.bk_alike.specs.Pairs.{all_pairs, pair_lines}
 use Rattle.bk_alike.proofs.PairLines.{few_with}
-use Rattle.bk_alike.proofs.WrittenLines.{IsWrittenTo, item_at, written_broken, written_more}
+use Rattle.bk_alike.proofs.WrittenLines.{IsWrittenTo, item_at, lines_written_with_the_next_ones, written_broken}
 
 next_pairs : (kind : Kind) (items : List KeptItem) (k : ℕ) (x : KeptItem) → k < length items → slice_get items k ≡ Some x
     → all_pairs kind (drop k items) ≡ flat_map (pair_lines kind x) (drop (k + 1) items) ++ all_pairs kind (drop (k + 1) items)
@@ -27,7 +27,7 @@ pub pairs_more : (kind : Kind) (items : List KeptItem) (k : ℕ) (a b c : Option
     → IsWrittenTo (all_pairs kind items) (all_pairs kind (drop (k + 1) items)) a c
 pairs_more kind items k a b c below state here =
     let at = item_at items k below in
-    written_more (all_pairs kind items) (all_pairs kind (drop k items)) (flat_map (pair_lines kind at.item) (drop (k + 1) items))
+    lines_written_with_the_next_ones (all_pairs kind items) (all_pairs kind (drop k items)) (flat_map (pair_lines kind at.item) (drop (k + 1) items))
     (all_pairs kind (drop (k + 1) items)) a b c state
     (next_pairs kind items k at.item below at.here) (here at.item at.here)
 
@@ -43,11 +43,11 @@ pairs_broken kind items k a b c below state here =
     (next_pairs kind items k at.item below at.here) (here at.item at.here)
 
 -- how many there are with one more item
-pub count_more : (kind : Kind) (items : List KeptItem) (k n m : ℕ) → k < length items
+pub pairs_counted_with_one_item_more : (kind : Kind) (items : List KeptItem) (k n m : ℕ) → k < length items
     → n + length (all_pairs kind (drop k items)) ≡ length (all_pairs kind items)
     → ((x : KeptItem) → slice_get items k ≡ Some x → m ≡ length (flat_map (pair_lines kind x) (drop (k + 1) items)))
     → (n + m) + length (all_pairs kind (drop (k + 1) items)) ≡ length (all_pairs kind items)
-count_more kind items k n m below e is =
+pairs_counted_with_one_item_more kind items k n m below e is =
     let at = item_at items k below in
     let next = ap (λ (l : List (List ℕ)). length l) (next_pairs kind items k at.item below at.here) in
     omega (arith, next, is at.item at.here, length-append (flat_map (pair_lines kind at.item) (drop (k + 1) items)) (all_pairs kind (drop (k + 1) items)))
@@ -70,4 +70,4 @@ few_all kind items few = omega (arith, few_by kind items few)
 pub few_so_far : (kind : Kind) (items : List KeptItem) (k n m : ℕ) → k < length items → length items ≤ 16384
     → n + length (all_pairs kind (drop k items)) ≡ length (all_pairs kind items)
     → ((x : KeptItem) → slice_get items k ≡ Some x → m ≡ length (flat_map (pair_lines kind x) (drop (k + 1) items))) → n + m ≤ 268435456
-few_so_far kind items k n m below few e is = omega (arith, few_all kind items few, count_more kind items k n m below e is)
+few_so_far kind items k n m below few e is = omega (arith, few_all kind items few, pairs_counted_with_one_item_more kind items k n m below e is)

@@ -25,25 +25,25 @@ pub record IsWrittenTo (all rest : List (List ℕ)) (before now : Option (List �
   pub written : Appends before now (concat done)
 
 -- nothing is written yet, and all lines are still to be written
-pub written_none : (all : List (List ℕ)) (w : Option (List ℕ)) → IsWrittenTo all all w w
-written_none all w = record { done = []; split = refl; written = Appends-nil w }
+pub no_line_written_yet : (all : List (List ℕ)) (w : Option (List ℕ)) → IsWrittenTo all all w w
+no_line_written_yet all w = record { done = []; split = refl; written = Appends-nil w }
 
 -- nothing is written yet, where what is to be written is told in another way
 pub written_from : (all rest : List (List ℕ)) (w : Option (List ℕ)) → rest ≡ all → IsWrittenTo all rest w w
 written_from all rest w is = record { done = []; split = sym is; written = Appends-nil w }
 
 -- the next of the lines are written
-pub written_more : (all rest piece later : List (List ℕ)) (a b c : Option (List ℕ)) → IsWrittenTo all rest a b → rest ≡ piece ++ later
+pub lines_written_with_the_next_ones : (all rest piece later : List (List ℕ)) (a b c : Option (List ℕ)) → IsWrittenTo all rest a b → rest ≡ piece ++ later
     → Appends b c (concat piece) → IsWrittenTo all later a c
-written_more all rest piece later a b c state is here = record {
+lines_written_with_the_next_ones all rest piece later a b c state is here = record {
   done = state.done ++ piece;
   split = state.split ∙ ap (λ (l : List (List ℕ)). state.done ++ l) is ∙ sym (append_assoc state.done piece later);
   written = appends-then a b c (concat state.done) (concat piece) (concat (state.done ++ piece)) state.written here (concat-append state.done piece);
 }
 
 -- where none is left, all are written
-pub written_all : (all rest : List (List ℕ)) (a b : Option (List ℕ)) → IsWrittenTo all rest a b → rest ≡ [] → Appends a b (concat all)
-written_all all rest a b state none =
+pub lines_written_where_none_is_left : (all rest : List (List ℕ)) (a b : Option (List ℕ)) → IsWrittenTo all rest a b → rest ≡ [] → Appends a b (concat all)
+lines_written_where_none_is_left all rest a b state none =
     subst (λ (l : List (List ℕ)). Appends a b (concat l)) (sym (state.split ∙ ap (λ (l : List (List ℕ)). state.done ++ l) none
     ∙ append-nil state.done)) state.written
 

@@ -5,7 +5,7 @@ pub mod Listed
 pub mod ListingLaw
 pub mod Pairs
 -- How its code keeps it.
-pub mod EmptyListLine
+pub mod EmptyIsSkipped
 pub mod Grouped
 pub mod LaterLines
 pub mod WrittenLines

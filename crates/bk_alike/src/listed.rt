@@ -113,9 +113,9 @@ impl Register for ItemList {
         }
     }
 
-    ghost use Rattle.bk_alike.specs.EmptyListLine.{empty_skipped, still_ready};
+    ghost use Rattle.bk_alike.specs.EmptyIsSkipped.{empty_is_skipped, refused_below_next};
 
-    ghost empty_line = { empty_skipped };
+    ghost empty_line = { empty_is_skipped };
 
-    ghost still_ready = { still_ready };
+    ghost still_ready = { refused_below_next };
 }

@@ -12,7 +12,7 @@ ghost use Rattle.bk_report.specs.ListLines.{pair_line};
 
 use crate::Alike;
 use bk_grammar::AnswerBuffer;
-use bk_pair::{KeptTiling, Kind, lay_pair};
+use bk_pair::{KeptTiling, Kind, joined_square};
 use bk_ports::{Failed, Sink};
 use bk_report::write_pair;
 
@@ -117,11 +117,7 @@ fn write_square<O: Sink>(
         (O.written out.new) result }
     ensures cause { HasCause (O.faults out.old) (O.faults out.new) result }
 {
-    match lay_pair(&a.tiling(), &b.tiling()) {
-        Ok(square) => {
-            write_pair(lines.0, lines.1, &square, buffer);
-            out.write_all(buffer.as_slice())
-        }
-        Err(_) => unreachable!(),
-    }
+    let square = joined_square(&a.tiling(), &b.tiling());
+    write_pair(lines.0, lines.1, &square, buffer);
+    out.write_all(buffer.as_slice())
 }

@@ -3,7 +3,7 @@ use Rattle.std.specs.List.{concat}
 use Rattle.std.proofs.Common.{Bool, List, Option, [], ap, arith, drop, get_or, length, refl, subst, sym, ℕ, ◌++◌, ◌∷◌, ◌≡◌}
 use Rattle.bk_tiling.specs.Tiling.{Rectangle, Tiling}
 use Rattle.bk_text.specs.CodeLine.{Line}
-use Rattle.bk_text.proofs.LinesRead.{one_meaning}
+use Rattle.bk_text.proofs.LinesRead.{line_stands_for_one_thing}
 use Rattle.bk_report.specs.AnswerWords.{ok_word}
 use Rattle.bk_report.specs.Answers.{IsCheckLine, verdict_line}
 use Rattle.bk_report.specs.Refusals.{refusal_line}
@@ -59,7 +59,7 @@ accepted : (bytes : List ℕ) (item : Line) (pieces : List (List ℕ)) (refused 
 accepted bytes item pieces refused has (no_item a) b = absurd (omega (arith, first_byte [] b))
 accepted bytes item pieces refused has (refuses r h) b = absurd (refusal_byte r (first_byte (refusal_line r ++ []) b))
 accepted bytes item pieces refused has (answers t _ has' _ an) b =
-    (t, subst (λ (i : Line). IsStatedBy i t) (one_meaning bytes has'.item item has'.is_item.meaning has.meaning) has'.stated)
+    (t, subst (λ (i : Line). IsStatedBy i t) (line_stands_for_one_thing bytes has'.item item has'.is_item.meaning has.meaning) has'.stated)
 
 -- check refuses for no cause of its own
 pub check_refuses : (bytes : List ℕ) (r : Refused) → CommandCause (Plain Check) bytes r → IsLineRefused bytes r

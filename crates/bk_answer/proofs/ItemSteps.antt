@@ -75,7 +75,7 @@ module _ (bytes : List ℕ) (item : Line) (has : HasItem bytes item) where
   refused_of_item (Err f) h = refused_item item f has h
 
 -- the tiling of a line is a tiling
-pub is_tiling : (item : Line) (t : Tiling) → IsStatedBy item t → IsTiling t
-is_tiling Skip t s = absurd s.laid
-is_tiling (Item order size code) t s = s.laid.tiling
-is_tiling (Flat order width height sides) t s = s.laid.tiling
+pub stated_is_a_tiling : (item : Line) (t : Tiling) → IsStatedBy item t → IsTiling t
+stated_is_a_tiling Skip t s = absurd s.laid
+stated_is_a_tiling (Item order size code) t s = s.laid.tiling
+stated_is_a_tiling (Flat order width height sides) t s = s.laid.tiling

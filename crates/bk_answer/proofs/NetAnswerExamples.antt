@@ -4,7 +4,7 @@ use Rattle.std.specs.Prelude.{codes, negsuc, pos, ◌≢◌}
 use Rattle.std.proofs.Common.{[], arith, false, lit<, lit≤, refl, suc, true, zero, ℕ, ◌<◌, ◌∷◌, ◌≡◌}
 use Rattle.std.proofs.lemmas.List.Elements.{All-from_recursion}
 use Rattle.bk_net.proofs.FlowExamples.{alone}
-use Rattle.bk_net.proofs.NetLinesMeant.{read_is_line}
+use Rattle.bk_net.proofs.NetLinesMeant.{what_is_read_is_a_net_line}
 use Rattle.bk_net.specs.Net.{HasNoLoose, IsNet, Net, against, here}
 use Rattle.bk_net.specs.NetLine.{Item}
 use Rattle.bk_net.specs.declared.NetFault.TheVariants.{Wire}
@@ -29,7 +29,7 @@ no_loose (suc (suc v)) few = absurd (omega arith)
 
 has_back : HasNet (codes "2 1-0") back
 has_back = record {
-  item = record { short = lit≤ tt; meaning = read_is_line (codes "2 1-0") (Item 2 ((1, 0) ∷ [])) refl };
+  item = record { short = lit≤ tt; meaning = what_is_read_is_a_net_line (codes "2 1-0") (Item 2 ((1, 0) ∷ [])) refl };
   kept = record { is = is_net; few_nodes = lit≤ tt; few_wires = lit≤ tt };
 }
 
@@ -45,7 +45,7 @@ apart = record { nodes = 2; wires = [] }
 
 has_apart : HasNet (codes "2") apart
 has_apart = record {
-  item = record { short = lit≤ tt; meaning = read_is_line (codes "2") (Item 2 []) refl };
+  item = record { short = lit≤ tt; meaning = what_is_read_is_a_net_line (codes "2") (Item 2 []) refl };
   kept = record {
     is = record { some = lit≤ tt; ends = All-from_recursion (λ (w : ℕ × ℕ). (w.0 < 2) × (w.1 < 2) × (w.0 ≢ w.1)) [] tt };
     few_nodes = lit≤ tt;
@@ -65,7 +65,7 @@ unfolding digits
 own_wire = no_net (Wire 1) (lit≤ tt) (
   2,
   (1, 1) ∷ [],
-  read_is_line (codes "2 1-1") (Item 2 ((1, 1) ∷ [])) refl,
+  what_is_read_is_a_net_line (codes "2 1-1") (Item 2 ((1, 1) ∷ [])) refl,
   lit≤ tt,
   (lit≤ tt, lit≤ tt),
   record { before = 0; is = refl; within = lit< tt; here = λ d joins. joins.2 refl; earlier = λ k low d. absurd (omega (arith, low)) },

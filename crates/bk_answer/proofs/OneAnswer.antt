@@ -10,7 +10,7 @@ use Rattle.bk_profile.proofs.Division.{flat_refused_has_none}
 use Rattle.bk_profile.specs.Refused.{first_sum}
 use Rattle.bk_profile.specs.declared.laying.Refusal.{Refusal}
 use Rattle.bk_text.specs.CodeLine.{Flat, IsLine, IsNoLine, Item, Line, Skip}
-use Rattle.bk_text.proofs.LinesRead.{one_meaning}
+use Rattle.bk_text.proofs.LinesRead.{line_stands_for_one_thing}
 use Rattle.bk_sym.proofs.CanonicalLaws.{a_canonical_tiling_is_one}
 use Rattle.bk_report.specs.Answers.{tiling_line}
 use Rattle.bk_report.specs.Refusals.{refusal_line}
@@ -22,7 +22,7 @@ use Rattle.bk_answer.specs.Item.{AllowsOrder, AllowsSize, HasItem, HasTiling, Is
 use Rattle.bk_answer.specs.Refusing.{IsItemRefused, IsLineRefused, IsNotLaid, no_line, not_laid, other_order, other_size, refused_for, refused_item}
 use Rattle.bk_answer.specs.Refusing.{too_long, too_many}
 use Rattle.bk_answer.specs.declared.command.Command.{Command}
-use Rattle.bk_answer.specs.declared.plain.PlainCommand.TheVariants.{Canon, Check, Draw, Dual, Images, Net}
+use Rattle.bk_answer.specs.declared.plain.PlainCommand.TheVariants.{Canon, Check}
 use Rattle.bk_answer.specs.declared.command.Command.TheVariants.{Memory, Plain}
 use Rattle.bk_answer.specs.declared.command.MemoryCommand.TheVariants.{Flow, Solve, Word}
 use Rattle.bk_word.specs.Word.{Word as Moves}
@@ -118,13 +118,13 @@ one_line_cause bytes r s (at_many item h l m e) (at_long k d) = absurd (omega ar
 one_line_cause bytes r s (at_many item h l m e) (at_text at k n d) = absurd (n.0 (item, l))
 one_line_cause bytes r s (at_many item h l m e) (at_many other k j n d) = e ∙ sym d
 one_line_cause bytes r s (at_many item h l m e) (at_item other has c) =
-    absurd (omega (arith, ap side_count (one_meaning bytes item other l has.meaning), has.few))
+    absurd (omega (arith, ap side_count (line_stands_for_one_thing bytes item other l has.meaning), has.few))
 one_line_cause bytes r s (at_item item has c) (at_long k d) = absurd (omega (arith, has.short))
 one_line_cause bytes r s (at_item item has c) (at_text at k n d) = absurd (n.0 (item, has.meaning))
 one_line_cause bytes r s (at_item item has c) (at_many other k l m d) =
-    absurd (omega (arith, ap side_count (one_meaning bytes other item l has.meaning), has.few))
+    absurd (omega (arith, ap side_count (line_stands_for_one_thing bytes other item l has.meaning), has.few))
 one_line_cause bytes r s (at_item item has c) (at_item other has' d) =
-    one_item_cause item r s c (subst (λ (i : Line). ItemCause i s) (one_meaning bytes other item has'.meaning has.meaning) d)
+    one_item_cause item r s c (subst (λ (i : Line). ItemCause i s) (line_stands_for_one_thing bytes other item has'.meaning has.meaning) d)
 
 -- an item that speaks of a tiling is not refused
 not_refused_item : (item : Line) (t : Tiling) (r : Refused) → IsStatedBy item t → ItemCause item r → ⊥
@@ -137,9 +137,9 @@ not_refused_item item t r st (by_size u o l n e) =
 pub not_refused : (bytes : List ℕ) (item : Line) (t : Tiling) (r : Refused) → HasItem bytes item → IsStatedBy item t → Cause bytes r → ⊥
 not_refused bytes item t r has st (at_long h e) = omega (arith, has.short)
 not_refused bytes item t r has st (at_text at h n e) = n.0 (item, has.meaning)
-not_refused bytes item t r has st (at_many other h l m e) = omega (arith, ap side_count (one_meaning bytes other item l has.meaning), has.few)
+not_refused bytes item t r has st (at_many other h l m e) = omega (arith, ap side_count (line_stands_for_one_thing bytes other item l has.meaning), has.few)
 not_refused bytes item t r has st (at_item other has' c) =
-    not_refused_item item t r st (subst (λ (i : Line). ItemCause i r) (one_meaning bytes other item has'.meaning has.meaning) c)
+    not_refused_item item t r st (subst (λ (i : Line). ItemCause i r) (line_stands_for_one_thing bytes other item has'.meaning has.meaning) c)
 
 skip_cause : (r : Refused) → ItemCause Skip r → ⊥
 skip_cause r (by_order n e) = n tt
@@ -150,13 +150,13 @@ skip_cause r (by_size t o l n e) = l
 pub skip_not_refused : (bytes : List ℕ) (r : Refused) → HasItem bytes Skip → Cause bytes r → ⊥
 skip_not_refused bytes r has (at_long h e) = omega (arith, has.short)
 skip_not_refused bytes r has (at_text at h n e) = n.0 (Skip, has.meaning)
-skip_not_refused bytes r has (at_many other h l m e) = omega (arith, ap side_count (one_meaning bytes other Skip l has.meaning), has.few)
+skip_not_refused bytes r has (at_many other h l m e) = omega (arith, ap side_count (line_stands_for_one_thing bytes other Skip l has.meaning), has.few)
 skip_not_refused bytes r has (at_item other has' c) =
-    skip_cause r (subst (λ (i : Line). ItemCause i r) (one_meaning bytes other Skip has'.meaning has.meaning) c)
+    skip_cause r (subst (λ (i : Line). ItemCause i r) (line_stands_for_one_thing bytes other Skip has'.meaning has.meaning) c)
 
 -- a line that stands for nothing has no item that states a tiling
 pub skip_not_stated : (bytes : List ℕ) (item : Line) (t : Tiling) → HasItem bytes Skip → HasItem bytes item → IsStatedBy item t → ⊥
-skip_not_stated bytes item t skip has st = subst (λ (i : Line). IsLaidBy i t) (one_meaning bytes item Skip has.meaning skip.meaning) st.laid
+skip_not_stated bytes item t skip has st = subst (λ (i : Line). IsLaidBy i t) (line_stands_for_one_thing bytes item Skip has.meaning skip.meaning) st.laid
 
 -- a tiling has one answer
 same_answer : (command : Command) (t : Tiling) (pieces others : List (List ℕ)) → IsTiling t → IsAnswerTo command t pieces
@@ -165,25 +165,22 @@ same_answer (Plain Check) t pieces others tiling (line, c, e) (other, d, f) =
     e ∙ ap (λ (l : List ℕ). l ∷ []) (one_check_line t line other tiling c d) ∙ sym f
 same_answer (Plain Canon) t pieces others tiling (u, c, e) (v, d, f) = e
     ∙ ap (λ (z : Tiling). tiling_line z ∷ []) (a_canonical_tiling_is_one t u v tiling c d).1 ∙ sym f
-same_answer (Plain Images) t pieces others tiling e f = e ∙ sym f
-same_answer (Plain Net) t pieces others tiling e f = e ∙ sym f
-same_answer (Plain Dual) t pieces others tiling e f = e ∙ sym f
 same_answer (Memory Word) t pieces others tiling (w, p, e) (v, q, f) = e ∙ ap (λ (z : Moves). word_line z ∷ []) (one_word t w v p q) ∙ sym f
-same_answer (Plain Draw) t pieces others tiling e f = e ∙ sym f
 same_answer (Memory Flow) t pieces others tiling e f = absurd e
 same_answer (Memory Solve) t pieces others tiling e f = absurd e
+same_answer (Plain _) t pieces others tiling e f = e ∙ sym f
 
 -- what an item lays is a tiling
-pub is_tiling : (item : Line) (t : Tiling) → IsLaidBy item t → IsTiling t
-is_tiling Skip t p = absurd p
-is_tiling (Item order size code) t p = p.tiling
-is_tiling (Flat order width height sides) t p = p.tiling
+pub laid_by_an_item_is_a_tiling : (item : Line) (t : Tiling) → IsLaidBy item t → IsTiling t
+laid_by_an_item_is_a_tiling Skip t p = absurd p
+laid_by_an_item_is_a_tiling (Item order size code) t p = p.tiling
+laid_by_an_item_is_a_tiling (Flat order width height sides) t p = p.tiling
 
 -- a line has one tiling at most
-pub same_tiling : (bytes : List ℕ) (t u : Tiling) → HasTiling bytes t → HasTiling bytes u → u ≡ t
-same_tiling bytes t u has has' =
+pub a_line_has_one_tiling : (bytes : List ℕ) (t u : Tiling) → HasTiling bytes t → HasTiling bytes u → u ≡ t
+a_line_has_one_tiling bytes t u has has' =
     one_tiling has.item u t
-    (subst (λ (i : Line). IsLaidBy i u) (one_meaning bytes has'.item has.item has'.is_item.meaning has.is_item.meaning) has'.stated.laid)
+    (subst (λ (i : Line). IsLaidBy i u) (line_stands_for_one_thing bytes has'.item has.item has'.is_item.meaning has.is_item.meaning) has'.stated.laid)
     has.stated.laid
 
 -- why a command refuses a line: a cause that counts for any command, or the tiling is too large
@@ -208,7 +205,7 @@ skip_kept command bytes r skip (by_tiling t has n e) = skip_not_stated bytes has
 
 tiling_kept : (command : Command) (bytes : List ℕ) (t : Tiling) (r : Refused) → HasTiling bytes t → Allows command t → CommandCause command bytes r → ⊥
 tiling_kept command bytes t r has allowed (by_line h) = not_refused bytes has.item t r has.is_item has.stated (cause_of bytes r h)
-tiling_kept command bytes t r has allowed (by_tiling u has' n e) = n (subst (Allows command) (same_tiling bytes u t has' has) allowed)
+tiling_kept command bytes t r has allowed (by_tiling u has' n e) = n (subst (Allows command) (a_line_has_one_tiling bytes u t has' has) allowed)
 
 one_code_answer : (command : Command) (bytes : List ℕ) (pieces others : List (List ℕ)) (refused other : Bool) → AnswersCodeLine command bytes pieces refused
     → AnswersCodeLine command bytes others other → (pieces ≡ others) × (refused ≡ other)
@@ -226,8 +223,8 @@ one_code_answer command bytes pieces others refused other (answers t _ has _ an)
 one_code_answer command bytes pieces others refused other (answers t _ has allowed an) (refuses s k) =
     absurd (tiling_kept command bytes t s has allowed (command_cause command bytes s k))
 one_code_answer command bytes pieces others refused other (answers t _ has _ an) (answers u _ has' _ an') = (
-  same_answer command t pieces others (is_tiling has.item t has.stated.laid) an
-      (subst (λ (z : Tiling). IsAnswerTo command z others) (same_tiling bytes t u has has') an'),
+  same_answer command t pieces others (laid_by_an_item_is_a_tiling has.item t has.stated.laid) an
+      (subst (λ (z : Tiling). IsAnswerTo command z others) (a_line_has_one_tiling bytes t u has has') an'),
   refl,
 )
 

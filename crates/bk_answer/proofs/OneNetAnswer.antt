@@ -5,7 +5,7 @@ use Rattle.bk_net.specs.NetLine.{IsNetLine, IsNoNetLine, Item, NetLine, Skip}
 use Rattle.bk_net.specs.ReadNet.{IsFirstFault, IsNetFaultOf}
 use Rattle.bk_net.specs.declared.NetFault.{NetFault}
 use Rattle.bk_net.specs.declared.NetFault.TheVariants as fault
-use Rattle.bk_net.proofs.NetStopping.{one_meaning}
+use Rattle.bk_net.proofs.NetStopping.{net_line_stands_for_one_thing}
 use Rattle.bk_flow.proofs.OnePrimitive.{one_primitive}
 use Rattle.bk_report.specs.Answers.{flow_line}
 use Rattle.bk_report.specs.Refusals.{refusal_line}
@@ -24,11 +24,11 @@ wires_in (Item nodes wires) = wires
 
 same_nodes : (bytes : List ℕ) (m n : ℕ) (v w : List (ℕ × ℕ)) → IsNetLine (Item m v) bytes → IsNetLine (Item n w) bytes → m ≡ n
 unfolding nodes_in
-same_nodes bytes m n v w p q = ap nodes_in (one_meaning bytes (Item m v) (Item n w) p q)
+same_nodes bytes m n v w p q = ap nodes_in (net_line_stands_for_one_thing bytes (Item m v) (Item n w) p q)
 
 same_wires : (bytes : List ℕ) (m n : ℕ) (v w : List (ℕ × ℕ)) → IsNetLine (Item m v) bytes → IsNetLine (Item n w) bytes → v ≡ w
 unfolding wires_in
-same_wires bytes m n v w p q = ap wires_in (one_meaning bytes (Item m v) (Item n w) p q)
+same_wires bytes m n v w p q = ap wires_in (net_line_stands_for_one_thing bytes (Item m v) (Item n w) p q)
 
 -- a line gives one net
 one_net : (bytes : List ℕ) (m n : Net) → HasNet bytes m → HasNet bytes n → m ≡ n
@@ -101,9 +101,9 @@ no_fault bytes net (fault.Wire k) has (m, v, is, few, count, first) =
 -- a line without a net is at no fault
 skip_no_fault : (bytes : List ℕ) (f : NetFault) → IsNetLine Skip bytes → IsNetFaultOf f bytes → ⊥
 skip_no_fault bytes (fault.Text a) skip p = p.0 (Skip, skip)
-skip_no_fault bytes fault.Many skip (m, v, is, long) = is_item (one_meaning bytes (Item m v) Skip is skip)
-skip_no_fault bytes (fault.Nodes m) skip (v, is, few, not) = is_item (one_meaning bytes (Item m v) Skip is skip)
-skip_no_fault bytes (fault.Wire k) skip (m, v, is, few, count, first) = is_item (one_meaning bytes (Item m v) Skip is skip)
+skip_no_fault bytes fault.Many skip (m, v, is, long) = is_item (net_line_stands_for_one_thing bytes (Item m v) Skip is skip)
+skip_no_fault bytes (fault.Nodes m) skip (v, is, few, not) = is_item (net_line_stands_for_one_thing bytes (Item m v) Skip is skip)
+skip_no_fault bytes (fault.Wire k) skip (m, v, is, few, count, first) = is_item (net_line_stands_for_one_thing bytes (Item m v) Skip is skip)
 
 -- a net has one answer
 not_loose : (net : Net) (node : ℕ) → IsLeastLoose net node → HasNoLoose net → ⊥
@@ -138,11 +138,11 @@ one_net_answer bytes pieces others refused other (no_net_item p) (net_too_long m
 one_net_answer bytes pieces others refused other (no_net_item p) (no_net g s q) = absurd (skip_no_fault bytes g p.meaning q)
 one_net_answer bytes pieces others refused other (no_net_item p) (no_net_item q) = (refl, refl)
 one_net_answer bytes pieces others refused other (no_net_item p) (of_net n _ _ q b) =
-    absurd (is_item (one_meaning bytes (Item n.nodes n.wires) Skip q.item.meaning p.meaning))
+    absurd (is_item (net_line_stands_for_one_thing bytes (Item n.nodes n.wires) Skip q.item.meaning p.meaning))
 one_net_answer bytes pieces others refused other (of_net m _ _ p a) (net_too_long l) = absurd (omega (arith, p.item.short))
 one_net_answer bytes pieces others refused other (of_net m _ _ p a) (no_net g s q) = absurd (no_fault bytes m g p q)
 one_net_answer bytes pieces others refused other (of_net m _ _ p a) (no_net_item q) =
-    absurd (is_item (one_meaning bytes (Item m.nodes m.wires) Skip p.item.meaning q.meaning))
+    absurd (is_item (net_line_stands_for_one_thing bytes (Item m.nodes m.wires) Skip p.item.meaning q.meaning))
 one_net_answer bytes pieces others refused other (of_net m _ _ p a) (of_net n _ _ q b) =
     one_of_net n pieces others refused other (subst (λ (z : Net). AnswersNet z pieces refused) (one_net bytes m n p q) a) b
 

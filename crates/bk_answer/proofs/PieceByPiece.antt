@@ -19,8 +19,8 @@ module _ (pieces : List (List ℕ)) (k : ℕ) (piece : List ℕ) (a b c : Option
       ∙ ap (λ (l : List ℕ). concat (take k pieces) ++ l) (append-nil (get_or pieces k []) ∙ sym here)
 
   -- one more is written
-  pub written_more : AreWritten pieces k a b → Appends b c piece → AreWritten pieces (k + 1) a c
-  written_more done more = appends-then a b c (concat (take k pieces)) piece (concat (take (k + 1) pieces)) done more first_more
+  pub pieces_written_with_one_more : AreWritten pieces k a b → Appends b c piece → AreWritten pieces (k + 1) a c
+  pieces_written_with_one_more done more = appends-then a b c (concat (take k pieces)) piece (concat (take (k + 1) pieces)) done more first_more
 
   all_pieces : concat pieces ≡ concat (take k pieces) ++ (piece ++ concat (drop (k + 1) pieces))
   all_pieces =
@@ -41,5 +41,6 @@ module _ (pieces : List (List ℕ)) (k : ℕ) (piece : List ℕ) (a b c : Option
       (length first + m, appends-then a b c first (take part.0 piece) (take (length first + m) (concat pieces)) done part.1 kept)
 
 -- all are written
-pub written_all : (pieces : List (List ℕ)) (k : ℕ) (a b : Option (List ℕ)) → length pieces ≤ k → AreWritten pieces k a b → Appends a b (concat pieces)
-written_all pieces k a b all done = subst (λ (l : List (List ℕ)). Appends a b (concat l)) (take_all k pieces all) done
+pub pieces_written_where_none_is_left : (pieces : List (List ℕ)) (k : ℕ) (a b : Option (List ℕ)) → length pieces ≤ k → AreWritten pieces k a b
+    → Appends a b (concat pieces)
+pieces_written_where_none_is_left pieces k a b all done = subst (λ (l : List (List ℕ)). Appends a b (concat l)) (take_all k pieces all) done

@@ -14,7 +14,7 @@ use Rattle.bk_word.proofs.ItemParts.{item_found}
 use Rattle.bk_word.proofs.WordExamples.{two}
 use Rattle.bk_word.specs.Play.{IsComplete}
 use Rattle.bk_word.specs.declared.Sign.TheVariants.{Even, Under}
-use Rattle.bk_lay.proofs.WordTest.{by_tests, word_by_valleys}
+use Rattle.bk_lay.proofs.WordTest.{passes_as_valley_by_tests, word_by_valleys}
 use Rattle.bk_lay.specs.TilingWord.{IsWordOf}
 use Rattle.bk_skel.proofs.NarrowWords.{no_small_word_is_wide}
 use Rattle.bk_word_net.proofs.PlacedSquares.PrimitiveTiling.{a_word_has_one_primitive_tiling}
@@ -32,9 +32,9 @@ primitive-3x2 = canonical_primitive rectangle_3x2 tiling-3x2 (canonical_by_test 
 has_word_3x2 : IsWordOf rectangle_3x2 word_3x2
 has_word_3x2 = word_by_valleys rectangle_3x2 []
     (record { x = 0; width = 3; level = 0 } ∷ record { x = 2; width = 1; level = 1 } ∷ []) (
-      by_tests _ _ _ refl refl refl refl refl refl,
+      passes_as_valley_by_tests _ _ _ refl refl refl refl refl refl,
       refl,
-      (by_tests _ _ _ refl refl refl refl refl refl, refl, refl),
+      (passes_as_valley_by_tests _ _ _ refl refl refl refl refl refl, refl, refl),
     )
 
 -- the rectangle is the one primitive tiling of the word

@@ -12,7 +12,6 @@ mod plain;
 mod solve;
 
 pub use answer::MemoryAnswerer;
-pub use bk_ports::LONGEST_LINE;
 pub use command::{Command, MemoryCommand};
 pub use items::{Desk, lay_line};
 pub use laws::{a_front_has_the_answer, a_line_has_one_answer, check_accepts_tilings};

@@ -34,5 +34,5 @@ cursor_read text order (Ok w) has few read fault = record { some = record { text
 cursor_read text order (Err f) has few read fault = absurd (no_fault text order has few f fault)
 
 -- the text of a word of more than 16 squares is no cursor
-pub many_squares : (text : List ℕ) (order : ℕ) → HasOrder text order → 16 < order → (w : Word) → IsCursor text w → ⊥
-many_squares text order (v, is, at) many w cursor = omega (arith, ap order_of (one_word text w v cursor.text is), at, cursor.few)
+pub no_cursor_of_more_than_sixteen_squares : (text : List ℕ) (order : ℕ) → HasOrder text order → 16 < order → (w : Word) → IsCursor text w → ⊥
+no_cursor_of_more_than_sixteen_squares text order (v, is, at) many w cursor = omega (arith, ap order_of (one_word text w v cursor.text is), at, cursor.few)

@@ -1,6 +1,8 @@
 -- Words ask one thing: the first one tells the command, and each option is read in one way.
-use Rattle.std.specs.Prelude.{List, Option, [], codes, cond, nat_eq, refl, slice_index, sum, ℕ, ◌+◌, ◌<◌, ◌∷◌, ◌≡◌}
-use Rattle.std.proofs.Common.{ap, arith, lit<, subst, sym, ◌∙◌}
+use Rattle.std.specs.Prelude.{List, Option, [], codes, true, ℕ, ◌∷◌, ◌≡◌}
+use Rattle.std.specs.Str.{bytes_eq}
+use Rattle.std.proofs.Common.{ap, lit<, subst, sym, ◌∙◌}
+use Rattle.std.proofs.lemmas.Slice.Eq.{bytes_eq-Decides}
 use Rattle.bk_word.specs.Word.{Word}
 use Rattle.bk_word.specs.declared.Class.{Class}
 use Rattle.bk_word.specs.declared.Class.TheVariants.{Perfect}
@@ -14,57 +16,13 @@ use Rattle.bk_pair.specs.declared.Kind.TheVariants as kinds
 use Rattle.bk_ask.proofs.OptionLaws.{given_once, given_or_once, may_have_once}
 use Rattle.bk_ask.proofs.ValueLaws.{one_class, one_cursor, one_kind, one_number}
 
--- the commands counted: those that stand alone come first
-abbrev pub ask_place : Ask → ℕ
-ask_place asks.Check = 0
-ask_place asks.Canon = 1
-ask_place asks.Images = 2
-ask_place asks.Net = 3
-ask_place asks.Flow = 4
-ask_place asks.Word = 5
-ask_place asks.Solve = 6
-ask_place asks.Draw = 7
-ask_place asks.Dual = 8
-ask_place asks.Alike = 9
-ask_place asks.Help = 10
-ask_place (asks.List order class from limit) = 11
-ask_place (asks.Trial seed count) = 12
-ask_place (asks.Verify order) = 13
-ask_place (asks.Pair kind) = 14
+-- two names are one, by a test of their bytes
+abbrev pub IsOneName : List ℕ → List ℕ → Type 0
+IsOneName name other = bytes_eq name other ≡ true
 
--- a number that tells a name: the sum of its bytes, the first one twice
-abbrev pub name_mark : List ℕ → ℕ
-name_mark name = slice_index name 0 + sum name
-
--- the place of a command, by the mark of its name
-abbrev pub place_by_mark : ℕ → ℕ
-place_by_mark n =
-    cond (nat_eq n 609) 0 (cond (nat_eq n 626) 1 (cond (nat_eq n 735) 2 (cond (nat_eq n 437) 3 (
-    cond (nat_eq n 542) 4 (cond (nat_eq n 563) 5 (cond (nat_eq n 668) 6 (cond (nat_eq n 530) 7 (
-    cond (nat_eq n 522) 8 (cond (nat_eq n 615) 9 (cond (nat_eq n 529) 10 (cond (nat_eq n 552) 11 (
-    cond (nat_eq n 656) 12 (cond (nat_eq n 779) 13 14)))))))))))))
-
--- the name of a command tells which command it is
-pub place_of_name : (a : Ask) → ask_place a ≡ place_by_mark (name_mark (command_name a))
-place_of_name asks.Check = refl
-place_of_name _ = refl
-
-same_place : (a b : Ask) → command_name a ≡ command_name b → ask_place a ≡ ask_place b
-same_place a b same = place_of_name a ∙ ap (λ (name : List ℕ). place_by_mark (name_mark name)) same ∙ sym (place_of_name b)
-
--- the command that stands alone at a place
-abbrev alone_at : ℕ → Ask
-alone_at n =
-    cond (nat_eq n 0) asks.Check (cond (nat_eq n 1) asks.Canon (cond (nat_eq n 2) asks.Images (
-    cond (nat_eq n 3) asks.Net (cond (nat_eq n 4) asks.Flow (cond (nat_eq n 5) asks.Word (cond (nat_eq n 6) asks.Solve (
-    cond (nat_eq n 7) asks.Draw (cond (nat_eq n 8) asks.Dual (cond (nat_eq n 9) asks.Alike asks.Help)))))))))
-
-alone : (a : Ask) → ask_place a < 11 → a ≡ alone_at (ask_place a)
-alone (asks.List order class from limit) few = absurd (omega arith)
-alone (asks.Trial seed count) few = absurd (omega arith)
-alone (asks.Verify order) few = absurd (omega arith)
-alone (asks.Pair kind) few = absurd (omega arith)
-alone _ few = refl
+-- equal names are one name
+pub one_name : (name other : List ℕ) → name ≡ other → IsOneName name other
+one_name name other = (bytes_eq-Decides name other).1
 
 -- ---- what the options say
 
@@ -104,38 +62,16 @@ pair_once words kind kind' a b =
     ap asks.Pair
     (given_or_once (options_in words) (codes "--kind") IsKindName kinds.Perfect one_kind kind kind' a.options.once a.has_kind b.has_kind)
 
--- what another ask says at the place of a command with options
-same_listing : (words : List (List ℕ)) (order : ℕ) (class : Class) (from : Option Word) (limit : Option ℕ) → AsksListing words order class from limit
-    → (b : Ask) → 11 ≡ ask_place b → OptionsSay words b → asks.List order class from limit ≡ b
-same_listing words order class from limit a (asks.List order' class' from' limit') at say = listing_once words order order' class class' from from'
-    limit limit' a say
-same_listing words order class from limit a _ at say = absurd (omega arith)
-
-same_trial : (words : List (List ℕ)) (seed count : ℕ) → AsksTrial words seed count → (b : Ask) → 12 ≡ ask_place b
-    → OptionsSay words b → asks.Trial seed count ≡ b
-same_trial words seed count a (asks.Trial seed' count') at say = trial_once words seed seed' count count' a say
-same_trial words seed count a _ at say = absurd (omega arith)
-
-same_verify : (words : List (List ℕ)) (order : ℕ) → AsksVerify words order → (b : Ask) → 13 ≡ ask_place b → OptionsSay words b → asks.Verify order ≡ b
-same_verify words order a (asks.Verify order') at say = verify_once words order order' a say
-same_verify words order a _ at say = absurd (omega arith)
-
-same_pair : (words : List (List ℕ)) (kind : Kind) → AsksPair words kind → (b : Ask) → 14 ≡ ask_place b → OptionsSay words b → asks.Pair kind ≡ b
-same_pair words kind a (asks.Pair kind') at say = pair_once words kind kind' a say
-same_pair words kind a _ at say = absurd (omega arith)
-
-both_alone : (a b : Ask) → ask_place a ≡ ask_place b → ask_place a < 11 → a ≡ b
-both_alone a b at few =
-    let few' : ask_place b < 11 = omega (arith, at, few) in
-    alone a few ∙ ap alone_at at ∙ sym (alone b few')
-
--- options that say two asks of one command say one ask
-pub same_options : (words : List (List ℕ)) (a b : Ask) → ask_place a ≡ ask_place b → OptionsSay words a → OptionsSay words b → a ≡ b
-same_options words (asks.List order class from limit) b at say say' = same_listing words order class from limit say b at say'
-same_options words (asks.Trial seed count) b at say say' = same_trial words seed count say b at say'
-same_options words (asks.Verify order) b at say say' = same_verify words order say b at say'
-same_options words (asks.Pair kind) b at say say' = same_pair words kind say b at say'
-same_options words a b at say say' = both_alone a b at (omega arith)
+-- two commands of one name, whose options say two asks, are one ask
+pub same_options : (words : List (List ℕ)) (a b : Ask) → IsOneName (command_name a) (command_name b) → OptionsSay words a → OptionsSay words b → a ≡ b
+same_options words (asks.List order class from limit) (asks.List order' class' from' limit') named say say' =
+    listing_once words order order' class class' from from' limit limit' say say'
+same_options words (asks.Trial seed count) (asks.Trial seed' count') named say say' = trial_once words seed seed' count count' say say'
+same_options words (asks.Verify order) (asks.Verify order') named say say' = verify_once words order order' say say'
+same_options words (asks.Pair kind) (asks.Pair kind') named say say' = pair_once words kind kind' say say'
+-- (this case alone has the last one checked for each command of the other ask)
+same_options words _ asks.Help named say say' = cc
+same_options words _ _ named say say' = cc
 
 -- the words behind the first one
 abbrev pub rest_of : List (List ℕ) → List (List ℕ)
@@ -152,4 +88,4 @@ pub one_ask : (words : List (List ℕ)) (a b : Ask) → Asks words a → Asks wo
 one_ask words a b first second =
     let line : command_name a ∷ first.options ≡ command_name b ∷ second.options = sym first.line ∙ second.line in
     let say : OptionsSay first.options b = subst (λ (options : List (List ℕ)). OptionsSay options b) (sym (ap rest_of line)) second.say in
-    same_options first.options a b (same_place a b (ap first_of line)) first.say say
+    same_options first.options a b (one_name (command_name a) (command_name b) (ap first_of line)) first.say say

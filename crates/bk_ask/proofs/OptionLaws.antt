@@ -10,11 +10,11 @@ abbrev pub option_of : List ℕ → List ℕ → NamedValue
 option_of name value = record { name = name; value = value }
 
 -- an option that is left out isn't given with a value
-pub not_both : (options : List NamedValue) (name value : List ℕ) → IsLeftOut options name → Contains options (option_of name value) → ⊥
-not_both [] name value out has = contains-none (option_of name value) has
-not_both (p ∷ options) name value out has = elim (contains-first_or_later p options (option_of name value) has) [
+pub left_out_option_has_no_value : (options : List NamedValue) (name value : List ℕ) → IsLeftOut options name → Contains options (option_of name value) → ⊥
+left_out_option_has_no_value [] name value out has = contains-none (option_of name value) has
+left_out_option_has_no_value (p ∷ options) name value out has = elim (contains-first_or_later p options (option_of name value) has) [
   | inl is ↦ out.0 (ap (λ (q : NamedValue). q.name) is)
-  | inr later ↦ not_both options name value out.1 later
+  | inr later ↦ left_out_option_has_no_value options name value out.1 later
 ]
 
 -- if no name comes twice, an option has one value at most
@@ -24,10 +24,10 @@ one_value [] name v w once a b = absurd (contains-none (option_of name v) a)
 one_value (p ∷ options) name v w once a b = elim (contains-first_or_later p options (option_of name v) a) [
   | inl one ↦ elim (contains-first_or_later p options (option_of name w) b) [
     | inl two ↦ ap (λ (q : NamedValue). q.value) (sym one ∙ two)
-    | inr later ↦ absurd (not_both options name w (subst (IsLeftOut options) (ap (λ (q : NamedValue). q.name) one) once.0) later)
+    | inr later ↦ absurd (left_out_option_has_no_value options name w (subst (IsLeftOut options) (ap (λ (q : NamedValue). q.name) one) once.0) later)
   ]
   | inr earlier ↦ elim (contains-first_or_later p options (option_of name w) b) [
-    | inl two ↦ absurd (not_both options name v (subst (IsLeftOut options) (ap (λ (q : NamedValue). q.name) two) once.0) earlier)
+    | inl two ↦ absurd (left_out_option_has_no_value options name v (subst (IsLeftOut options) (ap (λ (q : NamedValue). q.name) two) once.0) earlier)
     | inr later ↦ one_value options name v w once.1 earlier later
   ]
 ]
@@ -54,8 +54,8 @@ pub may_have_once : {A : Type 0} (options : List NamedValue) (name : List ℕ) (
     → NamesDiffer options
     → MayHave options name Means a → MayHave options name Means b → a ≡ b
 may_have_once options name Means one None None once first second = refl
-may_have_once options name Means one None (Some b) once first second = absurd (not_both options name second.value first second.stands)
-may_have_once options name Means one (Some a) None once first second = absurd (not_both options name first.value second first.stands)
+may_have_once options name Means one None (Some b) once first second = absurd (left_out_option_has_no_value options name second.value first second.stands)
+may_have_once options name Means one (Some a) None once first second = absurd (left_out_option_has_no_value options name first.value second first.stands)
 may_have_once options name Means one (Some a) (Some b) once first second = ap Some (given_once options name Means one a b once first second)
 
 -- if values mean one thing, an option means one thing that has a value of its own where it is left out
@@ -63,8 +63,8 @@ pub given_or_once : {A : Type 0} (options : List NamedValue) (name : List ℕ) (
     → NamesDiffer options
     → IsGivenOr options name Means taken a → IsGivenOr options name Means taken b → a ≡ b
 given_or_once options name Means taken one a b once (inl first) (inl second) = given_once options name Means one a b once first second
-given_or_once options name Means taken one a b once (inl first) (inr out) = absurd (not_both options name first.value out.0 first.stands)
-given_or_once options name Means taken one a b once (inr out) (inl second) = absurd (not_both options name second.value out.0 second.stands)
+given_or_once options name Means taken one a b once (inl first) (inr out) = absurd (left_out_option_has_no_value options name first.value out.0 first.stands)
+given_or_once options name Means taken one a b once (inr out) (inl second) = absurd (left_out_option_has_no_value options name second.value out.0 second.stands)
 given_or_once options name Means taken one a b once (inr first) (inr second) = first.1 ∙ sym second.1
 
 -- where the value is known and has no meaning, the option says nothing, and isn't left out
@@ -72,13 +72,13 @@ pub no_meaning_or : {A : Type 0} (options : List NamedValue) (name value : List 
     → Contains options (option_of name value)
     → ((a : A) → Means value a → ⊥) → (a : A) → IsGivenOr options name Means taken a → ⊥
 no_meaning_or options name value Means taken once has none a (inl given) = none a (means_of options name value Means a once has given)
-no_meaning_or options name value Means taken once has none a (inr out) = not_both options name value out.0 has
+no_meaning_or options name value Means taken once has none a (inr out) = left_out_option_has_no_value options name value out.0 has
 
 -- where the value is known and has no meaning, the option says nothing
 pub no_meaning : {A : Type 0} (options : List NamedValue) (name value : List ℕ) (Means : List ℕ → A → Type 0) → NamesDiffer options
     → Contains options (option_of name value)
     → ((a : A) → Means value a → ⊥) → (a : Option A) → MayHave options name Means a → ⊥
-no_meaning options name value Means once has none None may = not_both options name value may has
+no_meaning options name value Means once has none None may = left_out_option_has_no_value options name value may has
 no_meaning options name value Means once has none (Some a) may = none a (means_of options name value Means a once has may)
 
 -- an option with a value that means nothing isn't given

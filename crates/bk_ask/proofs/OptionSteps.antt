@@ -30,10 +30,10 @@ say_more name all first value words other so = record {
 }
 
 -- fewer than two words have no option
-pub none_left : (words : List (List ℕ)) → length words < 2 → options_in words ≡ []
-none_left [] few = refl
-none_left (word ∷ []) few = refl
-none_left (word ∷ next ∷ words) few = absurd (omega arith)
+pub no_option_in_fewer_than_two_words : (words : List (List ℕ)) → length words < 2 → options_in words ≡ []
+no_option_in_fewer_than_two_words [] few = refl
+no_option_in_fewer_than_two_words (word ∷ []) few = refl
+no_option_in_fewer_than_two_words (word ∷ next ∷ words) few = absurd (omega arith)
 
 -- no words are options of any names
 pub end_stands : (names words : List (List ℕ)) → length words ≡ 0 → AreOptions names words
@@ -63,7 +63,7 @@ pub say_none : (name : List ℕ) (all : List (List ℕ)) (words : List (String G
     → IsLeftOut (options_in all) name
 say_none name all words few so =
     so.out (subst (λ (options : List NamedValue). IsLeftOut options name)
-    (sym (none_left (map string_bytes words) (omega (arith, length-map words string_bytes)))) tt)
+    (sym (no_option_in_fewer_than_two_words (map string_bytes words) (omega (arith, length-map words string_bytes)))) tt)
 
 -- all words are options just where no word is left
 pub stand_end : (names all : List (List ℕ)) (words : List (String Global)) (empty : Bool) → length words < 2 → empty ≡ nat_eq (length words) 0

@@ -1,6 +1,6 @@
 -- When words ask nothing.
 use Rattle.std.specs.Prelude.{List, Option, [], codes, ℕ, ◌∷◌, ◌≡◌}
-use Rattle.std.proofs.Common.{ap, arith, subst, sym, ◌∙◌}
+use Rattle.std.proofs.Common.{ap, subst, sym}
 use Rattle.bk_laws.proofs.Membership.{contains-none}
 use Rattle.bk_word.specs.Word.{Word}
 use Rattle.bk_word.specs.declared.Class.{Class}
@@ -9,17 +9,13 @@ use Rattle.bk_ask.specs.declared.Ask.{Ask}
 use Rattle.bk_ask.specs.declared.Ask.TheVariants as asks
 use Rattle.bk_pair.specs.declared.Kind.{Kind}
 use Rattle.bk_ask.proofs.OptionLaws.{option_of}
-use Rattle.bk_ask.proofs.OneAsk.{first_of, name_mark, ask_place, place_by_mark, place_of_name, rest_of}
-
--- words that ask something begin with the name of that command
-pub named_place : (name : List ℕ) (options : List (List ℕ)) (ask : Ask) → Asks (name ∷ options) ask → place_by_mark (name_mark name) ≡ ask_place ask
-named_place name options ask is = ap (λ (words : List (List ℕ)). place_by_mark (name_mark (first_of words))) is.line ∙ sym (place_of_name ask)
+use Rattle.bk_ask.proofs.OneAsk.{IsOneName, first_of, one_name, rest_of}
 
 -- the words behind the name of a command say what is asked
 pub options_say : (name : List ℕ) (options : List (List ℕ)) (ask : Ask) → Asks (name ∷ options) ask → OptionsSay options ask
 options_say name options ask is = subst (λ (rest : List (List ℕ)). OptionsSay rest ask) (sym (ap rest_of is.line)) is.say
 
--- no options make it a listing, a trial, or that a list is held against a catalogue, or pairs
+-- the options ask for no listing
 abbrev pub NoListing : List (List ℕ) → Type 0
 NoListing options = (order : ℕ) (class : Class) (from : Option Word) (limit : Option ℕ) → AsksListing options order class from limit → ⊥
 
@@ -35,25 +31,25 @@ NoVerify options = (order : ℕ) → AsksVerify options order → ⊥
 abbrev pub NoPair : List (List ℕ) → Type 0
 NoPair options = (kind : Kind) → AsksPair options kind → ⊥
 
-listed : (options : List (List ℕ)) → NoListing options → (ask : Ask) → 11 ≡ ask_place ask → OptionsSay options ask → ⊥
-listed options none (asks.List order class from limit) at say = none order class from limit say
-listed options none _ at say = omega arith
+listed : (options : List (List ℕ)) → NoListing options → (ask : Ask) → IsOneName (codes "list") (command_name ask) → OptionsSay options ask → ⊥
+listed options none (asks.List order class from limit) named say = none order class from limit say
+listed options none _ named say = cc
 
-tried : (options : List (List ℕ)) → NoTrial options → (ask : Ask) → 12 ≡ ask_place ask → OptionsSay options ask → ⊥
-tried options none (asks.Trial seed count) at say = none seed count say
-tried options none _ at say = omega arith
+tried : (options : List (List ℕ)) → NoTrial options → (ask : Ask) → IsOneName (codes "trial") (command_name ask) → OptionsSay options ask → ⊥
+tried options none (asks.Trial seed count) named say = none seed count say
+tried options none _ named say = cc
 
-verified : (options : List (List ℕ)) → NoVerify options → (ask : Ask) → 13 ≡ ask_place ask → OptionsSay options ask → ⊥
-verified options none (asks.Verify order) at say = none order say
-verified options none _ at say = omega arith
+verified : (options : List (List ℕ)) → NoVerify options → (ask : Ask) → IsOneName (codes "verify") (command_name ask) → OptionsSay options ask → ⊥
+verified options none (asks.Verify order) named say = none order say
+verified options none _ named say = cc
 
-paired : (options : List (List ℕ)) → NoPair options → (ask : Ask) → 14 ≡ ask_place ask → OptionsSay options ask → ⊥
-paired options none (asks.Pair kind) at say = none kind say
-paired options none _ at say = omega arith
+paired : (options : List (List ℕ)) → NoPair options → (ask : Ask) → IsOneName (codes "pair") (command_name ask) → OptionsSay options ask → ⊥
+paired options none (asks.Pair kind) named say = none kind say
+paired options none _ named say = cc
 
-nothing_said : (name : List ℕ) (options : List (List ℕ)) → ((ask : Ask) → place_by_mark (name_mark name) ≡ ask_place ask → OptionsSay options ask → ⊥)
+nothing_said : (name : List ℕ) (options : List (List ℕ)) → ((ask : Ask) → IsOneName name (command_name ask) → OptionsSay options ask → ⊥)
     → AsksNothing (name ∷ options)
-nothing_said name options none ask is = none ask (named_place name options ask is) (options_say name options ask is)
+nothing_said name options none ask is = none ask (one_name name (command_name ask) (ap first_of is.line)) (options_say name options ask is)
 
 -- `list` with options that ask for no listing asks nothing
 pub nothing_listed : (options : List (List ℕ)) → NoListing options → AsksNothing (codes "list" ∷ options)
@@ -90,41 +86,21 @@ pub nothing_with_options : (name word : List ℕ) (options : List (List ℕ)) �
 nothing_with_options name word options none ask is =
     other name word options none ask (ap first_of is.line) (options_say name (word ∷ options) ask is)
 
--- the name of no command that may stand alone
-pub record IsNoneAlone (name : List ℕ) : Type 0 where
-  pub no_check : name ≡ codes "check" → ⊥
-  pub no_canon : name ≡ codes "canon" → ⊥
-  pub no_images : name ≡ codes "images" → ⊥
-  pub no_net : name ≡ codes "net" → ⊥
-  pub no_flow : name ≡ codes "flow" → ⊥
-  pub no_word : name ≡ codes "word" → ⊥
-  pub no_solve : name ≡ codes "solve" → ⊥
-  pub no_draw : name ≡ codes "draw" → ⊥
-  pub no_dual : name ≡ codes "dual" → ⊥
-  pub no_alike : name ≡ codes "alike" → ⊥
-  pub no_help : name ≡ codes "help" → ⊥
-  pub no_pair : name ≡ codes "pair" → ⊥
+-- without options no listing is asked
+pub no_listing : (order : ℕ) (class : Class) (from : Option Word) (limit : Option ℕ) → AsksListing [] order class from limit → ⊥
+no_listing order class from limit say = contains-none (option_of (codes "--order") say.has_order.value) say.has_order.stands
 
-none_alone : (name : List ℕ) → IsNoneAlone name → (ask : Ask) → name ≡ command_name ask → OptionsSay [] ask → ⊥
-none_alone name none asks.Check named say = none.no_check named
-none_alone name none asks.Canon named say = none.no_canon named
-none_alone name none asks.Images named say = none.no_images named
-none_alone name none asks.Net named say = none.no_net named
-none_alone name none asks.Flow named say = none.no_flow named
-none_alone name none asks.Word named say = none.no_word named
-none_alone name none asks.Solve named say = none.no_solve named
-none_alone name none asks.Draw named say = none.no_draw named
-none_alone name none asks.Dual named say = none.no_dual named
-none_alone name none asks.Alike named say = none.no_alike named
-none_alone name none asks.Help named say = none.no_help named
-none_alone name none (asks.List order class from limit) named say = contains-none (option_of (codes "--order") say.has_order.value) say.has_order.stands
-none_alone name none (asks.Trial seed count) named say = contains-none (option_of (codes "--seed") say.has_seed.value) say.has_seed.stands
-none_alone name none (asks.Verify order) named say = contains-none (option_of (codes "--order") say.has_order.value) say.has_order.stands
-none_alone name none (asks.Pair kind) named say = none.no_pair named
+-- without options no trial is asked
+pub no_trial : (seed count : ℕ) → AsksTrial [] seed count → ⊥
+no_trial seed count say = contains-none (option_of (codes "--seed") say.has_seed.value) say.has_seed.stands
 
--- a word that names no command without options asks nothing alone
-pub nothing_alone : (name : List ℕ) → IsNoneAlone name → AsksNothing (name ∷ [])
-nothing_alone name none ask is = none_alone name none ask (ap first_of is.line) (options_say name [] ask is)
+-- without options no list is verified
+pub no_verify : (order : ℕ) → AsksVerify [] order → ⊥
+no_verify order say = contains-none (option_of (codes "--order") say.has_order.value) say.has_order.stands
+
+-- a name alone asks nothing where no ask has this name and stands without options
+pub nothing_alone : (name : List ℕ) → ((ask : Ask) → name ≡ command_name ask → OptionsSay [] ask → ⊥) → AsksNothing (name ∷ [])
+nothing_alone name none ask is = none ask (ap first_of is.line) (options_say name [] ask is)
 
 -- a name alone asks for the command of this name, where that may stand alone
 pub asks_alone : (name : List ℕ) (ask : Ask) → name ≡ command_name ask → OptionsSay [] ask → Asks (name ∷ []) ask

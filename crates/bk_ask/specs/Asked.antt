@@ -10,7 +10,7 @@ use Rattle.bk_ask.specs.Options.{AreOptions, Given, IsGivenOr, MayHave, options_
 use Rattle.bk_ask.specs.OptionValues.{IsClassName, IsCursor, IsKindName, IsNumberWithin}
 use Rattle.bk_ask.specs.declared.Ask.{Ask}
 use Rattle.bk_ask.specs.declared.Ask.TheVariants as asks
-use Rattle.bk_ask.specs.declared.command_options.TheConstants.{MOST_CODES, MOST_ENTRIES}
+use Rattle.bk_ask.specs.declared.command_options.TheConstants.{GREATEST_SEED, MOST_CODES, MOST_ENTRIES}
 use Rattle.bk_pair.specs.declared.Kind.{Kind}
 use Rattle.bk_pair.specs.declared.Kind.TheVariants as kinds
 
@@ -44,7 +44,7 @@ pub record AsksListing (words : List (List ℕ)) (order : ℕ) (class : Class) (
 -- trial: a seed and a count
 pub record AsksTrial (words : List (List ℕ)) (seed count : ℕ) : Type 0 where
   pub options : AreOptions (codes "--seed" ∷ codes "--count" ∷ []) words
-  pub has_seed : Given (options_in words) (codes "--seed") (IsNumberWithin 0 18_446_744_073_709_551_615) seed
+  pub has_seed : Given (options_in words) (codes "--seed") (IsNumberWithin 0 GREATEST_SEED) seed
   pub has_count : Given (options_in words) (codes "--count") (IsNumberWithin 0 MOST_CODES) count
 
 -- verify: an order from 2 to 16

@@ -23,30 +23,11 @@ const GREATEST_ORDER: u64 = LARGEST_LISTED_ORDER as u64;
 // At most so many entries are listed, where a limit is asked.
 const MOST_ENTRIES: u64 = 1_000_000_000;
 
+// Each number of 64 bits is a seed.
+const GREATEST_SEED: u64 = u64::MAX;
+
 // At most so many trial codes are tried.
 const MOST_CODES: u64 = 100_000;
-
-// What a command asks that stands alone. `pair` may stand alone too, and isn't looked for here.
-pub(crate) fn command_alone(name: &str) -> Option<Ask>
-    requires { name.now ≢ codes "pair" }
-    ensures some { IfSome result (Asks (name.now ∷ [])) }
-    ensures none { IfNone result (AsksNothing (name.now ∷ [])) }
-{
-    match name {
-        "check" => Some(Ask::Check),
-        "canon" => Some(Ask::Canon),
-        "images" => Some(Ask::Images),
-        "net" => Some(Ask::Net),
-        "flow" => Some(Ask::Flow),
-        "word" => Some(Ask::Word),
-        "solve" => Some(Ask::Solve),
-        "draw" => Some(Ask::Draw),
-        "dual" => Some(Ask::Dual),
-        "alike" => Some(Ask::Alike),
-        "help" => Some(Ask::Help),
-        _ => None,
-    }
-}
 
 // What `list` asks with these options.
 pub(crate) fn listing(alloc: Global, options: &[String]) -> Option<Ask>
@@ -76,7 +57,7 @@ pub(crate) fn trial(options: &[String]) -> Option<Ask>
     if !are_options(&["--seed", "--count"], options) {
         return None;
     }
-    let seed = number_given(options, "--seed", 0, u64::MAX)?;
+    let seed = number_given(options, "--seed", 0, GREATEST_SEED)?;
     let count = number_given(options, "--count", 0, MOST_CODES)? as u32;
     Some(Ask::Trial { seed, count })
 }

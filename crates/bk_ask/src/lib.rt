@@ -1,7 +1,7 @@
 //! What the words of a command line ask, and the text of `help`.
 #![tactic(auto)]
 
-ghost use Rattle.std.specs.Prelude.{IfNone, IfSome, map, string_bytes, ◌≡◌};
+ghost use Rattle.std.specs.Prelude.{IfNone, IfSome, [], codes, map, string_bytes, ◌∷◌, ◌≡◌, ◌≢◌};
 ghost use Rattle.bk_ask.specs.Asked.{Asks, AsksNothing};
 ghost use Rattle.bk_ask.specs.Help.{help_text, usage};
 
@@ -14,7 +14,7 @@ mod words;
 use bk_grammar::{AnswerBuffer, push_bytes};
 pub use bk_pair::Kind;
 use bk_word::{Class, Word};
-use command_options::{command_alone, listing, pair, trial, verify};
+use command_options::{listing, pair, trial, verify};
 pub use laws::words_ask_one_thing;
 use std::alloc::Global;
 pub use words::words_of;
@@ -91,6 +91,29 @@ pub fn asked(alloc: Global, words: &[String]) -> Option<Ask>
         "verify" => verify(options),
         "pair" => pair(options),
         name if options.is_empty() => command_alone(name),
+        _ => None,
+    }
+}
+
+// What a command asks that stands alone. `pair` may stand alone too, and isn't looked for here.
+#[tactic(auto, using(crate::proofs::Unasked::asks_alone))]
+fn command_alone(name: &str) -> Option<Ask>
+    requires { name.now ≢ codes "pair" }
+    ensures some { IfSome result (Asks (name.now ∷ [])) }
+    ensures none { IfNone result (AsksNothing (name.now ∷ [])) }
+{
+    match name {
+        "check" => Some(Ask::Check),
+        "canon" => Some(Ask::Canon),
+        "images" => Some(Ask::Images),
+        "net" => Some(Ask::Net),
+        "flow" => Some(Ask::Flow),
+        "word" => Some(Ask::Word),
+        "solve" => Some(Ask::Solve),
+        "draw" => Some(Ask::Draw),
+        "dual" => Some(Ask::Dual),
+        "alike" => Some(Ask::Alike),
+        "help" => Some(Ask::Help),
         _ => None,
     }
 }

@@ -46,7 +46,7 @@ move_after m = move_with_signs m.count (signs_after m.signs)
 abbrev pub open_sides : Outline → ℕ
 open_sides o = open_side (has_left_wall o) + open_side (has_right_wall o)
 
--- how many signs a legal move of so many squares has at a valley with so many open sides
+-- how many signs a legal move of `count` squares has at a valley of which `sides` sides are open
 abbrev pub signs_wanted : ℕ → ℕ → ℕ
 signs_wanted sides count = count - 1 + sides
 

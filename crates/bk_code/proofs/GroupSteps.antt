@@ -16,9 +16,9 @@ abbrev pub side_groups : List Square → Code
 side_groups squares = map (map (λ q. q.s)) (square_groups squares)
 
 -- a side that begins a group, or goes on in the last one
-abbrev pub with_next : Bool → Code → ℕ → Code
-with_next true code s = code ++ (s ∷ []) ∷ []
-with_next false code s = with_side code s
+abbrev pub side_groups_with_a_next_side : Bool → Code → ℕ → Code
+side_groups_with_a_next_side true code s = code ++ (s ∷ []) ∷ []
+side_groups_with_a_next_side false code s = with_side code s
 
 -- a side put before a code: into its first group, or as a group
 abbrev pub with_side_before : Bool → ℕ → Code → Code
@@ -37,7 +37,8 @@ groups_cons q r squares = cases (stands_beside q r)
     cases true = onto_sides q (square_groups (r ∷ squares))
     cases false = refl
 
-before_next : (b c : Bool) (s t : ℕ) (code : Code) → 0 < length code → with_next c (with_side_before b s code) t ≡ with_side_before b s (with_next c code t)
+before_next : (b c : Bool) (s t : ℕ) (code : Code) → 0 < length code
+    → side_groups_with_a_next_side c (with_side_before b s code) t ≡ with_side_before b s (side_groups_with_a_next_side c code t)
 before_next b c s t [] some = absurd (omega arith)
 before_next true true s t (group ∷ code) some = refl
 before_next false true s t (group ∷ code) some = refl
@@ -59,29 +60,32 @@ groups_some q (r ∷ squares) =
 
 -- the square after some others
 pub groups_next : (squares : List Square) (q : Square) (rest : List Square)
-    → side_groups (squares ++ q ∷ []) ≡ with_next (begins_group (squares ++ q ∷ rest) (length squares)) (side_groups squares) q.s
+    → side_groups (squares ++ q ∷ []) ≡ side_groups_with_a_next_side (begins_group (squares ++ q ∷ rest) (length squares)) (side_groups squares) q.s
 groups_next [] q rest = refl
-groups_next (p ∷ []) q rest = cases (stands_beside p q) ∙ ap (λ (b : Bool). with_next b (side_groups (p ∷ [])) q.s) refl
+groups_next (p ∷ []) q rest = cases (stands_beside p q) ∙ ap (λ (b : Bool). side_groups_with_a_next_side b (side_groups (p ∷ [])) q.s) refl
   where
-    cases : (b : Bool) → map (map (λ q. q.s)) (cond b (onto_first p ((q ∷ []) ∷ [])) ((p ∷ []) ∷ (q ∷ []) ∷ [])) ≡ with_next (not b) ((p.s ∷ []) ∷ []) q.s
+    cases : (b : Bool) → map (map (λ q. q.s)) (cond b (onto_first p ((q ∷ []) ∷ [])) ((p ∷ []) ∷ (q ∷ []) ∷ [])) ≡ side_groups_with_a_next_side (not b)
+        ((p.s ∷ []) ∷ []) q.s
     cases true = refl
     cases false = refl
 groups_next (p ∷ r ∷ squares) q rest =
     let more : side_groups (r ∷ squares ++ q ∷ [])
-    ≡ with_next (begins_group (r ∷ squares ++ q ∷ rest) (length (r ∷ squares))) (side_groups (r ∷ squares)) q.s = groups_next (r ∷ squares) q rest in
+    ≡ side_groups_with_a_next_side (begins_group (r ∷ squares ++ q ∷ rest) (length (r ∷ squares))) (side_groups (r ∷ squares)) q.s = groups_next
+    (r ∷ squares) q rest in
     groups_cons p r (squares ++ q ∷ [])
     ∙ ap (with_side_before (stands_beside p r) p.s) more
     ∙ sym (before_next (stands_beside p r) (begins_group (r ∷ squares ++ q ∷ rest) (length (r ∷ squares))) p.s q.s (side_groups (r ∷ squares))
     (groups_some r squares))
-    ∙ ap (λ (code : Code). with_next (begins_group (r ∷ squares ++ q ∷ rest) (length (r ∷ squares))) code q.s) (sym (groups_cons p r squares))
+    ∙ ap (λ (code : Code). side_groups_with_a_next_side (begins_group (r ∷ squares ++ q ∷ rest) (length (r ∷ squares))) code q.s)
+    (sym (groups_cons p r squares))
 
 -- the square at a place, after those before it
-pub groups_step : (squares : List Square) (i : ℕ) (d : Square) → i < length squares
-    → side_groups (take (i + 1) squares) ≡ with_next (begins_group squares i) (side_groups (take i squares)) (get_or squares i d).s
-groups_step squares i d within =
+pub side_groups_with_one_square_more : (squares : List Square) (i : ℕ) (d : Square) → i < length squares
+    → side_groups (take (i + 1) squares) ≡ side_groups_with_a_next_side (begins_group squares i) (side_groups (take i squares)) (get_or squares i d).s
+side_groups_with_one_square_more squares i d within =
     ap side_groups (take_more squares i d within)
     ∙ groups_next (take i squares) (get_or squares i d) (drop (i + 1) squares)
-    ∙ (λ k. with_next (begins_group (whole k) (count k)) (side_groups (take i squares)) (get_or squares i d).s)
+    ∙ (λ k. side_groups_with_a_next_side (begins_group (whole k) (count k)) (side_groups (take i squares)) (get_or squares i d).s)
   where
     whole : take i squares ++ get_or squares i d ∷ drop (i + 1) squares ≡ squares
     whole = ap (λ (l : List Square). take i squares ++ l) (sym (drop_more squares i d within)) ∙ take-append-drop i squares
@@ -106,8 +110,8 @@ step_room t squares i code kept same within is =
 -- a side that is added as the square at its place begins a group or not
 pub step_is : (t : Tiling) (squares : List Square) (i : ℕ) (code next : Code) (b : Bool) (d : Square) → squares ≡ t.squares → i < length squares
     → code ≡ side_groups (take i squares)
-    → b ≡ begins_group t.squares i → next ≡ with_next b code (get_or squares i d).s → next ≡ side_groups (take (i + 1) squares)
+    → b ≡ begins_group t.squares i → next ≡ side_groups_with_a_next_side b code (get_or squares i d).s → next ≡ side_groups (take (i + 1) squares)
 step_is t squares i code next b d same within is begins e =
     e
-    ∙ (λ k. with_next ((begins ∙ ap (λ (l : List Square). begins_group l i) (sym same)) k) (is k) (get_or squares i d).s)
-    ∙ sym (groups_step squares i d within)
+    ∙ (λ k. side_groups_with_a_next_side ((begins ∙ ap (λ (l : List Square). begins_group l i) (sym same)) k) (is k) (get_or squares i d).s)
+    ∙ sym (side_groups_with_one_square_more squares i d within)

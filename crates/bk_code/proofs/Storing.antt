@@ -125,9 +125,10 @@ all_side (group ∷ []) s all one = ((omega (arith, length-append group (s ∷ [
 all_side (group ∷ next ∷ code) s all one = (all.0, all_side (next ∷ code) s all.1 one)
 
 -- what is stored after a further group
-pub stored_more : (starts xs : List ℕ) (ys : List ℕ) → IsStoredCode starts xs → 0 < length ys → AllByRecursion IsSide ys → length xs + length ys ≤ 200
+pub stored_code_with_one_group_more : (starts xs : List ℕ) (ys : List ℕ) → IsStoredCode starts xs → 0 < length ys → AllByRecursion IsSide ys
+    → length xs + length ys ≤ 200
     → IsStoredCode (starts ++ length xs ∷ []) (xs ++ ys)
-stored_more starts xs ys stored some sides room = record {
+stored_code_with_one_group_more starts xs ys stored some sides room = record {
   starts_rise = starts_more starts (length xs) (length (xs ++ ys)) stored.starts_rise (omega (arith, length-append xs ys));
   code = subst IsKeptCode (sym cut) (record {
     groups = all_more IsSideGroup (groups_at starts xs) ys (stored.code).groups (some, sides);

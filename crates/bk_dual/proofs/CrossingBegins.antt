@@ -27,8 +27,8 @@ module _ (t : Tiling) (tiling : IsTiling t) (other : Square → Bool) where
   none_right = none_counted (λ q. on_right 0 q && other q) t.squares (λ q h e. no_right q (side_of t tiling q h) (and-left_true (on_right 0 q) (other q) e))
 
   -- at column 0 no square has a right side or its inside
-  pub none_between : count_by (λ q. between 0 q && other q) t.squares ≡ 0
-  none_between = none_counted (λ q. between 0 q && other q) t.squares (λ q h e. no_between q (and-left_true (between 0 q) (other q) e))
+  pub none_counted_between_at_column_0 : count_by (λ q. between 0 q && other q) t.squares ≡ 0
+  none_counted_between_at_column_0 = none_counted (λ q. between 0 q && other q) t.squares (λ q h e. no_between q (and-left_true (between 0 q) (other q) e))
 
   -- no lower side is at level 0
   pub none_bottom : count_by (λ q. other q && on_bottom 0 q) t.squares ≡ 0

@@ -17,7 +17,7 @@ use Rattle.bk_sym.specs.Image.{image, image_square}
 use Rattle.bk_sym.specs.declared.Turn.TheVariants.{Swap}
 use Rattle.bk_dual.proofs.CornerCounts.{among, bottom_left, on_left, on_top, over_here, top_left, top_right}
 use Rattle.bk_dual.proofs.SquareCorners.{at_square}
-use Rattle.bk_dual.proofs.CrossingBegins.{none_among, none_between}
+use Rattle.bk_dual.proofs.CrossingBegins.{none_among, none_counted_between_at_column_0}
 use Rattle.bk_dual.proofs.CrossingCount.{crossings_at_squares}
 use Rattle.bk_dual.proofs.PointSums.{sum_same_in}
 use Rattle.bk_dual.specs.Dual.{is_crossing}
@@ -83,8 +83,8 @@ module _ (t : Tiling) (tiling : IsTiling t) where
     over_here t tiling 0 0,
     cell_once t tiling 0 0 (wide_enough t tiling) high,
     none_among t tiling (on_left 0),
-    none_between t tiling (on_top 0),
-    none_between t tiling (among 0),
+    none_counted_between_at_column_0 t tiling (on_top 0),
+    none_counted_between_at_column_0 t tiling (among 0),
   )
     where
       first_is : (q : Square) → ((q.x == 0) && (q.y == 0)) ≡ top_left 0 0 q

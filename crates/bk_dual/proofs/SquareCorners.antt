@@ -10,7 +10,7 @@ use Rattle.bk_tiling.specs.declared.Square.{Square}
 use Rattle.bk_dual.specs.Dual.{is_crossing}
 use Rattle.bk_dual.proofs.CornerCounts.{among, between, bottom_left, bottom_right, corners, on_bottom, on_left, on_right, on_top, over_above, over_both}
 use Rattle.bk_dual.proofs.CornerCounts.{over_here, over_left, top_left, top_right}
-use Rattle.bk_dual.proofs.CrossingBegins.{none_among, none_between, none_bottom, none_right}
+use Rattle.bk_dual.proofs.CrossingBegins.{none_among, none_bottom, none_counted_between_at_column_0, none_right}
 
 -- at the top left corner of a square another has its top right corner or another its bottom left corner, and both
 -- exactly at a crossing; at the corner of the tiling none has
@@ -62,8 +62,8 @@ at_corner t tiling zero (suc y) wide low some = omega (
       over_above t tiling 0 (suc y) (omega arith),
       cell_once t tiling 0 (suc y) wide low,
       cell_once t tiling 0 (suc y - 1) wide (omega arith),
-      none_between t tiling (on_bottom (suc y)),
-      none_between t tiling (among (suc y)),
+      none_counted_between_at_column_0 t tiling (on_bottom (suc y)),
+      none_counted_between_at_column_0 t tiling (among (suc y)),
     )
 at_corner t tiling (suc x) zero wide low some = omega (
   arith,

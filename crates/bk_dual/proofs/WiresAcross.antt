@@ -19,7 +19,7 @@ use Rattle.bk_tiling.specs.declared.Square.{Square}
 use Rattle.bk_sym.proofs.Images.{in_map}
 use Rattle.bk_sym.specs.Image.{image}
 use Rattle.bk_sym.specs.declared.Turn.TheVariants.{Swap}
-use Rattle.bk_net.proofs.NodeNumbers.{wire_at, wires_many}
+use Rattle.bk_net.proofs.NodeNumbers.{diagram_has_a_wire_for_each_square, wire_leads_from_the_group_to_the_node_below}
 use Rattle.bk_net.proofs.GroupSquares.{get_index, row_is}
 use Rattle.bk_net.proofs.NodeBelow.{has_node_below, stands_on}
 use Rattle.bk_net.specs.Diagram.{group_level, node_below}
@@ -154,7 +154,7 @@ module _ (t : Tiling) (ordered : InCodeOrder t.squares) (tiling : IsTiling (imag
       (leads_at k q.0 within own))
     where
       within : k < length (image Swap t).squares
-      within = omega (arith, slice_get_within (dual_diagram t).wires k wire at_wire, wires_many (image Swap t) tiling)
+      within = omega (arith, slice_get_within (dual_diagram t).wires k wire at_wire, diagram_has_a_wire_for_each_square (image Swap t) tiling)
 
       q : (q : Square) × (slice_get (image Swap t).squares k ≡ Some q)
       q = get_some (image Swap t).squares k within
@@ -170,5 +170,5 @@ module _ (t : Tiling) (ordered : InCodeOrder t.squares) (tiling : IsTiling (imag
 
       here : (slice_index (group_numbers (image Swap t).squares) k, node_below (square_groups (image Swap t).squares) q.0) ≡ wire
       here = ap (λ (r : Square). (slice_index (group_numbers (image Swap t).squares) k, node_below (square_groups (image Swap t).squares) r)) (sym own)
-          ∙ sym (wire_at (image Swap t) tiling k q.0 wire within)
+          ∙ sym (wire_leads_from_the_group_to_the_node_below (image Swap t) tiling k q.0 wire within)
           ∙ get_or_from_slice_get (dual_diagram t).wires k wire wire at_wire

@@ -1,5 +1,6 @@
 -- The vertical segments of a tiling, and how the wires of its dual diagram lead from one to another.
-use Rattle.std.specs.Prelude.{IsSomeAnd, List, Some, length, map, slice_get, ℕ, ◌+◌, ◌-◌, ◌<◌, ◌≡◌, ◌≤◌, ◌⊎◌}
+use Rattle.std.specs.Prelude.{IsSomeAnd, List, length, map, slice_get, ℕ, ◌+◌, ◌-◌, ◌<◌, ◌≡◌, ◌≤◌, ◌⊎◌}
+use Rattle.bk_laws.specs.HasAt.{HasAt}
 use Rattle.bk_tiling.specs.SquareGroups.{square_groups}
 use Rattle.bk_tiling.specs.Tiling.{IsOneOf, Tiling}
 use Rattle.bk_tiling.specs.declared.Square.{Square}
@@ -37,7 +38,7 @@ IsAtRight t q v =
 pub record LeadsAcross (t : Tiling) (wire : ℕ × ℕ) (number : ℕ) : Type 0 where
   pub square : Square
   pub some : 0 < number
-  pub is : slice_get t.squares (number - 1) ≡ Some square
+  pub is : HasAt t.squares (number - 1) square
   pub left : IsAtLeft t square wire.0
   pub right : IsAtRight t square wire.1
 
@@ -45,5 +46,5 @@ pub record LeadsAcross (t : Tiling) (wire : ℕ × ℕ) (number : ℕ) : Type 0 
 -- with this number to the one at its right. Example (DualExamples): four squares of side 1 have three vertical segments
 -- with two, two and no squares at their right, the wires 0-1, 0-1, 1-2 and 1-2, and the numbers 1, 3, 2, 4
 abbrev pub WiresLeadAcross : Tiling → List ℕ → Type 0
-WiresLeadAcross t numbers = (k : ℕ) (wire : ℕ × ℕ) (number : ℕ) → slice_get (dual_diagram t).wires k ≡ Some wire
-    → slice_get numbers k ≡ Some number → LeadsAcross t wire number
+WiresLeadAcross t numbers = (k : ℕ) (wire : ℕ × ℕ) (number : ℕ) → HasAt (dual_diagram t).wires k wire
+    → HasAt numbers k number → LeadsAcross t wire number

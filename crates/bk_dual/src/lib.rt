@@ -4,16 +4,18 @@
 ghost use Rattle.std.specs.Prelude.{All, count_by, ℕ, ◌<◌, ◌==◌, ◌≡◌, ◌≤◌};
 ghost use Rattle.bk_dual.specs.Dual.{crossings, dual_diagram, dual_flow, dual_order, number_at};
 ghost use Rattle.bk_dual.specs.DualWires.{WiresLeadAcross};
-ghost use Rattle.bk_dual.specs.NodeSum.{NodesAndCrossings};
 ghost use Rattle.bk_net.specs.Flow.{IsOneFlow};
 ghost use Rattle.bk_net.specs.Net.{HasNoLoose};
 ghost use Rattle.bk_tiling.specs.KeptTiling.{IsKept};
 ghost use Rattle.bk_tiling.specs.Tiling.{IsOneOf, order};
 
+mod laws;
+
 use arrayvec::ArrayVec;
 use bk_net::{Net, is_no_later, net_of};
 use bk_sym::{Turn, image};
 use bk_tiling::{MOST_SQUARES, Square, Tiling};
+pub use laws::nodes_and_crossings;
 
 /// The dual diagram of a tiling (Brooks, Smith, Stone and Tutte 1940): the Smith diagram of the tiling with columns and
 /// levels exchanged. Its nodes are the vertical segments, from left to right, and then the right side of the rectangle.
@@ -77,9 +79,3 @@ fn number_of(tiling: &Tiling, q: Square) -> u16
     let squares = tiling.squares();
     squares.partition_point(|r| is_no_later(r, q.x, q.y)) as u16
 }
-
-/// The nodes of the Smith diagram, those of the dual diagram, and the crossings are three more than the squares
-/// (Euler).
-pub fn nodes_and_crossings()
-    ensures { NodesAndCrossings }
-{}

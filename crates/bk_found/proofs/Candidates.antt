@@ -80,9 +80,10 @@ module _ (t : Tiling) (w : Word) (f : Flow) (tiling : IsTiling t) (primitive : I
       lines j p e = (ap (λ (k : ℕ). left_edge t s.is_reversed (s.square k)) (omega arith) ∙ (s.lines j p.0 p.1 e).0, omega (arith, (known_lines w j p e).0))
 
   -- a line of the word stands where it is computed
-  pub left_is : (k : ℕ) → k < length t.squares
+  pub line_of_the_word_stands_at_a_left_edge : (k : ℕ) → k < length t.squares
       → line_place f.total (right_edges w f) (slice_index_or (square_lines w) k (0, 1)).0 ≡ pos (left_edge t s.is_reversed (s.square k))
-  left_is k h = place_is t s.is_reversed s.square f.total same.0 (length t.squares) (right_edges w f) edges (slice_index_or (square_lines w) k (0, 1)).0
+  line_of_the_word_stands_at_a_left_edge k h = place_is t s.is_reversed s.square f.total same.0 (length t.squares) (right_edges w f) edges
+      (slice_index_or (square_lines w) k (0, 1)).0
       (omega (arith, h, (known_lines w k (slice_index_or (square_lines w) k (0, 1)) got).0))
       ∙ ap pos (sym (s.lines k (slice_index_or (square_lines w) k (0, 1)).0 (slice_index_or (square_lines w) k (0, 1)).1 got).0)
     where
@@ -90,8 +91,9 @@ module _ (t : Tiling) (w : Word) (f : Flow) (tiling : IsTiling t) (primitive : I
       got = slice_get-get_or (square_lines w) k (0, 1) (omega (arith, long, h))
 
   -- the right edge of a square stands where it is computed
-  pub right_is : (k : ℕ) → k < length t.squares → slice_index_or (right_edges w f) k (pos 0) ≡ pos (right_edge t s.is_reversed (s.square k))
-  right_is k h = edges.each k h
+  pub right_edges_stand_where_computed : (k : ℕ) → k < length t.squares
+      → slice_index_or (right_edges w f) k (pos 0) ≡ pos (right_edge t s.is_reversed (s.square k))
+  right_edges_stand_where_computed k h = edges.each k h
 
   -- a current is the side of its square, negative where this is reversed
   pub current_is : (k : ℕ) → k < length t.squares → slice_index_or f.currents k (pos 0) ≡ signed_side t s.is_reversed (s.square k)
@@ -106,7 +108,8 @@ module _ (t : Tiling) (w : Word) (f : Flow) (tiling : IsTiling t) (primitive : I
       (level_in f (slice_index_or (net_of_word w).wires k (0, 0)).0) (level_in f (slice_index_or (net_of_word w).wires k (0, 0)).1)
       (slice_index_or f.currents k (pos 0))
       (side_of t tiling (square_of t (s.square k)) (in_square t tiling (s.square k) (square_below t tiling w s k h)))
-      (left_is k h) (right_is k h) (level (s.is_reversed (s.square k)) (hangs_by_flow t tiling w s k h)) (current_is k h)
+      (line_of_the_word_stands_at_a_left_edge k h) (right_edges_stand_where_computed k h) (level (s.is_reversed (s.square k)) (hangs_by_flow t tiling w s k h))
+      (current_is k h)
     where
       level : (b : Bool) → pos (square_of t (s.square k)).y ≡ potential (signed_flow t w s) 0 -ℤ potential (signed_flow t w s) (upper_end w b k)
           → cond b (level_in f (slice_index_or (net_of_word w).wires k (0, 0)).1)
@@ -133,8 +136,8 @@ module _ (t : Tiling) (w : Word) (f : Flow) (tiling : IsTiling t) (primitive : I
       cases (inr h) = h.1
 
   -- the last node of the word is the tiling's
-  pub last_is : s.node (last_node (net_of_word w)) ≡ length (square_groups t.squares)
-  last_is = s.net.last (last_node (net_of_word w)) (omega (arith, loose.0.some)) ∙ omega (arith, s.net.nodes)
+  pub last_node_is_the_last_of_the_tiling : s.node (last_node (net_of_word w)) ≡ length (square_groups t.squares)
+  last_node_is_the_last_of_the_tiling = s.net.last (last_node (net_of_word w)) (omega (arith, loose.0.some)) ∙ omega (arith, s.net.nodes)
 
   height_is : level_in f (last_node (net_of_word w)) ≡ pos t.height
   height_is = level_is (last_node (net_of_word w)) (omega (arith, loose.0.some)) ∙ omega (
@@ -142,7 +145,7 @@ module _ (t : Tiling) (w : Word) (f : Flow) (tiling : IsTiling t) (primitive : I
     ints,
     top_potential t tiling w s,
     potential_is t tiling w s (last_node (net_of_word w)) (omega (arith, loose.0.some)),
-    ap (λ (v : ℕ). slice_index_or (node_levels t) v 0) last_is,
+    ap (λ (v : ℕ). slice_index_or (node_levels t) v 0) last_node_is_the_last_of_the_tiling,
     bottom_level,
   )
 

@@ -30,8 +30,9 @@ use Rattle.bk_layout.specs.Normal.{Counts, longest}
 use Rattle.bk_layout.proofs.NormalImages.ImagesToMeet.{a_normal_word_has_settled_corners}
 use Rattle.bk_layout.specs.NormalImage.{AreCornersSettled, IsMetByNormalWord}
 use Rattle.bk_layout.specs.WordNumbers.{counts_of_word}
-use Rattle.bk_found.proofs.Candidates.{current_is, last_is, left_is, right_is, square_is, the_candidate_is_the_tiling}
-use Rattle.bk_found.proofs.Leaves.{currents_many, edges_told, wires_are}
+use Rattle.bk_found.proofs.Candidates.{current_is, last_node_is_the_last_of_the_tiling, line_of_the_word_stands_at_a_left_edge}
+use Rattle.bk_found.proofs.Candidates.{right_edges_stand_where_computed, square_is, the_candidate_is_the_tiling}
+use Rattle.bk_found.proofs.Leaves.{as_many_wires_as_squares_of_the_word, currents_many, edges_told}
 use Rattle.bk_found.proofs.WordWires.{wire_later}
 use Rattle.bk_found.specs.Candidate.{IsCandidateOf, candidate_square, candidate_squares, line_place, right_edges}
 use Rattle.bk_found.specs.Placing.{edges_by_lefts}
@@ -126,7 +127,7 @@ module _ (t : Tiling) (w : Word) (f : Flow) (tiling : IsTiling t) (primitive : I
     last_below = omega (arith, below.0)
 
     bottom_is : s.node (last_node (net_of_word w)) ≡ length (square_groups t.squares)
-    bottom_is = last_is t w f tiling primitive s flow positive lowest
+    bottom_is = last_node_is_the_last_of_the_tiling t w f tiling primitive s flow positive lowest
 
     -- the nodes of a square that isn't reversed, and of one that is
     above : s.is_reversed (s.square k) ≡ false → node_above (square_groups t.squares) q ≡ s.node wire.0
@@ -151,10 +152,12 @@ module _ (t : Tiling) (w : Word) (f : Flow) (tiling : IsTiling t) (primitive : I
         (λ z. same_node wire.1 (last_node (net_of_word w)) below.1 last_below (sym (under e) ∙ (on_bottom t tiling q in_tiling).1 z ∙ sym bottom_is))
 
     left_told : s.is_reversed (s.square k) ≡ false → nat_abs (line_place f.total (right_edges w f) (slice_index_or (lefts_of w) k 0)) ≡ q.x
-    left_told e = ap nat_abs (left_place ∙ left_is t w f tiling primitive s flow positive lowest k h ∙ ap (λ (b : Bool). pos (cond b (q.x + q.s) q.x)) e)
+    left_told e = ap nat_abs (left_place ∙ line_of_the_word_stands_at_a_left_edge t w f tiling primitive s flow positive lowest k h
+        ∙ ap (λ (b : Bool). pos (cond b (q.x + q.s) q.x)) e)
 
     right_told : s.is_reversed (s.square k) ≡ false → nat_abs (slice_index_or (right_edges w f) k (pos 0)) ≡ q.x + q.s
-    right_told e = ap nat_abs (right_is t w f tiling primitive s flow positive lowest k h ∙ ap (λ (b : Bool). pos (cond b q.x (q.x + q.s))) e)
+    right_told e = ap nat_abs (right_edges_stand_where_computed t w f tiling primitive s flow positive lowest k h
+        ∙ ap (λ (b : Bool). pos (cond b q.x (q.x + q.s))) e)
 
     side_told : s.is_reversed (s.square k) ≡ false → nat_abs (slice_index_or f.currents k (pos 0)) ≡ q.s
     side_told e = ap nat_abs (current_is t w f tiling primitive s flow positive lowest k h
@@ -269,7 +272,7 @@ module _ (w : Word) (complete : IsComplete w) (few : order_of w ≤ 16) (total :
       found = the_candidate_is_the_tiling t w the_flow met.tiling primitive (met.is_word).signed (flow.1).flow (flow.1).positive flow.2
 
       wires_long : length l.wires ≡ length t.squares
-      wires_long = ap length wires ∙ wires_are w complete few ∙ ((met.is_word).signed).order_is
+      wires_long = ap length wires ∙ as_many_wires_as_squares_of_the_word w complete few ∙ ((met.is_word).signed).order_is
 
       hung : length (outline_of w).hung ≡ length t.squares
       hung = omega (arith, hung_many start w, ((met.is_word).signed).order_is)
@@ -278,4 +281,4 @@ module _ (w : Word) (complete : IsComplete w) (few : order_of w ≤ 16) (total :
       long = as_many_sides w ∙ ((met.is_word).signed).order_is
 
       many : length currents ≡ length t.squares
-      many = currents_many w complete few total currents flow ∙ wires_are w complete few ∙ ((met.is_word).signed).order_is
+      many = currents_many w complete few total currents flow ∙ as_many_wires_as_squares_of_the_word w complete few ∙ ((met.is_word).signed).order_is

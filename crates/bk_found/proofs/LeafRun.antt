@@ -16,8 +16,8 @@ use Rattle.bk_word.specs.Play.{IsComplete}
 use Rattle.bk_word.specs.Word.{Word, order_of}
 use Rattle.bk_word_net.specs.WordNet.{net_of_word}
 use Rattle.bk_layout.specs.SignedWord.{IsSignedWordOf}
-use Rattle.bk_found.proofs.Leaves.{accepted_found, currents_many, currents_small, ends_within, height_found, in_order_found, joined, lines_known}
-use Rattle.bk_found.proofs.Leaves.{no_zero_found, nodes_few, sides_found, total_small, width_found, wires_are}
+use Rattle.bk_found.proofs.Leaves.{accepted_found, as_many_wires_as_squares_of_the_word, currents_many, currents_small, height_found, in_order_found, joined}
+use Rattle.bk_found.proofs.Leaves.{lines_known, no_zero_found, nodes_few, sides_found, total_small, width_found, wires_of_a_word_end_below_17}
 use Rattle.bk_found.proofs.LevelSteps.{fits_small, told_lines}
 use Rattle.bk_layout.specs.LineNumbers.{lefts_of}
 use Rattle.bk_layout.proofs.FreeCuts.CutByNodes.{as_many_lefts}
@@ -42,16 +42,16 @@ held_height levels from nodes height small same few e = e
 -- a net that is the word's, and what its flow shows
 module _ (w : Word) (complete : IsComplete w) (few : order_of w ≤ 16) (net : Net) (net_is : net ≡ net_of_word w) where
   -- a word's net has at most 16 wires
-  pub net_few : length net.wires ≤ 16
-  net_few = omega (arith, ap (λ (n : Net). length n.wires) net_is, wires_are w complete few, few)
+  pub leaf_net_has_few_wires : length net.wires ≤ 16
+  leaf_net_has_few_wires = omega (arith, ap (λ (n : Net). length n.wires) net_is, as_many_wires_as_squares_of_the_word w complete few, few)
 
   -- a word's net has as many wires as the word has squares
-  pub wires_many : length net.wires ≡ order_of w
-  wires_many = ap (λ (n : Net). length n.wires) net_is ∙ wires_are w complete few
+  pub leaf_net_has_a_wire_for_each_square : length net.wires ≡ order_of w
+  leaf_net_has_a_wire_for_each_square = ap (λ (n : Net). length n.wires) net_is ∙ as_many_wires_as_squares_of_the_word w complete few
 
   -- each node of a word's net is joined to the last
-  pub net_joined : HasNoLoose net
-  net_joined = subst HasNoLoose (sym net_is) (joined w complete few)
+  pub leaf_net_has_no_loose_node : HasNoLoose net
+  leaf_net_has_no_loose_node = subst HasNoLoose (sym net_is) (joined w complete few)
 
   -- a word's net has at most 17 nodes
   pub net_nodes : net.nodes ≤ 17
@@ -62,7 +62,7 @@ module _ (w : Word) (complete : IsComplete w) (few : order_of w ≤ 16) (net : N
     all_wires = wires_is ∙ ap (λ (n : Net). n.wires) net_is
 
     pub shown_ends : EndWithin 17 wires
-    shown_ends = subst (EndWithin 17) (sym all_wires) (ends_within w complete few)
+    shown_ends = subst (EndWithin 17) (sym all_wires) (wires_of_a_word_end_below_17 w complete few)
 
   module _ (lefts : List ℕ) (lefts_is : lefts ≡ lefts_of w) where
     pub lefts_known : AreKnownLines lefts
@@ -90,7 +90,7 @@ module _ (w : Word) (complete : IsComplete w) (few : order_of w ≤ 16) (net : N
       shown_small = subst (AreSmallNumbers (2 ^ 34)) (sym shown_is) (currents_small w complete few total currents word_flow)
 
       pub shown_many : length shown ≡ order_of w
-      shown_many = omega (arith, ap length shown_is, currents_many w complete few total currents word_flow, wires_are w complete few)
+      shown_many = omega (arith, ap length shown_is, currents_many w complete few total currents word_flow, as_many_wires_as_squares_of_the_word w complete few)
 
       pub never_zero : ((k : ℕ) × (k < length shown) × (slice_index_or shown k (pos 1) ≡ pos 0)) → (t : Tiling) → IsTiling t
           → IsPrimitiveTiling t → IsSignedWordOf t w → ⊥

@@ -60,8 +60,8 @@ edges_told total rights (s ∷ sides) (c ∷ currents) = edges_told total (right
 -- the numbers of a complete word of at most 16 squares
 module _ (w : Word) (complete : IsComplete w) (few : order_of w ≤ 16) where
   -- a word's net has as many wires as the word has squares
-  pub wires_are : length (net_of_word w).wires ≡ order_of w
-  wires_are = wires_many w
+  pub as_many_wires_as_squares_of_the_word : length (net_of_word w).wires ≡ order_of w
+  as_many_wires_as_squares_of_the_word = wires_many w
 
   -- each node of a word's net is joined to the last
   pub joined : HasNoLoose (net_of_word w)
@@ -72,8 +72,9 @@ module _ (w : Word) (complete : IsComplete w) (few : order_of w ≤ 16) where
   nodes_few = omega (arith, few, closed_count start w, moves_many start w complete.legal)
 
   -- the wires of a word's net end at nodes below 17
-  pub ends_within : EndWithin 17 (net_of_word w).wires
-  ends_within k h = let e = ((a_word_net_has_no_loose w complete).0).ends k (0, 0) h in (omega (arith, e.0, nodes_few), omega (arith, e.1, nodes_few))
+  pub wires_of_a_word_end_below_17 : EndWithin 17 (net_of_word w).wires
+  wires_of_a_word_end_below_17 k h = let e = ((a_word_net_has_no_loose w complete).0).ends k (0, 0) h in
+      (omega (arith, e.0, nodes_few), omega (arith, e.1, nodes_few))
 
   -- the left lines of a word have known numbers
   pub lines_known : AreKnownLines (lefts_of w)
@@ -85,10 +86,12 @@ module _ (w : Word) (complete : IsComplete w) (few : order_of w ≤ 16) where
 
   module _ (total : ℤ) (currents : List ℤ) (flow : IsPrimitiveFlow (net_of_word w) total currents) where
     pub total_small : IsSmallNumber (2 ^ 34) total
-    total_small = flow_total_small (net_of_word w) total currents (a_word_net_has_no_loose w complete).0 joined (omega (arith, wires_are, few)) flow
+    total_small = flow_total_small (net_of_word w) total currents (a_word_net_has_no_loose w complete).0 joined
+        (omega (arith, as_many_wires_as_squares_of_the_word, few)) flow
 
     pub currents_small : AreSmallNumbers (2 ^ 34) currents
-    currents_small = flow_currents_small (net_of_word w) total currents (a_word_net_has_no_loose w complete).0 joined (omega (arith, wires_are, few)) flow
+    currents_small = flow_currents_small (net_of_word w) total currents (a_word_net_has_no_loose w complete).0 joined
+        (omega (arith, as_many_wires_as_squares_of_the_word, few)) flow
 
     abbrev the_flow : Flow
     the_flow = record { total = total; potentials = flow.0; currents = currents }
@@ -97,7 +100,7 @@ module _ (w : Word) (complete : IsComplete w) (few : order_of w ≤ 16) where
     currents_many = ap length (((flow.1).flow).differences) ∙ length-map (net_of_word w).wires (λ e. potential (the_flow) e.0 -ℤ potential (the_flow) e.1)
 
     levels_are : AreLevels (net_of_word w).wires currents (level_in (record { total = total; potentials = flow.0; currents = currents }))
-    levels_are = word_levels w complete (omega (arith, wires_are, hung_many start w))
+    levels_are = word_levels w complete (omega (arith, as_many_wires_as_squares_of_the_word, hung_many start w))
         (record { total = total; potentials = flow.0; currents = currents }) (flow.1).flow
 
     -- where the word is a signed one of a tiling in lowest terms
@@ -122,7 +125,7 @@ module _ (w : Word) (complete : IsComplete w) (few : order_of w ≤ 16) where
 
       height_is : slice_index_or levels ((net_of_word w).nodes - 1) (pos 0)
           ≡ level_in (record { total = total; potentials = flow.0; currents = currents }) (last_node (net_of_word w))
-      height_is = from (last_end w complete complete.some (omega (arith, wires_are, hung_many start w)) complete.one)
+      height_is = from (last_end w complete complete.some (omega (arith, as_many_wires_as_squares_of_the_word, hung_many start w)) complete.one)
         where
           from : (k : ℕ) × (k < length (net_of_word w).wires) × ((slice_index_or (net_of_word w).wires k (0, 0)).1 ≡ length (outline_of w).closed)
               → slice_index_or levels ((net_of_word w).nodes - 1) (pos 0)
@@ -150,14 +153,14 @@ module _ (w : Word) (complete : IsComplete w) (few : order_of w ≤ 16) where
             (slice_index_or (edges_are i) k (pos 0)) ((has k low).0 i) ((has k low).1 i) (slice_index_or currents k (pos 0)))
           where
             low : k < length (net_of_word w).wires
-            low = omega (arith, h, as_many_lefts w, wires_are)
+            low = omega (arith, h, as_many_lefts w, as_many_wires_as_squares_of_the_word)
 
         squares_are : squares ≡ candidate_squares w (record { total = total; potentials = flow.0; currents = currents })
         squares_are = by_index squares (candidate_square w (record { total = total; potentials = flow.0; currents = currents })) 0
             (record { x = 0; y = 0; s = 0 })
             (λ k h. one k (omega (arith, h, many)) ∙ ap (candidate_square w (record { total = total; potentials = flow.0; currents = currents })) (from_zero k))
             ∙ ap (λ (n : ℕ). map (candidate_square w (record { total = total; potentials = flow.0; currents = currents }))
-            (numbers_from 0 n)) (omega (arith, many, as_many_lefts w, wires_are, currents_many))
+            (numbers_from 0 n)) (omega (arith, many, as_many_lefts w, as_many_wires_as_squares_of_the_word, currents_many))
           where
             from_zero : (k : ℕ) → k ≡ 0 + k
             from_zero k = omega arith
@@ -189,7 +192,7 @@ module _ (w : Word) (complete : IsComplete w) (few : order_of w ≤ 16) where
                     side_small (slice_index_or currents k (pos 0)) (line_place total rights (slice_index_or (lefts_of w) k 0))
                         (slice_index_or rights k (pos 0)) (slice_index_or levels (slice_index_or (net_of_word w).wires k (0, 0)).0 (pos 0))
                         (slice_index_or levels (slice_index_or (net_of_word w).wires k (0, 0)).1 (pos 0))
-                        (currents_small k (omega (arith, low, as_many_lefts w, wires_are, currents_many))),
+                        (currents_small k (omega (arith, low, as_many_lefts w, as_many_wires_as_squares_of_the_word, currents_many))),
                   )
                     where
                       low : k < length (lefts_of w)

@@ -18,12 +18,12 @@ pub small_sum : (a b : ℕ) (x y z : ℤ) → IsSmallNumber a x → IsSmallNumbe
 small_sum a b x y z s t e = (omega (arith, ints, s.0, t.0, e), omega (arith, ints, s.1, t.1, e))
 
 -- a small number is small by a greater bound
-pub small_more : (a b : ℕ) (x : ℤ) → IsSmallNumber a x → a ≤ b → IsSmallNumber b x
-small_more a b x s h = (omega (arith, ints, s.0, h), omega (arith, ints, s.1, h))
+pub small_number_by_a_greater_bound : (a b : ℕ) (x : ℤ) → IsSmallNumber a x → a ≤ b → IsSmallNumber b x
+small_number_by_a_greater_bound a b x s h = (omega (arith, ints, s.0, h), omega (arith, ints, s.1, h))
 
 -- 0 is small
-pub small_zero : (a : ℕ) → IsSmallNumber a (pos 0)
-small_zero a = (omega (arith, ints), omega (arith, ints))
+pub zero_is_a_small_number : (a : ℕ) → IsSmallNumber a (pos 0)
+zero_is_a_small_number a = (omega (arith, ints), omega (arith, ints))
 
 -- a number of small magnitude is small
 pub small_from : (most : ℕ) (z : ℤ) → nat_abs z ≤ most → IsSmallNumber most z
@@ -45,7 +45,7 @@ held_still most z small few = subst (λ (x : ℤ). IsSmallNumber most x) (sym (h
 
 -- a small number that is held in 64 bits is within what 40 bits hold
 pub held_within : (most : ℕ) (z : ℤ) → IsSmallNumber most z → most ≤ 2 ^ 40 → IsSmallNumber (2 ^ 40) (to_z w64 (of_z w64 z))
-held_within most z small few = small_more most (2 ^ 40) (to_z w64 (of_z w64 z)) (held_still most z small few) few
+held_within most z small few = small_number_by_a_greater_bound most (2 ^ 40) (to_z w64 (of_z w64 z)) (held_still most z small few) few
 
 -- ---- levels
 
@@ -93,14 +93,14 @@ levelled_more wires currents levels i from to level levelled within many ends sm
     new v s = ap (λ (n : ℕ). slice_index_or (set levels to level) n (pos 0)) s ∙ get_or-set_same levels to level (pos 0) room
 
     level_small : IsSmallNumber ((i + 1) * 2 ^ 34) level
-    level_small = small_more (i * 2 ^ 34 + 2 ^ 34) ((i + 1) * 2 ^ 34) level
+    level_small = small_number_by_a_greater_bound (i * 2 ^ 34 + 2 ^ 34) ((i + 1) * 2 ^ 34) level
         (small_sum (i * 2 ^ 34) (2 ^ 34) (slice_index_or levels from (pos 0)) (slice_index_or currents i (pos 0)) level
         (levelled.small from start) (small i (omega (arith, within, many))) e) (omega arith)
 
     small_at : (v : ℕ) → v < 17 → (v ≡ to) ⊎ (v ≡ to → ⊥) → IsSmallNumber ((i + 1) * 2 ^ 34) (slice_index_or (set levels to level) v (pos 0))
     small_at v h (inl s) = subst (λ (z : ℤ). IsSmallNumber ((i + 1) * 2 ^ 34) z) (sym (new v s)) level_small
     small_at v h (inr n) = subst (λ (z : ℤ). IsSmallNumber ((i + 1) * 2 ^ 34) z) (sym (get_or-set_other levels to v level (pos 0) n))
-        (small_more (i * 2 ^ 34) ((i + 1) * 2 ^ 34) (slice_index_or levels v (pos 0)) (levelled.small v h) (omega arith))
+        (small_number_by_a_greater_bound (i * 2 ^ 34) ((i + 1) * 2 ^ 34) (slice_index_or levels v (pos 0)) (levelled.small v h) (omega arith))
 
     level_right : (at : ℕ → ℤ) → AreLevels wires currents at → level ≡ at to
     level_right at are = e ∙ (λ j. (ap (λ (v : ℕ). slice_index_or levels v (pos 0)) f
@@ -142,26 +142,28 @@ pub record AreEdges (lefts : List ℕ) (currents rights : List ℤ) (total : ℤ
 pub place_small : (rights : List ℤ) (total : ℤ) (i line : ℕ) → IsSmallNumber (2 ^ 34) total → length rights ≡ i
     → ((k : ℕ) → k < i → IsSmallNumber ((i + 1) * 2 ^ 34) (slice_index_or rights k (pos 0))) → line < i + 2
     → IsSmallNumber ((i + 1) * 2 ^ 34) (line_place total rights line)
-place_small rights total i zero small many each h = small_zero ((i + 1) * 2 ^ 34)
-place_small rights total i (suc zero) small many each h = small_more (2 ^ 34) ((i + 1) * 2 ^ 34) total small (omega arith)
+place_small rights total i zero small many each h = zero_is_a_small_number ((i + 1) * 2 ^ 34)
+place_small rights total i (suc zero) small many each h = small_number_by_a_greater_bound (2 ^ 34) ((i + 1) * 2 ^ 34) total small (omega arith)
 place_small rights total i (suc (suc k)) small many each h = each k (omega (arith, h))
 
 -- each line lies at a small place where all right edges are small
 pub line_within : (rights : List ℤ) (total : ℤ) (line : ℕ) → IsSmallNumber (2 ^ 34) total → AreSmallNumbers (17 * 2 ^ 34) rights → line < length rights + 2
     → IsSmallNumber (17 * 2 ^ 34) (line_place total rights line)
-line_within rights total zero small each h = small_zero (17 * 2 ^ 34)
-line_within rights total (suc zero) small each h = small_more (2 ^ 34) (17 * 2 ^ 34) total small (omega arith)
+line_within rights total zero small each h = zero_is_a_small_number (17 * 2 ^ 34)
+line_within rights total (suc zero) small each h = small_number_by_a_greater_bound (2 ^ 34) (17 * 2 ^ 34) total small (omega arith)
 line_within rights total (suc (suc k)) small each h = each k (omega arith)
 
 -- where a line of the next square lies, as the code finds it
-pub line_found : (lefts : List ℕ) (currents rights read : List ℤ) (total place : ℤ) (i : ℕ) → AreEdges lefts currents rights total i → i < length lefts
+pub line_is_found_where_it_lies : (lefts : List ℕ) (currents rights read : List ℤ) (total place : ℤ) (i : ℕ) → AreEdges lefts currents rights total i
+    → i < length lefts
     → length lefts ≤ 16 → AreKnownLines lefts → IsSmallNumber (2 ^ 34) total → read ≡ rights
     → place ≡ line_place total read (slice_index_or lefts i 0)
     → (place ≡ line_place total rights (slice_index_or lefts i 0)) × IsSmallNumber (2 ^ 39) place
-line_found lefts currents rights read total place i edges low few known small same is =
+line_is_found_where_it_lies lefts currents rights read total place i edges low few known small same is =
     let here = is ∙ ap (λ (rs : List ℤ). line_place total rs (slice_index_or lefts i 0)) same in (
       here,
-      subst (λ (z : ℤ). IsSmallNumber (2 ^ 39) z) (sym here) (small_more ((i + 1) * 2 ^ 34) (2 ^ 39) (line_place total rights (slice_index_or lefts i 0))
+      subst (λ (z : ℤ). IsSmallNumber (2 ^ 39) z) (sym here) (small_number_by_a_greater_bound ((i + 1) * 2 ^ 34) (2 ^ 39)
+          (line_place total rights (slice_index_or lefts i 0))
           (place_small rights total i (slice_index_or lefts i 0) small edges.many edges.small (known i low)) (omega (arith, low, few))),
     )
 
@@ -191,7 +193,7 @@ edges_more lefts currents rights total i right edges within long known small tot
     line = ap (λ (s : ℕ × ℕ). s.0) (get_or-map {X = ℕ} {Y = ℕ × ℕ} (λ f. (f, 0)) lefts i 0 (0, 0) within)
 
     right_small : IsSmallNumber ((i + 1 + 1) * 2 ^ 34) right
-    right_small = small_more ((i + 1) * 2 ^ 34 + 2 ^ 34) ((i + 1 + 1) * 2 ^ 34) right
+    right_small = small_number_by_a_greater_bound ((i + 1) * 2 ^ 34 + 2 ^ 34) ((i + 1 + 1) * 2 ^ 34) right
         (small_sum ((i + 1) * 2 ^ 34) (2 ^ 34) (line_place total rights (slice_index_or lefts i 0)) (slice_index_or currents i (pos 0)) right
         (place_small rights total i (slice_index_or lefts i 0) total_small edges.many edges.small (known i within))
         (small i (omega (arith, within, long))) e) (omega arith)
@@ -199,7 +201,7 @@ edges_more lefts currents rights total i right edges within long known small tot
     small_at : (k : ℕ) → k < i + 1 → (k < i) ⊎ (i ≤ k) → IsSmallNumber ((i + 1 + 1) * 2 ^ 34) (slice_index_or (rights ++ right ∷ []) k (pos 0))
     small_at k h (inl l) =
         subst (λ (z : ℤ). IsSmallNumber ((i + 1 + 1) * 2 ^ 34) z) (sym (get_front rights (right ∷ []) k (pos 0) (omega (arith, l, edges.many))))
-        (small_more ((i + 1) * 2 ^ 34) ((i + 1 + 1) * 2 ^ 34) (slice_index_or rights k (pos 0)) (edges.small k l) (omega arith))
+        (small_number_by_a_greater_bound ((i + 1) * 2 ^ 34) ((i + 1 + 1) * 2 ^ 34) (slice_index_or rights k (pos 0)) (edges.small k l) (omega arith))
     small_at k h (inr l) = subst (λ (z : ℤ). IsSmallNumber ((i + 1 + 1) * 2 ^ 34) z)
         (sym (get_back rights (right ∷ []) 0 k (pos 0) (omega (arith, l, h, edges.many)))) right_small
 

@@ -15,3 +15,4 @@ pub mod FoundExamples
 pub mod ToldSteps
 pub mod CornerSquares
 pub mod TiesExamples
+pub mod PlacingExamples

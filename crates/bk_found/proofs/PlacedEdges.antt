@@ -15,13 +15,13 @@ use Rattle.bk_layout.specs.SignedWord.{left_edge, line_column, right_edge}
 
 module _ (t : Tiling) (is_reversed : ℕ → Bool) (square : ℕ → ℕ) where
   -- the column of the right edge, as the word takes it, of the square at place k
-  abbrev pub ends_at : ℕ → ℕ
-  ends_at k = right_edge t is_reversed (square k)
+  abbrev pub right_edge_of_square_at : ℕ → ℕ
+  right_edge_of_square_at k = right_edge t is_reversed (square k)
 
   -- so many edges stand right
   pub record StandRight (b : ℕ) (rs : List ℤ) : Type 0 where
     pub many : length rs ≡ b
-    pub each : (k : ℕ) → k < b → slice_index_or rs k (pos 0) ≡ pos (ends_at k)
+    pub each : (k : ℕ) → k < b → slice_index_or rs k (pos 0) ≡ pos (right_edge_of_square_at k)
 
   -- the column that is computed for a line is that of the line
   pub place_is : (total : ℤ) → total ≡ pos t.width → (b : ℕ) (rs : List ℤ) → StandRight b rs → (f : ℕ) → f < b + 2
@@ -40,16 +40,16 @@ module _ (t : Tiling) (is_reversed : ℕ → Bool) (square : ℕ → ℕ) where
       cases false = omega (arith, ints)
 
   -- one more edge
-  grow : (b : ℕ) (rs : List ℤ) (x : ℤ) → StandRight b rs → x ≡ pos (ends_at b) → StandRight (b + 1) (rs ++ x ∷ [])
+  grow : (b : ℕ) (rs : List ℤ) (x : ℤ) → StandRight b rs → x ≡ pos (right_edge_of_square_at b) → StandRight (b + 1) (rs ++ x ∷ [])
   grow b rs x right edge = record { many = omega (arith, right.many, length-append rs (x ∷ [])); each = each }
     where
-      each : (k : ℕ) → k < b + 1 → slice_index_or (rs ++ x ∷ []) k (pos 0) ≡ pos (ends_at k)
+      each : (k : ℕ) → k < b + 1 → slice_index_or (rs ++ x ∷ []) k (pos 0) ≡ pos (right_edge_of_square_at k)
       each k h = cases (cases_lt k b)
         where
-          cases : (k < b) ⊎ (b ≤ k) → slice_index_or (rs ++ x ∷ []) k (pos 0) ≡ pos (ends_at k)
+          cases : (k < b) ⊎ (b ≤ k) → slice_index_or (rs ++ x ∷ []) k (pos 0) ≡ pos (right_edge_of_square_at k)
           cases (inl l) = get_front rs (x ∷ []) k (pos 0) (omega (arith, l, right.many)) ∙ right.each k l
           cases (inr l) = let same : b ≡ k = omega arith in slice_index_or-snoc_last rs x k (pos 0) (omega (arith, same, right.many)) ∙ edge
-              ∙ ap (λ (i : ℕ). pos (ends_at i)) same
+              ∙ ap (λ (i : ℕ). pos (right_edge_of_square_at i)) same
 
   -- from square to square the right edges are those of the tiling's squares
   pub edges_are : (total : ℤ) → total ≡ pos t.width → (b : ℕ) (sides : List (ℕ × ℕ)) (rs : List ℤ) → StandRight b rs
@@ -65,7 +65,7 @@ module _ (t : Tiling) (is_reversed : ℕ → Bool) (square : ℕ → ℕ) where
       at : b + 0 ≡ b
       at = omega arith
 
-      edge : line_place total rs p.0 +ℤ signed_side t is_reversed (square b) ≡ pos (ends_at b)
+      edge : line_place total rs p.0 +ℤ signed_side t is_reversed (square b) ≡ pos (right_edge_of_square_at b)
       edge = ap (λ (z : ℤ). z +ℤ signed_side t is_reversed (square b)) (place_is total wide b rs right p.0 (omega (arith, (lines 0 p refl).1))
           ∙ ap pos (sym (lines 0 p refl).0) ∙ ap (λ (k : ℕ). pos (left_edge t is_reversed (square k))) at) ∙ side_leads (square b)
 

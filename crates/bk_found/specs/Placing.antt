@@ -1,4 +1,7 @@
 -- What the code of a leaf works with: levels and places as whole numbers.
+-- Example (PlacingExamples): 2u.1e with the currents 2, 1, 1, whose nodes lie at the levels 0, 1 and 2. By its left
+-- lines 0, 2, 2 alone its squares end at 2, 3 and 3, and the second one stands in column 2 at level 0. At line 3 it
+-- would stand behind itself. In 2a.1a.2ue.1e a square with the current -1 is placed at the line where it ends.
 use Rattle.std.specs.Prelude.{List, [], length, map, neg_ℤ, pos, slice_index_or, ℕ, ℤ, ◌+ℤ◌, ◌+◌, ◌<◌, ◌≡◌, ◌≤ℤ◌, ◌⊎◌}
 use Rattle.bk_tiling.specs.declared.Square.{Square}
 use Rattle.bk_found.specs.ToldCorners.{Lines}

@@ -1,7 +1,9 @@
 -- What the open segments ask for, sign by sign, as a next move is chosen.
+pub mod ApartExamples
 pub mod AskedBefore
 pub mod AskedNext
 pub mod AskedSigns
+pub mod AskedSignsExamples
 pub mod BehindLists
 pub mod BehindSigns
 pub mod CountedSigns

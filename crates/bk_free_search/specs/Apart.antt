@@ -1,4 +1,7 @@
 -- A pass over the segments after a next move, each as it stands before the sign even joins it to another.
+-- Example (ApartExamples): 2u.1e leaves one marked segment, of the squares 1 and 3. Apart these are two segments with
+-- the sign even between them, both marked, and a pass over them counts one move. After 2u.2ua the segment of square 4
+-- stands behind the valley: with the sign under before it, it asks for three moves, and with the sign above for none.
 use Rattle.std.specs.Prelude.{Bool, List, [], cond, count_by, drop, false, length, map, nat_le, ℕ, ◌++◌, ◌+◌, ◌||◌, ◌∷◌}
 use Rattle.std.specs.Prelude.{◌≡◌, ◌≤◌}
 use Rattle.bk_word.specs.Outline.{Outline, has_right_wall, valley_place}

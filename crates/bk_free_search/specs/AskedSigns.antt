@@ -1,4 +1,7 @@
 -- What a search knows of a next move: what stands beside the leftmost valley, and what the move's first signs ask for.
+-- Example (AskedSignsExamples): after 2u the segment of square 1 stands before the valley. With a first sign even it
+-- asks for one move, and with a first sign under for two, though one is left in a word of five squares. No word of a
+-- normal layout has a first sign above there, and in one of four squares at least two signs of the move are even.
 use Rattle.std.specs.Prelude.{Bool, List, [], cond, count_by, false, length, max, slice_index_or, true, ℕ, ◌++◌, ◌+◌}
 use Rattle.std.specs.Prelude.{◌-◌, ◌<◌, ◌∷◌, ◌≡◌, ◌≤◌, ◌⊎◌}
 use Rattle.bk_word.specs.Outline.{has_left_wall, has_right_wall, open_side, valley_place}

@@ -67,7 +67,7 @@ pub record IsBesideOneOf (lefts rights squares : List ℕ) (line : ℕ) : Type 0
   pub at : slice_get squares place ≡ Some number
   pub beside : IsAtSquare lefts rights number line
 
--- the line lies at a side of one of so many new squares, where so many were hung before
+-- the line lies at a side of one of the `count` squares that were hung after the first `hung`
 pub record IsBesideNew (lefts rights : List ℕ) (hung count line : ℕ) : Type 0 where
   pub k : ℕ
   pub low : k < count

@@ -43,8 +43,8 @@ pub(crate) fn look_ahead(board: &Board, order: u8, left_wall: bool, right_wall: 
     }
 }
 
-/// The most moves of a word of the order in which so many squares hang from the top, and so many lie at a wall: half of
-/// one square more, and one less than just half where more lie at the wall.
+/// The most moves of a word of the order in which `top` squares hang from the top and `wall` lie at a wall: half of one
+/// square more, and one less than just half where more lie at the wall than hang from the top.
 pub(crate) fn most_moves(order: u8, top: u8, wall: usize) -> usize
     ensures { result ≡ cond (nat_lt top wall) (order / 2) ((order + 1) / 2) }
 {
@@ -64,7 +64,7 @@ pub(crate) fn are_most_moves(order: u8, moves: usize) -> bool
     2 * moves == usize::from(order) + 1
 }
 
-// The most moves of one that goes on from so many moves so that then so many squares lie at a wall.
+// The most moves of a word that goes on from `moves` moves so that then `wall` squares lie at a wall.
 fn most_then(order: u8, moves: u8, top: u8, wall: usize) -> usize
     ensures none { moves ≡ 0 → result ≡ (order + 1) / 2 }
     ensures some { 0 < moves → result ≡ cond (nat_lt top wall) (order / 2) ((order + 1) / 2) }

@@ -82,8 +82,8 @@ fn look_after(board: &Board, m: &SmallMove) -> After
     }
 }
 
-// How many squares hang from the top after a move of so many, where before it there were so many moves, and so many
-// squares hung there.
+// How many squares hang from the top after a move of `count` squares, where `top` hung there before. Only the first
+// move hangs squares from the top.
 fn top_after(moves: u8, top: u8, count: u8) -> u8
     ensures none { moves ≡ 0 → result ≡ count }
     ensures some { 0 < moves → result ≡ top }

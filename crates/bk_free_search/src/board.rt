@@ -218,7 +218,7 @@ impl Board {
     }
 }
 
-// How many squares the first move hangs, after a move of so many, where so many squares were hung before.
+// How many squares the first move hangs: this move's `count` if none was hung before, else as many as before.
 fn first_after(first: u8, hung: u8, count: u8) -> u8
     ensures { result ≡ cond (nat_eq hung 0) count first }
 {

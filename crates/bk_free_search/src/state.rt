@@ -54,8 +54,8 @@ pub(crate) fn not_begun() -> Begun
     }
 }
 
-/// Begins a next move of the count, after which so many squares are left, where so many segments stand beside the
-/// valley.
+/// Begins a next move of `count` squares, after which `left` squares are still to hang, at a valley with these open
+/// sides.
 #[inline]
 pub(crate) fn begin(begun: &mut Begun, sides: OpenSides, count: u8, left: usize)
     requires some { 0 < count }

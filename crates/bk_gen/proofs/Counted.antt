@@ -18,7 +18,8 @@ on_once Holds before a b (inr (h, e)) (inl (k, f)) = absurd (h k)
 on_once Holds before a b (inr (h, e)) (inr (k, f)) = e ∙ sym f
 
 -- a property holds at one number of places below n
-pub one_count : (Holds : ℕ → Type 0) (n a b : ℕ) → HoldsAtSoMany Holds n a → HoldsAtSoMany Holds n b → a ≡ b
-one_count Holds zero a b none none' = none ∙ sym none'
-one_count Holds (suc n) a b (before, rest, on) (before', rest', on') =
-    on_once (Holds n) before a b on (subst (λ (m : ℕ). CountsOn (Holds n) m b) (sym (one_count Holds n before before' rest rest')) on')
+pub property_holds_at_one_number_of_places : (Holds : ℕ → Type 0) (n a b : ℕ) → HoldsAtSoMany Holds n a → HoldsAtSoMany Holds n b → a ≡ b
+property_holds_at_one_number_of_places Holds zero a b none none' = none ∙ sym none'
+property_holds_at_one_number_of_places Holds (suc n) a b (before, rest, on) (before', rest', on') =
+    on_once (Holds n) before a b on (subst (λ (m : ℕ). CountsOn (Holds n) m b)
+    (sym (property_holds_at_one_number_of_places Holds n before before' rest rest')) on')

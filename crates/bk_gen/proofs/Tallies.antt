@@ -8,7 +8,7 @@ use Rattle.bk_report.specs.Trial.{trial_line}
 use Rattle.bk_report.specs.declared.trial.TrialCounts.{TrialCounts}
 use Rattle.bk_gen.specs.Counting.{CountsOn}
 use Rattle.bk_gen.specs.TrialLine.{IsTrialTally, IsTrialLine, squares_below, tiling_at}
-use Rattle.bk_gen.proofs.Counted.{no_more_than, one_count}
+use Rattle.bk_gen.proofs.Counted.{no_more_than, property_holds_at_one_number_of_places}
 
 squares_few : (seed n : ℕ) → squares_below seed n ≤ n * 200
 squares_few seed zero = omega arith
@@ -57,8 +57,9 @@ tally_more seed n before after t same tally counted = subst (λ (m : ℕ). IsTri
 one_tally : (seed n : ℕ) (c d : TrialCounts) → IsTrialTally seed n c → IsTrialTally seed n d → c ≡ d
 one_tally seed n c d a b =
     let accepted : c.accepted ≡ d.accepted = a.all_accepted ∙ sym b.all_accepted in
-    let perfects : c.perfect ≡ d.perfect = one_count (λ k. IsPerfect (tiling_at seed k)) n c.perfect d.perfect a.perfects b.perfects in
-    let simples : c.simple ≡ d.simple = one_count (λ k. IsSimple (tiling_at seed k)) n c.simple d.simple a.simples b.simples in
+    let perfects : c.perfect ≡ d.perfect = property_holds_at_one_number_of_places
+    (λ k. IsPerfect (tiling_at seed k)) n c.perfect d.perfect a.perfects b.perfects in
+    let simples : c.simple ≡ d.simple = property_holds_at_one_number_of_places (λ k. IsSimple (tiling_at seed k)) n c.simple d.simple a.simples b.simples in
     let squares : c.squares ≡ d.squares = a.together ∙ sym b.together in
     λ z. record { accepted = accepted z; perfect = perfects z; simple = simples z; squares = squares z }
 

@@ -2,13 +2,12 @@
 use Rattle.std.specs.List.{AllByRecursion, list_all, list_any}
 use Rattle.std.proofs.Common.{List, Some, [], ap, arith, drop, false, get_or, inl, inr, length, map, refl, set, slice_get, slice_index_or, subst, suc, sym}
 use Rattle.std.proofs.Common.{take, true, zero, ℕ, ◌++◌, ◌<◌, ◌||◌, ◌∙◌, ◌∷◌, ◌≡◌}
-use Rattle.std.specs.Prelude.{All, Any, Bool, IsTrue, cond, filter, int_div, nat_abs, negsuc, pos, ℤ, ◌*ℤ◌, ◌*◌, ◌+◌, ◌<ℤ◌, ◌^◌, ◌≤ℤ◌, ◌≤◌, ◌⊎◌}
+use Rattle.std.specs.Prelude.{All, Any, Bool, IsTrue, cond, filter, int_div, nat_abs, negsuc, pos, ℤ, ◌*ℤ◌, ◌*◌, ◌<ℤ◌, ◌^◌, ◌≤ℤ◌, ◌≤◌, ◌⊎◌}
 use Rattle.std.proofs.lemmas.Bool.{and_from, and_parts, both_ways, cases_Bool, or_left, or_right}
 use Prim.Native.Nat.{◌∣◌}
 use Rattle.std.proofs.Math.IntN.{*ℤ_comm}
 use Rattle.std.proofs.Math.Nat.{div-le_self, dvd-mul_left, mul-dvd-mul_left, mul_comm}
 use Rattle.std.proofs.lemmas.Int.{ints, unsigned_abs-mul}
-use Rattle.std.proofs.lemmas.List.{take_all, take_more}
 use Rattle.std.proofs.lemmas.List.Elements.{All-from_recursion}
 use Rattle.bk_laws.proofs.ListPlaces.{head_same, tail_same}
 use Rattle.bk_laws.proofs.Magnitudes.{quotient_by_zero_or_one}
@@ -205,16 +204,6 @@ pub none_below_one-where_all_positive : (cs : List ℤ) → Any (λ c. c <ℤ po
 none_below_one-where_all_positive cs (k, c, within, at, below) all =
     let long : pos 1 ≤ℤ c = subst (λ (x : ℤ). pos 1 ≤ℤ x) at (All-from_recursion (λ x. pos 1 ≤ℤ x) cs all k c within) in
     omega (arith, ints, below, long)
-
--- what holds of the first items and of the next holds of one item more
-pub all-take_one_more : (P : ℕ → Type 0) (text : List ℕ) (i : ℕ) → i < length text → AllByRecursion P (take i text) → P (get_or text i 0)
-    → AllByRecursion P (take (i + 1) text)
-all-take_one_more P text i within front here =
-    subst (AllByRecursion P) (sym (take_more text i 0 within)) (all_append P (take i text) (get_or text i 0 ∷ []) front (here, tt))
-
--- what holds of the first items of a list that has no more holds of all
-pub all-take_past_end : (P : ℕ → Type 0) (text : List ℕ) (i : ℕ) → length text ≤ i → AllByRecursion P (take i text) → AllByRecursion P text
-all-take_past_end P text i all front = subst (AllByRecursion P) (take_all i text all) front
 
 -- what holds of all items and of one more holds of all of the list with that one at its end
 pub all-snoc : {A : Type 0} (P : A → Type 0) (xs : List A) (x : A) → AllByRecursion P xs → P x → AllByRecursion P (xs ++ x ∷ [])

@@ -14,6 +14,8 @@ pub mod Orderings
 pub mod Outcomes
 pub mod ListParts
 pub mod ListPlaces
+pub mod HasAtLaws
+pub mod HasAtExamples
 pub mod ListItems
 pub mod ListsOfLists
 pub mod AllOfLists

@@ -7,7 +7,7 @@ use Rattle.bk_tiling.specs.declared.Segment.{Segment}
 use Rattle.bk_word.specs.Outline.{start}
 use Rattle.bk_word.specs.declared.Sign.TheVariants.{Under}
 use Rattle.bk_lay.proofs.Steps.{move_depicts, start_depicts_nothing}
-use Rattle.bk_lay.proofs.WordTest.{by_tests, passes_as_valley}
+use Rattle.bk_lay.proofs.WordTest.{passes_as_valley, passes_as_valley_by_tests}
 use Rattle.bk_lay.proofs.Words.{nothing_laid}
 use Rattle.bk_lay.specs.Depiction.{Depicts}
 use Rattle.bk_lay.specs.WordLaws.{NeverDeeperBefore}
@@ -22,7 +22,7 @@ tiling-3x2 = tiling_from_test rectangle_3x2 refl
 after_one : Depicts rectangle_3x2 (square_at 0 0 2 ∷ square_at 2 0 1 ∷ []) (top ∷ [])
     (record { segments = (1 ∷ []) ∷ (2 ∷ []) ∷ []; signs = Under ∷ []; closed = [] ∷ []; hung = 0 ∷ 0 ∷ [] })
 after_one = (move_depicts rectangle_3x2 [] [] start top tiling-3x2 (nothing_laid rectangle_3x2 tiling-3x2)
-    (start_depicts_nothing rectangle_3x2 tiling-3x2) (passes_as_valley 3 [] top (by_tests _ _ _ refl refl refl refl refl refl)) (lit< tt)).1
+    (start_depicts_nothing rectangle_3x2 tiling-3x2) (passes_as_valley 3 [] top (passes_as_valley_by_tests _ _ _ refl refl refl refl refl refl)) (lit< tt)).1
 
 -- under the squares 2 and 1 the columns 0 and 1 are filled to level 2, and column 2, the valley, to level 1
 first_rise : NeverDeeperBefore (square_at 0 0 2 ∷ square_at 2 0 1 ∷ []) (record { x = 2; width = 1; level = 1 })

@@ -12,7 +12,7 @@ use Rattle.bk_tiling.specs.declared.Square.{Square}
 use Rattle.bk_lay.specs.Depiction.{FillsFromTop}
 use Rattle.bk_lay.specs.TilingWord.{IsLeftmostValley, hangs_under, squares_under}
 use Rattle.bk_lay.specs.WordLaws.{ValleyIsFilled}
-use Rattle.bk_lay.proofs.UnderValley.{IsUnder, cell, hangs, laid_in, not_laid, under_from}
+use Rattle.bk_lay.proofs.UnderValley.{IsUnder, cell, hangs, laid_in, laid_square_ends_by_the_depth, under_from}
 
 module _ (t : Tiling) (laid : List Square) (v : Segment) (tiling : IsTiling t) (fills : FillsFromTop t laid) (found : IsLeftmostValley t.width laid v)
     (low : v.level < t.height) where
@@ -59,7 +59,7 @@ module _ (t : Tiling) (laid : List Square) (v : Segment) (tiling : IsTiling t) (
       -- a new cell: none of the old ones does
       none_old : depth laid c ≤ j → (q : Square) → IsOneOf q laid → covers c j q ≡ true → ⊥
       none_old k q h e = let over = over_from c j q e in let l = over.left in let r = over.right in let b = over.bottom in
-          omega (arith, not_laid t laid v tiling fills found low c q h l r)
+          omega (arith, laid_square_ends_by_the_depth t laid v tiling fills found low c q h l r)
 
       -- a new cell is covered by one of the new squares
       one_new : depth laid c ≤ j → count_by (covers c j) (squares_under t v) ≡ 1

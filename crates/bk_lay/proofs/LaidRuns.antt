@@ -45,12 +45,12 @@ pub hangs_more : (nodes more : List Segment) (q : Square) (node : ℕ) → Hangs
 hangs_more nodes more q node h = (h.0, get_append nodes more node h.0 h.1, h.2, h.3, h.4)
 
 -- the run of columns under a square
-abbrev pub run_of : Square → Segment
-run_of q = record { x = q.x; width = q.s; level = q.y + q.s }
+abbrev pub run_under_a_square : Square → Segment
+run_under_a_square q = record { x = q.x; width = q.s; level = q.y + q.s }
 
 -- each new square is a segment of its own
 pub new_segments : (laid front : List Square) (squares : List Square) → laid ≡ front ++ squares → (n : ℕ) → n ≡ length front
-    → AllZip (IsSegment laid) (map run_of squares) (map (λ q. q ∷ []) (numbers_from (n + 1) (length squares)))
+    → AllZip (IsSegment laid) (map run_under_a_square squares) (map (λ q. q ∷ []) (numbers_from (n + 1) (length squares)))
 new_segments laid front [] is n e = tt
 new_segments laid front (q ∷ squares) is n e = (
   inl (q, (n, omega arith, at), refl, refl, refl),
@@ -62,9 +62,9 @@ new_segments laid front (q ∷ squares) is n e = (
     at = (λ i. slice_get (is i) (e i)) ∙ get_last front q squares
 
 -- the levels of the runs under squares are the squares' bottoms
-pub new_levels : (squares : List Square) → levels (map run_of squares) ≡ map (λ q. q.y + q.s) squares
-new_levels [] = refl
-new_levels (q ∷ squares) = ap (λ ls. (q.y + q.s) ∷ ls) (new_levels squares)
+pub levels_of_runs_are_the_bottoms : (squares : List Square) → levels (map run_under_a_square squares) ≡ map (λ q. q.y + q.s) squares
+levels_of_runs_are_the_bottoms [] = refl
+levels_of_runs_are_the_bottoms (q ∷ squares) = ap (λ ls. (q.y + q.s) ∷ ls) (levels_of_runs_are_the_bottoms squares)
 
 module _ (t : Tiling) (laid : List Square) (v : Segment) (tiling : IsTiling t) (fills : FillsFromTop t laid) (found : IsLeftmostValley t.width laid v)
     (low : v.level < t.height) where
@@ -86,14 +86,14 @@ module _ (t : Tiling) (laid : List Square) (v : Segment) (tiling : IsTiling t) (
 
   runs_new : (squares : List Square) → ((q : Square) → IsOneOf q squares → IsOneOf q (squares_under t v)) → (x end : ℕ) → Chain x squares end
       → (rest : List Segment) → AreRuns t.width (laid ++ squares_under t v) end rest
-      → AreRuns t.width (laid ++ squares_under t v) x (map run_of squares ++ rest)
+      → AreRuns t.width (laid ++ squares_under t v) x (map run_under_a_square squares ++ rest)
   runs_new [] f x end c rest cut = subst (λ (y : ℕ). AreRuns t.width (laid ++ squares_under t v) y rest) (sym c) cut
   runs_new (q ∷ squares) f x end c rest cut = (c.0, flat, runs_new squares (λ r h. f r (inr h)) (x + q.s) end c.1 rest cut)
     where
       here : IsOneOf q (squares_under t v)
       here = f q (inl refl)
 
-      flat : IsLevel t.width (laid ++ squares_under t v) (run_of q)
+      flat : IsLevel t.width (laid ++ squares_under t v) (run_under_a_square q)
       flat = record {
         some = in_all (λ q. 0 < q.s) t.squares (tiling.tiles).sides q (in_tiling t laid v tiling fills found low q here);
         within = let u = (is_under t laid v tiling fills found low q here).right in let w = ((found.valley).flat).within in omega arith;
@@ -106,8 +106,8 @@ module _ (t : Tiling) (laid : List Square) (v : Segment) (tiling : IsTiling t) (
 
   -- with the squares under a valley laid, their runs take the place of the valley among all runs
   pub runs_new_all : (x : ℕ) (before after : List Segment) → AreRuns t.width laid x (before ++ v ∷ after)
-      → AreRuns t.width (laid ++ squares_under t v) x (before ++ map run_of (squares_under t v) ++ after)
-  runs_new_all x [] after cut = subst (λ (y : ℕ). AreRuns t.width (laid ++ squares_under t v) y (map run_of (squares_under t v) ++ after)) cut.0
+      → AreRuns t.width (laid ++ squares_under t v) x (before ++ map run_under_a_square (squares_under t v) ++ after)
+  runs_new_all x [] after cut = subst (λ (y : ℕ). AreRuns t.width (laid ++ squares_under t v) y (map run_under_a_square (squares_under t v) ++ after)) cut.0
       (runs_new (squares_under t v) (λ q h. h) v.x (v.x + v.width) (under_chain t laid v tiling fills found low) after
       (subst (λ (y : ℕ). AreRuns t.width (laid ++ squares_under t v) y after) (omega (arith, cut.0))
       (runs_after (x + v.width) after (omega (arith, cut.0)) cut.2)))

@@ -16,9 +16,9 @@ use Rattle.bk_lay.specs.Depiction.{FillsFromTop}
 use Rattle.bk_lay.specs.TilingWord.{IsLeftmostValley, bottoms, depth_before, depth_from, move_under, signs_between, squares_under}
 
 -- what stands at the left of a valley, as its level tells it
-pub last_is : (laid : List Square) (x : ℕ) (before : List Segment) → ((before ≡ []) × (x ≡ 0)) ⊎ HasLast laid x before
+pub last_level_is_the_depth_at_the_left : (laid : List Square) (x : ℕ) (before : List Segment) → ((before ≡ []) × (x ≡ 0)) ⊎ HasLast laid x before
     → LastIs (levels before) (depth_before laid x)
-last_is laid x before left = record { shape = cases left }
+last_level_is_the_depth_at_the_left laid x before left = record { shape = cases left }
   where
     cases : ((before ≡ []) × (x ≡ 0)) ⊎ HasLast laid x before → ((levels before ≡ []) × (depth_before laid x ≡ []))
         ⊎ ((front : List ℕ) × (l : ℕ) × (levels before ≡ front ++ l ∷ []) × (depth_before laid x ≡ l ∷ []))
@@ -26,9 +26,10 @@ last_is laid x before left = record { shape = cases left }
     cases (inr h) = inr (levels h.front, (h.last).level, ap levels h.is ∙ map-append (λ r. r.level) h.front (h.last ∷ []), h.level)
 
 -- what stands at the right of a valley, as its level tells it
-pub first_is : (width : ℕ) (laid : List Square) (x : ℕ) (after : List Segment) → ((after ≡ []) × (x ≡ width)) ⊎ HasFirst width laid x after
+pub first_level_is_the_depth_at_the_right : (width : ℕ) (laid : List Square) (x : ℕ) (after : List Segment) → ((after ≡ []) × (x ≡ width))
+    ⊎ HasFirst width laid x after
     → FirstIs (levels after) (depth_from width laid x)
-first_is width laid x after right = record { shape = cases right }
+first_level_is_the_depth_at_the_right width laid x after right = record { shape = cases right }
   where
     bare : nat_lt x width ≡ false → depth_from width laid x ≡ []
     bare e = ap (λ (b : Bool). cond b (depth laid x ∷ []) []) e

@@ -80,9 +80,9 @@ under_meets laid (q ∷ squares) x end right width c is f = subst (λ (y : ℕ).
     (is q (inl refl))))
 
 -- there is a run under each square
-pub length_under : (squares : List Square) → length (runs_under squares) ≡ length squares
-length_under [] = refl
-length_under (q ∷ squares) = omega (arith, length-append (runs_under squares) (run_under q ∷ []), length_under squares)
+pub a_run_under_each_square : (squares : List Square) → length (runs_under squares) ≡ length squares
+a_run_under_each_square [] = refl
+a_run_under_each_square (q ∷ squares) = omega (arith, length-append (runs_under squares) (run_under q ∷ []), a_run_under_each_square squares)
 
 module _ (t : Tiling) (laid : List Square) (o : Outline) (tiling : IsTiling t) (fills : FillsFromTop t laid) (is : IsOutline t.width laid o)
     (low : o.valley.level < t.height) where

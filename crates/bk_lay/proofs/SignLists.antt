@@ -23,7 +23,7 @@ signs_after (a ∷ []) b = refl
 signs_after (a ∷ c ∷ levels) b = ap (λ signs. sign_between a c ∷ signs) (signs_after (c ∷ levels) b)
 
 -- there are fewer signs than levels
-pub few_signs : (levels : List ℕ) → length (signs_between levels) ≤ length levels - 1
-few_signs [] = omega arith
-few_signs (a ∷ []) = omega arith
-few_signs (a ∷ b ∷ levels) = omega (arith, few_signs (b ∷ levels))
+pub fewer_signs_than_levels : (levels : List ℕ) → length (signs_between levels) ≤ length levels - 1
+fewer_signs_than_levels [] = omega arith
+fewer_signs_than_levels (a ∷ []) = omega arith
+fewer_signs_than_levels (a ∷ b ∷ levels) = omega (arith, fewer_signs_than_levels (b ∷ levels))

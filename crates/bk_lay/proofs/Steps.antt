@@ -25,8 +25,8 @@ use Rattle.bk_lay.proofs.ValleySegment.{valley_stands}
 use Rattle.bk_lay.specs.Depiction.{Depicts, FillsFromTop, Hangs, IsNumbered, IsSegment}
 use Rattle.bk_lay.specs.TilingWord.{IsLeftmostValley, bottoms, depth_before, depth_from, move_under, signs_between, squares_under}
 use Rattle.bk_lay.specs.WordLaws.{MoveDepicts, StartDepictsNothing}
-use Rattle.bk_lay.proofs.LaidRuns.{hangs_more, new_levels, new_segments, one_of, run_of, runs_new_all, segment_more}
-use Rattle.bk_lay.proofs.LegalMoves.{first_is, last_is, legal}
+use Rattle.bk_lay.proofs.LaidRuns.{hangs_more, levels_of_runs_are_the_bottoms, new_segments, one_of, run_under_a_square, runs_new_all, segment_more}
+use Rattle.bk_lay.proofs.LegalMoves.{first_level_is_the_depth_at_the_right, last_level_is_the_depth_at_the_left, legal}
 
 module _ (t : Tiling) (laid : List Square) (v : Segment) (tiling : IsTiling t) (fills : FillsFromTop t laid) (found : IsLeftmostValley t.width laid v)
     (low : v.level < t.height) where
@@ -47,10 +47,10 @@ module _ (t : Tiling) (laid : List Square) (v : Segment) (tiling : IsTiling t) (
       number_levels = number ∙ sym (length-map before (λ r. r.level))
 
       at_left : LastIs (levels before) (depth_before laid v.x)
-      at_left = last_is laid v.x before left
+      at_left = last_level_is_the_depth_at_the_left laid v.x before left
 
       at_right : FirstIs (levels after) (depth_from t.width laid (v.x + v.width))
-      at_right = first_is t.width laid (v.x + v.width) after right
+      at_right = first_level_is_the_depth_at_the_right t.width laid (v.x + v.width) after right
 
       some : 0 < length (squares_under t v)
       some = (valley_is_filled t laid v tiling fills found low).0
@@ -58,22 +58,24 @@ module _ (t : Tiling) (laid : List Square) (v : Segment) (tiling : IsTiling t) (
       is_legal : IsLegalMove o (move_under t laid v)
       is_legal = legal t laid v tiling fills found low o (levels before) (levels after) level_signs number_levels at_left at_right
 
-      new_signs : signs_apart o (move_under t laid v) ≡ signs_between (levels (before ++ map run_of (squares_under t v) ++ after))
+      new_signs : signs_apart o (move_under t laid v) ≡ signs_between (levels (before ++ map run_under_a_square (squares_under t v) ++ after))
       new_signs = (λ i. take (number_levels i - 1) (level_signs i) ++ signs_between (bottoms t laid v) ++ drop (number_levels i + 1) (level_signs i))
           ∙ signs_new (levels before) (depth_before laid v.x) v.level (levels after) (depth_from t.width laid (v.x + v.width))
           (map (λ q. q.y + q.s) (squares_under t v)) at_left at_right
           ∙ ap signs_between (sym cut)
         where
-          cut : levels (before ++ map run_of (squares_under t v) ++ after) ≡ levels before ++ map (λ q. q.y + q.s) (squares_under t v) ++ levels after
-          cut = map-append (λ r. r.level) (before ++ map run_of (squares_under t v)) after
-              ∙ ap (λ ls. ls ++ levels after) (map-append (λ r. r.level) before (map run_of (squares_under t v))
-              ∙ ap (λ ls. levels before ++ ls) (new_levels (squares_under t v)))
+          cut : levels (before ++ map run_under_a_square (squares_under t v) ++ after) ≡ levels before ++ map (λ q. q.y + q.s)
+              (squares_under t v) ++ levels after
+          cut = map-append (λ r. r.level) (before ++ map run_under_a_square (squares_under t v)) after
+              ∙ ap (λ ls. ls ++ levels after) (map-append (λ r. r.level) before (map run_under_a_square (squares_under t v))
+              ∙ ap (λ ls. levels before ++ ls) (levels_of_runs_are_the_bottoms (squares_under t v)))
 
-      new_zip : AllZip (IsSegment (laid ++ squares_under t v)) (before ++ map run_of (squares_under t v) ++ after) (segments_apart o (move_under t laid v))
-      new_zip = zip_append S (before ++ map run_of (squares_under t v)) after
+      new_zip : AllZip (IsSegment (laid ++ squares_under t v)) (before ++ map run_under_a_square (squares_under t v) ++ after)
+          (segments_apart o (move_under t laid v))
+      new_zip = zip_append S (before ++ map run_under_a_square (squares_under t v)) after
           (take (valley_place o.signs) o.segments ++ map (λ q. q ∷ []) (numbers_from (length o.hung + 1) (length (squares_under t v))))
           (drop (valley_place o.signs + 1) o.segments)
-          (zip_append S before (map run_of (squares_under t v)) (take (valley_place o.signs) o.segments)
+          (zip_append S before (map run_under_a_square (squares_under t v)) (take (valley_place o.signs) o.segments)
           (map (λ q. q ∷ []) (numbers_from (length o.hung + 1) (length (squares_under t v)))) fronts news) backs
         where
           S : Segment → List ℕ → Type 0
@@ -84,7 +86,7 @@ module _ (t : Tiling) (laid : List Square) (v : Segment) (tiling : IsTiling t) (
               (subst (λ (n : ℕ). AllZip (IsSegment laid) before (take n o.segments)) (sym number)
               (zip_before (IsSegment laid) before v after o.segments zip))
 
-          news : AllZip S (map run_of (squares_under t v)) (map (λ q. q ∷ []) (numbers_from (length o.hung + 1) (length (squares_under t v))))
+          news : AllZip S (map run_under_a_square (squares_under t v)) (map (λ q. q ∷ []) (numbers_from (length o.hung + 1) (length (squares_under t v))))
           news = new_segments (laid ++ squares_under t v) laid (squares_under t v) refl (length o.hung) long
 
           next : suc (length before) ≡ valley_place o.signs + 1
@@ -149,21 +151,21 @@ module _ (t : Tiling) (laid : List Square) (v : Segment) (tiling : IsTiling t) (
       }
         where
           joins : (level : ℕ) × Joined t.width (laid ++ squares_under t v) sides 0 level
-              (joined (signs_between (levels (before ++ map run_of (squares_under t v) ++ after))) (segments_apart o (move_under t laid v)))
-              (filter parts (signs_between (levels (before ++ map run_of (squares_under t v) ++ after))))
-          joins = join_all (before ++ map run_of (squares_under t v) ++ after) (segments_apart o (move_under t laid v))
+              (joined (signs_between (levels (before ++ map run_under_a_square (squares_under t v) ++ after))) (segments_apart o (move_under t laid v)))
+              (filter parts (signs_between (levels (before ++ map run_under_a_square (squares_under t v) ++ after))))
+          joins = join_all (before ++ map run_under_a_square (squares_under t v) ++ after) (segments_apart o (move_under t laid v))
               (omega (
                 arith,
-                length-append (before ++ map run_of (squares_under t v)) after,
-                length-append before (map run_of (squares_under t v)),
-                length-map (squares_under t v) run_of,
+                length-append (before ++ map run_under_a_square (squares_under t v)) after,
+                length-append before (map run_under_a_square (squares_under t v)),
+                length-map (squares_under t v) run_under_a_square,
                 some,
               ))
               (runs_new_all t laid v tiling fills found low 0 before after whole_cut) new_zip
 
           j : Joined t.width (laid ++ squares_under t v) sides 0 joins.0
-              (joined (signs_between (levels (before ++ map run_of (squares_under t v) ++ after))) (segments_apart o (move_under t laid v)))
-              (filter parts (signs_between (levels (before ++ map run_of (squares_under t v) ++ after))))
+              (joined (signs_between (levels (before ++ map run_under_a_square (squares_under t v) ++ after))) (segments_apart o (move_under t laid v)))
+              (filter parts (signs_between (levels (before ++ map run_under_a_square (squares_under t v) ++ after))))
           j = joins.1
 
 -- after the move under the leftmost valley, which is legal, the outline depicts what is laid then

@@ -48,8 +48,8 @@ module _ (t : Tiling) (laid : List Square) (v : Segment) (tiling : IsTiling t) (
       same = no_two (covers c j) t.squares (omega (arith, cell c j wide in_rectangle)) q there.0 h e (laid_in there.0 there.1) there.2
 
   -- a laid square over a column ends at its depth or above
-  pub not_laid : (c : ℕ) (q : Square) → IsOneOf q laid → q.x ≤ c → c < q.x + q.s → q.y + q.s ≤ depth laid c
-  not_laid c q h a b = depth_reaches laid c q h (column_from c q a b)
+  pub laid_square_ends_by_the_depth : (c : ℕ) (q : Square) → IsOneOf q laid → q.x ≤ c → c < q.x + q.s → q.y + q.s ≤ depth laid c
+  laid_square_ends_by_the_depth c q h a b = depth_reaches laid c q h (column_from c q a b)
 
   -- the leftmost valley is level
   pub flat : IsLevel t.width laid v
@@ -70,7 +70,7 @@ module _ (t : Tiling) (laid : List Square) (v : Segment) (tiling : IsTiling t) (
 
       -- it isn't laid
       free : IsOneOf q laid → ⊥
-      free k = let a = over.left in let b = over.right in let d = over.bottom in omega (arith, not_laid c q k a b, deep)
+      free k = let a = over.left in let b = over.right in let d = over.bottom in omega (arith, laid_square_ends_by_the_depth c q k a b, deep)
 
       two : (a b : ℕ) → a ≤ b → (a ≡ b) ⊎ (a < b)
       two a b k = grind arith

@@ -39,9 +39,10 @@ valley_segment t laid nodes o v tiling d found = subst (λ (n : ℕ). IsSegment 
 
 module _ (t : Tiling) (tiling : IsTiling t) where
   -- where all columns are as deep as the tiling is high, each square is laid
-  pub all_laid : (laid : List Square) → FillsFromTop t laid → ((c : ℕ) → c < t.width → depth laid c ≡ t.height) → (q : Square) → IsOneOf q t.squares
+  pub all_squares_laid_at_full_depth : (laid : List Square) → FillsFromTop t laid → ((c : ℕ) → c < t.width → depth laid c ≡ t.height) → (q : Square)
+      → IsOneOf q t.squares
       → IsOneOf q laid
-  all_laid laid fills full q h = subst (λ (p : Square). IsOneOf p laid) (sym same) there.1
+  all_squares_laid_at_full_depth laid fills full q h = subst (λ (p : Square). IsOneOf p laid) (sym same) there.1
     where
       wide : q.x < t.width
       wide = let a = (within_of t tiling q h).right in omega (arith, side_of t tiling q h)

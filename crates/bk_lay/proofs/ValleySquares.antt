@@ -115,9 +115,11 @@ module _ (t : Tiling) (laid : List Square) (v : Segment) (tiling : IsTiling t) (
   top_of q h = (is_under t laid v tiling fills found low q h).level
 
   -- two of them do not stand over one column
-  pub one_over : (q r : Square) → IsOneOf q (squares_under t v) → IsOneOf r (squares_under t v) → (c : ℕ) → q.x ≤ c → c < q.x + q.s → r.x ≤ c
+  pub one_square_under_the_valley_over_a_column : (q r : Square) → IsOneOf q (squares_under t v) → IsOneOf r (squares_under t v) → (c : ℕ) → q.x ≤ c
+      → c < q.x + q.s → r.x ≤ c
       → c < r.x + r.s → q ≡ r
-  one_over q r a b c p1 p2 p3 p4 = no_two (covers c v.level) t.squares (omega (arith, cell t laid v tiling fills found low c v.level wide low)) q r
+  one_square_under_the_valley_over_a_column q r a b c p1 p2 p3 p4 = no_two (covers c v.level) t.squares
+      (omega (arith, cell t laid v tiling fills found low c v.level wide low)) q r
       (in_tiling t laid v tiling fills found low q a) (covers_from c v.level q p1 p2 (omega (arith, top_of q a)) (omega (arith, top_of q a, side_of q a)))
       (in_tiling t laid v tiling fills found low r b) (covers_from c v.level r p3 p4 (omega (arith, top_of r b)) (omega (arith, top_of r b, side_of r b)))
     where
@@ -133,7 +135,7 @@ module _ (t : Tiling) (laid : List Square) (v : Segment) (tiling : IsTiling t) (
     begins = λ q h. (is_under t laid v tiling fills found low q h).left;
     ends = λ q h. (is_under t laid v tiling fills found low q h).right;
     over = over;
-    apart = one_over;
+    apart = one_square_under_the_valley_over_a_column;
   })
     where
       over : (c : ℕ) → v.x ≤ c → c < v.x + v.width → (q : Square) × IsOneOf q (squares_under t v) × (q.x ≤ c) × (c < q.x + q.s)
@@ -195,5 +197,5 @@ module _ (t : Tiling) (laid : List Square) (v : Segment) (tiling : IsTiling t) (
               sides : IsOneOf p laid ⊎ IsOneOf p (squares_under t v) → ⊥
               sides (inl old) = let u = is_under t laid v tiling fills found low q h in let a = u.left in let b = u.right in let d = u.level in
                   omega (arith, depth_reaches laid c p old e, ((found.valley).flat).level c (omega arith) (omega arith))
-              sides (inr new) = let same : q ≡ p = one_over q p h new c lo hi (column_left c p e) (column_right c p e) in
+              sides (inr new) = let same : q ≡ p = one_square_under_the_valley_over_a_column q p h new c lo hi (column_left c p e) (column_right c p e) in
                   let bottom : q.y + q.s ≡ p.y + p.s = ap (λ (s : Square). s.y + s.s) same in omega arith

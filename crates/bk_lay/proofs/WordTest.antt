@@ -73,11 +73,11 @@ word_by_valleys t laid (v ∷ valleys) p =
     (v, passes_as_valley t.width laid v p.0, ltb-true v.level t.height p.1, refl, word_by_valleys t (laid ++ squares_under t v) valleys p.2)
 
 -- the tests of a valley, one by one
-abbrev pub by_tests : (width : ℕ) (laid : List Square) (v : Segment) → nat_lt 0 v.width ≡ true → nat_le (v.x + v.width) width ≡ true
+abbrev pub passes_as_valley_by_tests : (width : ℕ) (laid : List Square) (v : Segment) → nat_lt 0 v.width ≡ true → nat_le (v.x + v.width) width ≡ true
     → all_below (λ k. nat_eq (depth laid (v.x + k)) v.level) v.width ≡ true
     → all_below (λ c. nat_le (depth laid (suc c)) (depth laid c)) v.x ≡ true → deeper_before laid v.level v.x ≡ true
     → not (nat_lt (v.x + v.width) width) || nat_lt v.level (depth laid (v.x + v.width)) ≡ true → PassesAsValley width laid v
-by_tests width laid v a b c d e f = record { some = a; within = b; level = c; falls = d; before = e; after = f }
+passes_as_valley_by_tests width laid v a b c d e f = record { some = a; within = b; level = c; falls = d; before = e; after = f }
 
 -- whether a segment passes as the leftmost valley
 abbrev pub passes : ℕ → List Square → Segment → Bool
@@ -102,7 +102,7 @@ passing_by_test t laid (v ∷ valleys) e =
     let falls = and_parts _ _ level.1 in
     let ends = and_parts _ _ falls.1 in
     let rest = and_parts _ _ first.1 in (
-      by_tests t.width laid v some.0 within.0 level.0 falls.0 ends.0 ends.1,
+      passes_as_valley_by_tests t.width laid v some.0 within.0 level.0 falls.0 ends.0 ends.1,
       rest.0,
       passing_by_test t (laid ++ squares_under t v) valleys rest.1,
     )

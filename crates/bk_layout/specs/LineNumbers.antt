@@ -8,8 +8,8 @@ use Rattle.bk_word.specs.Word.{Move, Word}
 use Rattle.bk_layout.specs.Layout.{Fits, Layout}
 use Rattle.bk_layout.specs.LayoutLaws.{IsWordOfLayout}
 
--- the lines at the left and at the right of so many new squares in a row, where so many squares were hung before: the
--- gap behind the square at place k, counted from 0, has the number k + 2
+-- the lines at both sides of each square of a row, of which the first has the place `hung`; `left` and `right` are
+-- those at the ends of the row. The gap behind the square at place k, counted from 0, has the number k + 2
 abbrev pub new_sides : ℕ → ℕ → ℕ → ℕ → List (ℕ × ℕ)
 new_sides hung zero left right = []
 new_sides hung (suc zero) left right = (left, right) ∷ []

@@ -6,7 +6,7 @@ use Rattle.std.specs.Prelude.{Bool, List, [], cond, length, max, nat_le, nat_lt,
 use Rattle.std.specs.Prelude.{◌<◌, ◌∷◌, ◌≡◌, ◌≤◌}
 use Rattle.bk_simple.specs.Simple.{IsSimple}
 use Rattle.bk_tiling.specs.Tiling.{IsTiling, Tiling, order}
-use Rattle.bk_word.specs.Play.{IsLegal, outline_of}
+use Rattle.bk_word.specs.Play.{outline_of}
 use Rattle.bk_word.specs.Word.{Word, order_of}
 use Rattle.bk_layout.specs.Layout.{Layout}
 use Rattle.bk_layout.specs.LayoutLaws.{IsWordOfLayout}
@@ -57,11 +57,6 @@ most_moves_of n front = cond (nat_lt (first_count front) (max (left_squares fron
 
 abbrev pub MostMovesAreMost : Type 0
 MostMovesAreMost = (n : ℕ) (front : Word) → AreMostMoves n front (most_moves_of n front)
-
--- a number that bounds the moves of words that begin with some moves still does where these go on
-abbrev pub MostMovesStay : Type 0
-MostMovesStay = (n most : ℕ) (front more : Word) → IsLegal (front ++ more) → AreMostMoves n front most
-    → AreMostMoves n (front ++ more) most
 
 -- moves after which fewer moves are left than segments that must be closed, with those on which lines from the top end
 abbrev pub TooFewMovesIsNormalBarren : Type 0

@@ -33,7 +33,7 @@ ghost use Rattle.bk_layout.specs.NormalImage.{ImagesAreSimple};
 ghost use Rattle.bk_layout.specs.NormalLayout.{ANormalTilingHasANormalLayout, ReversalsKeepCounts};
 ghost use Rattle.bk_layout.specs.WordNumbers.{AMoveHangsAtWalls, AWordShowsNumbers, WallMovesHangOne};
 ghost use Rattle.bk_layout.specs.NormalCuts.{ANetBarrenWordIsNormalBarren, ANormalTilingHasANormalWord};
-ghost use Rattle.bk_layout.specs.NormalCuts.{MostMovesAreMost, MostMovesStay};
+ghost use Rattle.bk_layout.specs.NormalCuts.{MostMovesAreMost};
 ghost use Rattle.bk_layout.specs.NormalCuts.{TooFewMovesIsNormalBarren, TooManySquaresIsNormalBarren};
 ghost use Rattle.bk_layout.specs.StrongBound.{StrongBoundIsNormalBarren, StrongWeightIsNormalBarren};
 ghost use Rattle.bk_layout.specs.StrongPass.{EvenAsksLeast, FewerMarksAskLess, ThePassCountsTheBound, ThePassIsStrong};
@@ -163,9 +163,6 @@ pub fn moves_of_normal_words()
     // A word of a normal layout has at most so many moves: half of one more than the squares, and one less than just
     // half where more squares stand at a wall than at the top.
     ensures most_moves_are_most { MostMovesAreMost }
-
-    // A number that bounds the moves of words that begin with some moves still does where these go on.
-    ensures most_moves_stay { MostMovesStay }
 
     // A number that bounds the moves of a word, once its next valley is known, still does when the next move is played.
     ensures most_moves_hold_then { MostMovesHoldThen }

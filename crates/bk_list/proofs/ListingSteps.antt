@@ -2,8 +2,8 @@
 use Rattle.std.specs.Prelude.{Option, flat_map}
 use Rattle.std.specs.Io.KnownBytes.{Appends}
 use Rattle.std.proofs.KnownBytes.{Appends-nil, Appends-trans}
-use Rattle.std.proofs.Common.{List, None, Some, [], ap, append-nil, arith, false, inl, inr, length, refl, subst, sym, ℕ, ◌++◌, ◌+◌, ◌<◌, ◌^◌, ◌∙◌}
-use Rattle.std.proofs.Common.{◌∷◌, ◌≡◌, ◌≤◌, ◌⊎◌}
+use Rattle.std.proofs.Common.{Bool, List, None, Some, [], ap, append-nil, arith, false, inl, inr, length, refl, subst, sym, true, ℕ, ◌++◌, ◌+◌, ◌<◌}
+use Rattle.std.proofs.Common.{◌^◌, ◌∙◌, ◌∷◌, ◌≡◌, ◌≤◌, ◌⊎◌}
 use Rattle.std.proofs.lemmas.Grind.{flat_map-append}
 use Rattle.std.proofs.lemmas.List.{length-append}
 use Rattle.bk_ports.proofs.KnownSteps.{prefix_after}
@@ -23,8 +23,6 @@ use Rattle.bk_list.specs.Listing.{AreFirst, Catalogue, EndsBy, IsBelowLimit, IsL
 use Rattle.bk_list.specs.ListingLaws.{cursor_after}
 use Rattle.bk_list.specs.Walked.{catalogue_of}
 use Rattle.bk_list.specs.Writing.{BeginsListing, HasEntries, IsNext, IsNextBegun, WritesListing}
-use Rattle.bk_list.specs.declared.entries.Next.{Next}
-use Rattle.bk_list.specs.declared.entries.Next.TheVariants.{Member, Nothing}
 
 -- the word of a next member has a move
 pub word_has_a_move : (n : ℕ) (class : Class) (cursor : Word) (e : Entry) → IsNextMember n class cursor e → 0 < length e.word
@@ -39,12 +37,12 @@ abbrev pub members_after : Catalogue → Word → WalkState
 members_after k cursor = record { order = k.order; class = k.class; cursor = cursor; ended = false; pushes = 0 }
 
 -- the next entry, by other names of the catalogue and of what came
-pub next_of_same : (here then : WalkState) (catalogue : Catalogue) (b c : Option (List ℕ)) (x next : Next) → catalogue_of here ≡ catalogue → x ≡ next
+pub next_of_same : (here then : WalkState) (catalogue : Catalogue) (b c : Option (List ℕ)) (x next : Bool) → catalogue_of here ≡ catalogue → x ≡ next
     → IsNext here then b c x → IsNext (members_after catalogue here.cursor) (members_after catalogue then.cursor) b c next
-next_of_same here then catalogue b c x Member e f h =
-    subst (λ (k : Catalogue). IsNext (members_after k here.cursor) (members_after k then.cursor) b c Member) e (subst (IsNext here then b c) f h)
-next_of_same here then catalogue b c x Nothing e f h =
-    subst (λ (k : Catalogue). IsNext (members_after k here.cursor) (members_after k then.cursor) b c Nothing) e (subst (IsNext here then b c) f h)
+next_of_same here then catalogue b c x true e f h =
+    subst (λ (k : Catalogue). IsNext (members_after k here.cursor) (members_after k then.cursor) b c true) e (subst (IsNext here then b c) f h)
+next_of_same here then catalogue b c x false e f h =
+    subst (λ (k : Catalogue). IsNext (members_after k here.cursor) (members_after k then.cursor) b c false) e (subst (IsNext here then b c) f h)
 
 -- a write that failed for the next member of a catalogue failed for that of an equal one
 pub begun_of_same : (here then : WalkState) (catalogue : Catalogue) (b c : Option (List ℕ)) → catalogue_of here ≡ catalogue
@@ -79,8 +77,8 @@ limit_none (Some l) = cases (two l)
     cases (inr e) = inr (ap (λ z. Some z) e)
 
 -- before the first call nothing is listed
-pub listed_none : (l : Listing) (written : Option (List ℕ)) → IsListed l l.cursor 0 written written
-listed_none l written = record {
+pub nothing_listed_before_the_first_call : (l : Listing) (written : Option (List ℕ)) → IsListed l l.cursor 0 written written
+nothing_listed_before_the_first_call l written = record {
   entries = [];
   first = first_none l.catalogue l.cursor;
   within = limit_none l.limit;
@@ -114,8 +112,9 @@ lines_more entries e = flat_map-append line_of entries (e ∷ []) ∙ ap (λ l. 
 -- a listing that has not reached its limit
 module _ (l : Listing) (cursor : Word) (listed : ℕ) (a b : Option (List ℕ)) (s : IsListed l cursor listed a b) (not : l.limit ≡ Some listed → ⊥) where
   -- with the next member its entries are the first ones
-  pub first_then : (e : Entry) → IsNextMember l.catalogue.order l.catalogue.class cursor e → AreFirst l.catalogue l.cursor (s.entries ++ e ∷ [])
-  first_then e t = first_more l.catalogue l.cursor s.entries e s.first t.is
+  pub first_entries_with_the_next_member : (e : Entry) → IsNextMember l.catalogue.order l.catalogue.class cursor e
+      → AreFirst l.catalogue l.cursor (s.entries ++ e ∷ [])
+  first_entries_with_the_next_member e t = first_more l.catalogue l.cursor s.entries e s.first t.is
       (subst (Follows e.word) s.at t.after) (λ f is h. t.least f is (subst (Follows f.word) (sym s.at) h))
 
   -- with the next member the entries are still within the limit
@@ -124,12 +123,12 @@ module _ (l : Listing) (cursor : Word) (listed : ℕ) (a b : Option (List ℕ)) 
 
   -- one more entry was written
   pub listed_more : (then : Word) (c : Option (List ℕ)) → l.catalogue.order ≤ 16 → IsNext (members_after l.catalogue cursor)
-      (members_after l.catalogue then) b c Member
+      (members_after l.catalogue then) b c true
       → IsListed l then (listed + 1) a c
   listed_more then c few next =
       let e = next.0 in
       let t = next.1 in
-      let first : AreFirst l.catalogue l.cursor (s.entries ++ e ∷ []) = first_then e t in
+      let first : AreFirst l.catalogue l.cursor (s.entries ++ e ∷ []) = first_entries_with_the_next_member e t in
       let count = s.count in
       let more : listed + 1 ≡ length (s.entries ++ e ∷ []) = omega (arith, count, length-append s.entries (e ∷ [])) in
       let fits : length (s.entries ++ e ∷ []) + 1 < 2 ^ 64
@@ -150,14 +149,19 @@ module _ (l : Listing) (cursor : Word) (listed : ℕ) (a b : Option (List ℕ)) 
   listed_begun then c next =
       let e = next.0 in record {
         bytes = flat_map line_of s.entries ++ line_of e;
-        front = inl (record { entries = s.entries ++ e ∷ []; first = first_then e next.1; within = within_then e; text = sym (lines_more s.entries e) });
+        front = inl (record {
+          entries = s.entries ++ e ∷ [];
+          first = first_entries_with_the_next_member e next.1;
+          within = within_then e;
+          text = sym (lines_more s.entries e);
+        });
         begins = prefix_after a b c (flat_map line_of s.entries) (line_of e) s.appends next.3;
       }
 
   -- no member is left
-  unfoldable pub listed_all : (then : Word) (c : Option (List ℕ)) → IsNext (members_after l.catalogue cursor)
-      (members_after l.catalogue then) b c Nothing → HasEntries l End listed a c
-  listed_all then c next = record {
+  unfoldable pub listed_all_with_no_member_left : (then : Word) (c : Option (List ℕ)) → IsNext (members_after l.catalogue cursor)
+      (members_after l.catalogue then) b c false → HasEntries l End listed a c
+  listed_all_with_no_member_left then c next = record {
     entries = s.entries;
     first = s.first;
     ends = (

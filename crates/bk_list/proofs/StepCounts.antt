@@ -2,7 +2,7 @@
 use Rattle.std.specs.Prelude.{Option, flat_map}
 use Rattle.std.specs.Io.KnownBytes.{Appends}
 use Rattle.std.proofs.KnownBytes.{Appends-trans}
-use Rattle.std.proofs.Common.{List, None, Some, [], arith, length, subst, sym, take, ℕ, ◌*◌, ◌++◌, ◌+◌, ◌-◌, ◌∙◌, ◌∷◌, ◌≡◌}
+use Rattle.std.proofs.Common.{Bool, List, None, Some, [], arith, false, length, subst, sym, take, true, ℕ, ◌*◌, ◌++◌, ◌+◌, ◌-◌, ◌∙◌, ◌∷◌, ◌≡◌}
 use Rattle.std.proofs.lemmas.List.{length-append}
 use Rattle.bk_ports.specs.Causes.{AppendsPrefix}
 use Rattle.bk_word.proofs.FollowLaws.{not_itself}
@@ -14,14 +14,13 @@ use Rattle.bk_report.specs.Listings.{last_line}
 use Rattle.bk_report.specs.declared.listing_lines.Last.{Last}
 use Rattle.bk_report.specs.declared.listing_lines.Last.TheVariants.{End, Limit}
 use Rattle.bk_list.proofs.Continuing.{after_last}
-use Rattle.bk_list.proofs.ListingSteps.{IsListed, first_then, last_line_is, listed_all, listed_limit, members_after, within_then}
+use Rattle.bk_list.proofs.ListingSteps.{IsListed, first_entries_with_the_next_member, last_line_is, listed_all_with_no_member_left, listed_limit, members_after}
+use Rattle.bk_list.proofs.ListingSteps.{within_then}
 use Rattle.bk_list.proofs.Taking.{last_word}
 use Rattle.bk_list.specs.Listing.{Listing, line_of}
 use Rattle.bk_list.specs.ListingLaws.{cursor_after}
 use Rattle.bk_list.specs.Stepping.{AreNextSteps, IsAtMostTreeAnd, IsReached, StoppedAtEntry, StoppedAtLast, TakesSteps}
 use Rattle.bk_list.specs.Writing.{HasEntries, IsNext, IsNextBegun, StandsBehind}
-use Rattle.bk_list.specs.declared.entries.Next.{Next}
-use Rattle.bk_list.specs.declared.entries.Next.TheVariants.{Member, Nothing}
 
 -- before the first call
 pub no_steps : (n : ℕ) (start : Word) (steps : ℕ) → IsAtMostTreeAnd n start (Some start) 0 (steps - steps)
@@ -36,10 +35,10 @@ one_call_more n start between bound calls first mid last from to a b =
     (at_least_adds n start between bound ((mid - first) - 16 * calls) ((last - mid) - 16) from to a b)
 
 -- the steps of one call, by another name of the order and of what came
-pub next_steps_as : (k n : ℕ) (x next : Next) (cursor then : Word) (steps : ℕ) → k ≡ n → x ≡ next → AreNextSteps x k cursor then steps
+pub next_steps_as : (k n : ℕ) (x next : Bool) (cursor then : Word) (steps : ℕ) → k ≡ n → x ≡ next → AreNextSteps x k cursor then steps
     → AreNextSteps next n cursor then steps
 next_steps_as k n x next cursor then steps e f h = subst (λ (k : ℕ). AreNextSteps next k cursor then steps) e
-    (subst (λ (x : Next). AreNextSteps x k cursor then steps) f h)
+    (subst (λ (x : Bool). AreNextSteps x k cursor then steps) f h)
 
 -- a bound on steps in the tree of an order is one in that of an equal order
 pub tree_as : (k n : ℕ) (cursor then : Word) (steps : ℕ) → k ≡ n → IsAtMostTree k cursor (Some then) steps → IsAtMostTree n cursor (Some then) steps
@@ -61,8 +60,8 @@ module _ (l : Listing) (cursor : Word) (listed : ℕ) (a b : Option (List ℕ)) 
       back h = not_itself cursor (follows_trans cursor then cursor later h)
 
   -- a call that found one more
-  pub steps_more : (then : Word) (c : Option (List ℕ)) → IsNext (members_after l.catalogue cursor) (members_after l.catalogue then) b c Member
-      → AreNextSteps Member l.catalogue.order cursor then (last - mid)
+  pub steps_more : (then : Word) (c : Option (List ℕ)) → IsNext (members_after l.catalogue cursor) (members_after l.catalogue then) b c true
+      → AreNextSteps true l.catalogue.order cursor then (last - mid)
       → IsAtMostTreeAnd l.catalogue.order l.cursor (Some then) (listed + 1) (last - first)
   steps_more then c next more = to_later then (subst (λ (w : Word). Follows w cursor) (sym next.2) (next.1).after) more
 
@@ -72,12 +71,12 @@ module _ (l : Listing) (cursor : Word) (listed : ℕ) (a b : Option (List ℕ)) 
 
   -- a call that found none
   pub steps_all : (not : l.limit ≡ Some listed → ⊥) → (then : Word) (c : Option (List ℕ))
-      → IsNext (members_after l.catalogue cursor) (members_after l.catalogue then) b c Nothing
-      → AreNextSteps Nothing l.catalogue.order cursor then (last - mid)
+      → IsNext (members_after l.catalogue cursor) (members_after l.catalogue then) b c false
+      → AreNextSteps false l.catalogue.order cursor then (last - mid)
       → (lines : HasEntries l End listed a c) × IsReached l End lines.entries then (last - first)
-  unfolding listed_all
+  unfolding listed_all_with_no_member_left
   steps_all not then c next more = (
-    listed_all l cursor listed a b s not then c next,
+    listed_all_with_no_member_left l cursor listed a b s not then c next,
     record {
       at = next.1 ∙ s.at;
       few = subst (λ (calls : ℕ). IsAtMostTreeAnd l.catalogue.order l.cursor None (calls + 1) (last - first)) s.count (to_end more);
@@ -104,7 +103,7 @@ module _ (l : Listing) (cursor : Word) (listed : ℕ) (a b : Option (List ℕ)) 
       let e = next.0 in record {
         entries = s.entries;
         failed = e;
-        first = first_then l cursor listed a b s not e next.1;
+        first = first_entries_with_the_next_member l cursor listed a b s not e next.1;
         within = within_then l cursor listed a b s not e;
         some = (next.3).0;
         begins = Appends-trans a b c (flat_map line_of s.entries) (take (next.3).0 (line_of e)) s.appends (next.3).1;

@@ -4,8 +4,8 @@
 -- imperfect --limit 1` may take: four for the legal words 1, 1.1, 2a and 2e up to the word 2e of its entry, and 16 for
 -- the entry.
 use Rattle.std.specs.Io.KnownBytes.{Appends}
-use Rattle.std.specs.Prelude.{List, None, Option, Some, [], flat_map, length, take, ℕ, ◌*◌, ◌++◌, ◌+◌, ◌-◌, ◌∷◌, ◌≡◌}
-use Rattle.std.specs.Prelude.{◌⊎◌}
+use Rattle.std.specs.Prelude.{Bool, List, None, Option, Some, [], false, flat_map, length, take, true, ℕ, ◌*◌, ◌++◌}
+use Rattle.std.specs.Prelude.{◌+◌, ◌-◌, ◌∷◌, ◌≡◌, ◌⊎◌}
 use Rattle.bk_word.specs.Word.{Word}
 use Rattle.bk_word.specs.declared.TheConstants.{LARGEST_LISTED_ORDER}
 use Rattle.bk_catalogue.specs.Catalogue.{Entry}
@@ -15,8 +15,6 @@ use Rattle.bk_report.specs.declared.listing_lines.Last.TheVariants.{End, Limit, 
 use Rattle.bk_catalogue.specs.Tree.{HasAtLeast, IsAtMostTree}
 use Rattle.bk_list.specs.Listing.{AreFirst, EndsBy, IsBelowLimit, Listing, line_of}
 use Rattle.bk_list.specs.ListingLaws.{cursor_after}
-use Rattle.bk_list.specs.declared.entries.Next.{Next}
-use Rattle.bk_list.specs.declared.entries.Next.TheVariants.{Member, Nothing}
 
 -- at most that many steps in that many calls: the tree count, of the legal words after the cursor and not after the
 -- bound, and 16 for each call
@@ -80,6 +78,6 @@ pub record IsReached (l : Listing) (last : Last) (entries : List Entry) (reached
 
 -- at most that many steps for one call: 16, and as many as there are legal words up to that of the member that it
 -- found, or after the cursor where it found none
-abbrev pub AreNextSteps : Next → ℕ → Word → Word → ℕ → Type 0
-AreNextSteps Member n cursor then steps = IsAtMostTree n cursor (Some then) steps
-AreNextSteps Nothing n cursor then steps = IsAtMostTree n cursor None steps
+abbrev pub AreNextSteps : Bool → ℕ → Word → Word → ℕ → Type 0
+AreNextSteps true n cursor then steps = IsAtMostTree n cursor (Some then) steps
+AreNextSteps false n cursor then steps = IsAtMostTree n cursor None steps

@@ -2,7 +2,7 @@
 -- Example (ListingExamples): the listing of order 2 and the class imperfect, written behind a line that stood there;
 -- all its entries without the last line; and `2 2x1 [1,1`, where the write of its first line failed. With the limit 1
 -- the members then go on behind 2e.
-use Rattle.std.specs.Prelude.{List, Option, Some, flat_map, length, ℕ, ◌≡◌, ◌⊎◌}
+use Rattle.std.specs.Prelude.{Bool, List, Option, Some, false, flat_map, length, true, ℕ, ◌≡◌, ◌⊎◌}
 use Rattle.std.specs.Io.KnownBytes.{Appends}
 use Rattle.bk_ports.specs.Causes.{AppendsPrefix}
 use Rattle.bk_word.specs.Word.{Word}
@@ -12,8 +12,6 @@ use Rattle.bk_list.specs.Listing.{AreFirst, EndsBy, IsBelowLimit, IsListing, Lis
 use Rattle.bk_list.specs.ListingLaws.{cursor_after}
 use Rattle.bk_catalogue.specs.Following.{HasNoneAfter}
 use Rattle.bk_members.specs.Walking.{IsNextMember, WalkState}
-use Rattle.bk_list.specs.declared.entries.Next.{Next}
-use Rattle.bk_list.specs.declared.entries.Next.TheVariants.{Member, Nothing}
 
 -- a listing that ends so was written, and nothing else
 pub record WritesListing (l : Listing) (last : Last) (written written_after : Option (List ℕ)) : Type 0 where
@@ -42,12 +40,12 @@ pub record StandsBehind (l : Listing) (last : Last) (reached : Word) : Type 0 wh
   pub ends : EndsBy l entries last
   pub at : reached ≡ cursor_after l.cursor entries
 
--- from where the members were, the least one after the cursor was listed, and its word is where they are then; or
--- nothing was written, because there is none after the cursor, and they stay
-abbrev pub IsNext : WalkState → WalkState → Option (List ℕ) → Option (List ℕ) → Next → Type 0
-IsNext from then written written_after Member = (e : Entry) × IsNextMember from.order from.class from.cursor e
+-- whether there was a member after the cursor. Then the least one was listed, and its word is where the members are
+-- then; else nothing was written, and they stay
+abbrev pub IsNext : WalkState → WalkState → Option (List ℕ) → Option (List ℕ) → Bool → Type 0
+IsNext from then written written_after true = (e : Entry) × IsNextMember from.order from.class from.cursor e
     × (then.cursor ≡ e.word) × Appends written written_after (line_of e)
-IsNext from then written written_after Nothing =
+IsNext from then written written_after false =
     HasNoneAfter from.order from.class from.cursor × (then.cursor ≡ from.cursor) × (written_after ≡ written)
 
 -- the write of the next entry failed

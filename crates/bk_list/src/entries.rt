@@ -22,14 +22,6 @@ pub(crate) struct EntryRoom {
     pub buffer: AnswerBuffer,
 }
 
-// What comes after the cursor.
-pub(crate) enum Next {
-    // a member, whose entry is written
-    Member,
-    // no member
-    Nothing,
-}
-
 // Writes the entries of a listing, up to its end, and gives how it ends and how many entries it has.
 pub(crate) fn write_entries<M: Members, L: Ledger, O: Sink>(
     members: &mut M,
@@ -55,10 +47,11 @@ pub(crate) fn write_entries<M: Members, L: Ledger, O: Sink>(
         if is_reached(limit, listed) {
             return Ok((Last::Limit, listed));
         }
-        match write_next(members, steps, room, out)? {
-            Next::Member => listed += 1,
-            Next::Nothing => return Ok((Last::End, listed)),
+        let is_there = write_next(members, steps, room, out)?;
+        if !is_there {
+            return Ok((Last::End, listed));
         }
+        listed += 1;
     }
 }
 
@@ -70,13 +63,13 @@ fn is_reached(limit: Option<u64>, listed: u64) -> bool
     matches!(limit, Some(most) if most == listed)
 }
 
-// Writes the entry of the next member, by one call.
+// Writes the entry of the next member, by one call, and gives whether there was a member.
 fn write_next<M: Members, L: Ledger, O: Sink>(
     members: &mut M,
     steps: &mut Steps<L>,
     room: &mut EntryRoom,
     out: &mut O,
-) -> Result<Next, Failed>
+) -> Result<bool, Failed>
     ensures next { let from = M.at members.old in let then = M.at members.new in
         IfOk result (IsNext from then (O.written out.old) (O.written out.new)) }
     ensures begun { let from = M.at members.old in let then = M.at members.new in
@@ -84,15 +77,15 @@ fn write_next<M: Members, L: Ledger, O: Sink>(
     ensures cause { HasCause (O.faults out.old) (O.faults out.new) result }
     ensures catalogue { catalogue_of (M.at members.new) ≡ catalogue_of (M.at members.old) }
     ensures steps { let from = M.at members.old in let then = M.at members.new in
-        IfOk result (λ next. AreNextSteps next from.order from.cursor then.cursor (steps.new - steps.old)) }
+        IfOk result (λ is_there. AreNextSteps is_there from.order from.cursor then.cursor (steps.new - steps.old)) }
     ensures stopped { let from = M.at members.old in let then = M.at members.new in
         OnErr result (IsAtMostTree from.order from.cursor (Some then.cursor) (steps.new - steps.old)) }
 {
     let EntryRoom { entry, buffer } = room;
     if !members.advance_in(steps, entry) {
-        return Ok(Next::Nothing);
+        return Ok(false);
     }
     write_entry(&entry.tiling, &entry.code, &entry.word, buffer);
     out.write_all(buffer.as_slice())?;
-    Ok(Next::Member)
+    Ok(true)
 }

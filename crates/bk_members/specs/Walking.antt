@@ -1,7 +1,7 @@
 -- A walk through the catalogue: what is seen of it, and what it answers.
 -- Example (WalkExamples): of order 2 and the class imperfect, a walk from the word of no move gives the row of two
 -- squares first, and nothing after it; in the class perfect it gives nothing at all.
-use Rattle.std.specs.Prelude.{Bool, min, ℕ, ◌+◌, ◌-◌, ◌^◌, ◌≡◌, ◌≤◌}
+use Rattle.std.specs.Prelude.{Bool, ℕ}
 use Rattle.bk_word.specs.Word.{Follows, Word}
 use Rattle.bk_word.specs.declared.Class.{Class}
 use Rattle.bk_catalogue.specs.Catalogue.{Entry, IsEntry}
@@ -22,8 +22,3 @@ pub record IsNextMember (n : ℕ) (class : Class) (cursor : Word) (e : Entry) : 
   pub is : IsEntry n class e
   pub after : Follows e.word cursor
   pub least : HasNoneBetween n class cursor e.word
-
--- the count of pushes goes on by the steps, up to the last number that it holds
-pub record PushesGrow (pushes pushes_then steps steps_then : ℕ) : Type 0 where
-  pub more : steps ≤ steps_then
-  pub counted : pushes_then ≡ min (pushes + (steps_then - steps)) (2 ^ 64 - 1)

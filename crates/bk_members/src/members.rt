@@ -5,8 +5,7 @@ ghost use Rattle.bk_code.specs.Code.{code_of};
 ghost use Rattle.bk_word.specs.Word.{order_of};
 ghost use Rattle.bk_word.specs.declared.TheConstants.{LARGEST_LISTED_ORDER};
 ghost use Rattle.bk_catalogue.specs.Following.{HasNoneAfter, start_cursor};
-ghost use Rattle.bk_catalogue.specs.Tree.{IsAtMostTree};
-ghost use Rattle.bk_members.specs.Walking.{PushesGrow};
+ghost use Rattle.bk_catalogue.specs.Tree.{IsAtMostTree, PushesGrow};
 ghost use Rattle.bk_members.specs.Walking.{IsNextMember, WalkState};
 
 use bk_code::Code;

@@ -12,12 +12,12 @@ use Rattle.bk_tiling.specs.declared.Square.{Square}
 use Rattle.bk_tiling.proofs.Groups.{IsRow}
 use Rattle.bk_tiling.proofs.TilingGroups.{one_there}
 use Rattle.bk_tiling.specs.SquareGroups.{square_groups}
-use Rattle.bk_net.proofs.GroupSquares.{begins_below, get_index, group_of, in_group, square_at, top_of}
+use Rattle.bk_net.proofs.GroupSquares.{a_square_over_each_cell, get_index, group_of, in_group, square_below_begins_at_the_bottom, top_of}
 use Rattle.bk_net.proofs.NodeBelow.{below_from, below_to, has_node_below}
 use Rattle.bk_net.proofs.SmithLists.{in_total, out_at, out_total}
 use Rattle.bk_net.specs.Diagram.{node_below}
 use Rattle.bk_net.proofs.ColumnSums.{all_cols-are, cols, cols_all, cols_none, in_is_cols, in_is_none}
-use Rattle.bk_net.proofs.GroupEdges.{at_level, below_height, end_within, not_left, not_right, some_width, width_is}
+use Rattle.bk_net.proofs.GroupEdges.{at_level, below_height, end_within, not_left, not_right, sides_of_a_group_fill_its_columns, some_width}
 
 module _ (t : Tiling) (tiling : IsTiling t) (v : ℕ) (g : List Square) (e : slice_get (square_groups t.squares) v ≡ Some g) where
   abbrev row : IsRow t.squares g
@@ -30,14 +30,14 @@ module _ (t : Tiling) (tiling : IsTiling t) (v : ℕ) (g : List Square) (e : sli
   ends_on q h ey c lo hi l r = (left (cases_lt q.x row.first.x), right (cases_lt row.end (q.x + q.s)))
     where
       under : (i : ℕ) → q.x ≤ i → i < q.x + q.s → (z : Square) × IsOneOf z t.squares × (z.y ≡ row.first.y) × (z.x ≤ i) × (i < z.x + z.s)
-      under i a b = from (square_at t tiling i row.first.y (let w = (within_of t tiling q h).right in omega arith) (below_height t tiling v g e))
+      under i a b = from (a_square_over_each_cell t tiling i row.first.y (let w = (within_of t tiling q h).right in omega arith) (below_height t tiling v g e))
         where
           from : (z : Square) × IsOneOf z t.squares × (covers i row.first.y z ≡ true) → (z : Square) × IsOneOf z t.squares × (z.y ≡ row.first.y)
               × (z.x ≤ i) × (i < z.x + z.s)
           from (z, k, f) = (
             z,
             k,
-            begins_below t tiling q z i h a b k (subst (λ (j : ℕ). covers i j z ≡ true) (sym ey) f) ∙ ey,
+            square_below_begins_at_the_bottom t tiling q z i h a b k (subst (λ (j : ℕ). covers i j z ≡ true) (sym ey) f) ∙ ey,
             (over_from i row.first.y z f).left,
             (over_from i row.first.y z f).right,
           )
@@ -137,4 +137,4 @@ module _ (t : Tiling) (tiling : IsTiling t) (v : ℕ) (g : List Square) (e : sli
 
   -- squares that hang from a group have sides that are together as long as the group
   pub out_is_width : out_total 0 v (square_groups t.squares) ≡ (group_of t tiling v g e).0.row.end - (group_of t tiling v g e).0.row.first.x
-  out_is_width = out_at 0 v v (square_groups t.squares) g e (omega arith) ∙ width_is t tiling v g e
+  out_is_width = out_at 0 v v (square_groups t.squares) g e (omega arith) ∙ sides_of_a_group_fill_its_columns t tiling v g e

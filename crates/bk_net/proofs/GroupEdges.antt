@@ -54,8 +54,8 @@ module _ (t : Tiling) (tiling : IsTiling t) (v : ℕ) (g : List Square) (e : sli
       omega (arith, w.1, side_of t tiling row.first first_one)
 
   -- the sides of a group are together as long as its columns are many
-  pub width_is : total (laid_sides g) ≡ (group_of t tiling v g e).0.row.end - (group_of t tiling v g e).0.row.first.x
-  width_is = omega (arith, chain_total g row.first.x row.end row.chain)
+  pub sides_of_a_group_fill_its_columns : total (laid_sides g) ≡ (group_of t tiling v g e).0.row.end - (group_of t tiling v g e).0.row.first.x
+  sides_of_a_group_fill_its_columns = omega (arith, chain_total g row.first.x row.end row.chain)
 
   -- a square that begins at its level does not reach over its left end, nor over its right end
   pub not_left : (z : Square) → IsOneOf z t.squares → z.y ≡ (group_of t tiling v g e).0.row.first.y → z.x < (group_of t tiling v g e).0.row.first.x

@@ -20,13 +20,14 @@ get_index (y ∷ xs) (suc k) x e = get_index xs k x e
 
 module _ (t : Tiling) (tiling : IsTiling t) where
   -- over each cell of the tiling lies a square
-  pub square_at : (i j : ℕ) → i < t.width → j < t.height → (q : Square) × IsOneOf q t.squares × (covers i j q ≡ true)
-  square_at i j a b = counted_one (covers i j) t.squares (omega (arith, cell_once t tiling i j a b))
+  pub a_square_over_each_cell : (i j : ℕ) → i < t.width → j < t.height → (q : Square) × IsOneOf q t.squares × (covers i j q ≡ true)
+  a_square_over_each_cell i j a b = counted_one (covers i j) t.squares (omega (arith, cell_once t tiling i j a b))
 
   -- a square over a cell just below a square's bottom begins there
-  pub begins_below : (q r : Square) (i : ℕ) → IsOneOf q t.squares → q.x ≤ i → i < q.x + q.s → IsOneOf r t.squares → covers i (q.y + q.s) r ≡ true
+  pub square_below_begins_at_the_bottom : (q r : Square) (i : ℕ) → IsOneOf q t.squares → q.x ≤ i → i < q.x + q.s → IsOneOf r t.squares
+      → covers i (q.y + q.s) r ≡ true
       → r.y ≡ q.y + q.s
-  begins_below q r i a lo hi b e = cases (cases_lt r.y (q.y + q.s))
+  square_below_begins_at_the_bottom q r i a lo hi b e = cases (cases_lt r.y (q.y + q.s))
     where
       cases : (r.y < q.y + q.s) ⊎ (q.y + q.s ≤ r.y) → r.y ≡ q.y + q.s
       cases (inl h) = let same : q ≡ r =

@@ -19,16 +19,16 @@ onto_last q (g ∷ []) = (g ++ q ∷ []) ∷ []
 onto_last q (g ∷ h ∷ groups) = g ∷ onto_last q (h ∷ groups)
 
 -- a square that begins a group, or goes on in the last one
-abbrev pub with_next : Bool → List (List Square) → Square → List (List Square)
-with_next true groups q = groups ++ (q ∷ []) ∷ []
-with_next false groups q = onto_last q groups
+abbrev pub square_groups_with_a_next_square : Bool → List (List Square) → Square → List (List Square)
+square_groups_with_a_next_square true groups q = groups ++ (q ∷ []) ∷ []
+square_groups_with_a_next_square false groups q = onto_last q groups
 
 -- a square put before groups: into the first, or as a group
 abbrev before : Bool → Square → List (List Square) → List (List Square)
 before b p groups = cond b (onto_first p groups) ((p ∷ []) ∷ groups)
 
 before_next : (b c : Bool) (p q : Square) (groups : List (List Square)) → 0 < length groups
-    → with_next c (before b p groups) q ≡ before b p (with_next c groups q)
+    → square_groups_with_a_next_square c (before b p groups) q ≡ before b p (square_groups_with_a_next_square c groups q)
 before_next b c p q [] some = absurd (omega arith)
 before_next true true p q (g ∷ groups) some = refl
 before_next false true p q (g ∷ groups) some = refl
@@ -39,11 +39,11 @@ before_next false false p q (g ∷ h ∷ groups) some = refl
 
 -- the square after some others
 groups_next : (squares : List Square) (q : Square) (rest : List Square)
-    → square_groups (squares ++ q ∷ []) ≡ with_next (begins_group (squares ++ q ∷ rest) (length squares)) (square_groups squares) q
+    → square_groups (squares ++ q ∷ []) ≡ square_groups_with_a_next_square (begins_group (squares ++ q ∷ rest) (length squares)) (square_groups squares) q
 groups_next [] q rest = refl
 groups_next (p ∷ []) q rest = cases (stands_beside p q)
   where
-    cases : (b : Bool) → before b p ((q ∷ []) ∷ []) ≡ with_next (not b) ((p ∷ []) ∷ []) q
+    cases : (b : Bool) → before b p ((q ∷ []) ∷ []) ≡ square_groups_with_a_next_square (not b) ((p ∷ []) ∷ []) q
     cases true = refl
     cases false = refl
 groups_next (p ∷ r ∷ squares) q rest =
@@ -52,12 +52,12 @@ groups_next (p ∷ r ∷ squares) q rest =
     (groups_some r squares))
 
 -- the square at a place, after those before it
-pub groups_step : (squares : List Square) (i : ℕ) (d : Square) → i < length squares
-    → square_groups (take (i + 1) squares) ≡ with_next (begins_group squares i) (square_groups (take i squares)) (get_or squares i d)
-groups_step squares i d within =
+pub square_groups_with_one_square_more : (squares : List Square) (i : ℕ) (d : Square) → i < length squares
+    → square_groups (take (i + 1) squares) ≡ square_groups_with_a_next_square (begins_group squares i) (square_groups (take i squares)) (get_or squares i d)
+square_groups_with_one_square_more squares i d within =
     ap square_groups (take_more squares i d within)
     ∙ groups_next (take i squares) (get_or squares i d) (drop (i + 1) squares)
-    ∙ (λ k. with_next (begins_group (whole k) (count k)) (square_groups (take i squares)) (get_or squares i d))
+    ∙ (λ k. square_groups_with_a_next_square (begins_group (whole k) (count k)) (square_groups (take i squares)) (get_or squares i d))
   where
     whole : take i squares ++ get_or squares i d ∷ drop (i + 1) squares ≡ squares
     whole = ap (λ (l : List Square). take i squares ++ l) (sym (drop_more squares i d within)) ∙ take-append-drop i squares
@@ -86,7 +86,8 @@ length_onto q (g ∷ []) = refl
 length_onto q (g ∷ h ∷ groups) = ap suc (length_onto q (h ∷ groups))
 
 -- a further square adds a group where it begins one
-pub length_next : (b : Bool) (groups : List (List Square)) (q : Square) → length (with_next b groups q) ≡ cond {A = ℕ} b (length groups + 1) (length groups)
+pub length_next : (b : Bool) (groups : List (List Square)) (q : Square)
+    → length (square_groups_with_a_next_square b groups q) ≡ cond {A = ℕ} b (length groups + 1) (length groups)
 length_next true groups q = omega (arith, length-append groups ((q ∷ []) ∷ []))
 length_next false groups q = length_onto q groups
 
@@ -105,7 +106,7 @@ levels_onto q (g ∷ h ∷ groups) all = ap (λ (l : List ℕ). group_level g �
 
 -- a further square adds the level of its top where it begins a group
 pub levels_next : (b : Bool) (groups : List (List Square)) (q : Square) → NoneEmpty groups
-    → map group_level (with_next b groups q) ≡ more_levels b (map group_level groups) q.y
+    → map group_level (square_groups_with_a_next_square b groups q) ≡ more_levels b (map group_level groups) q.y
 levels_next true groups q all = map-append group_level groups ((q ∷ []) ∷ [])
 levels_next false groups q all = levels_onto q groups all
 
@@ -136,7 +137,7 @@ numbers_onto n (g ∷ h ∷ groups) q some =
 
 -- the numbers of groups with one square more are those before, and that of the last group
 pub numbers_next : (b : Bool) (groups : List (List Square)) (q : Square) → (b ≡ false → 0 < length groups)
-    → numbers_from 0 (with_next b groups q) ≡ numbers_from 0 groups ++ (length (with_next b groups q) - 1) ∷ []
+    → numbers_from 0 (square_groups_with_a_next_square b groups q) ≡ numbers_from 0 groups ++ (length (square_groups_with_a_next_square b groups q) - 1) ∷ []
 numbers_next true groups q some = numbers_new 0 groups q ∙ ap (λ (k : ℕ). numbers_from 0 groups ++ k ∷ []) (omega (arith, length_next true groups q))
 numbers_next false groups q some = numbers_onto 0 groups q (some refl)
     ∙ ap (λ (k : ℕ). numbers_from 0 groups ++ k ∷ []) (omega (arith, length_next false groups q))
@@ -170,10 +171,11 @@ more_squares squares i d levels nodes groups b within begins are = record {
   groups_are = count ∙ ap length next;
 }
   where
-    next : with_next b (square_groups (take i squares)) (get_or squares i d) ≡ square_groups (take (i + 1) squares)
-    next = ap (λ (c : Bool). with_next c (square_groups (take i squares)) (get_or squares i d)) begins ∙ sym (groups_step squares i d within)
+    next : square_groups_with_a_next_square b (square_groups (take i squares)) (get_or squares i d) ≡ square_groups (take (i + 1) squares)
+    next = ap (λ (c : Bool). square_groups_with_a_next_square c (square_groups (take i squares)) (get_or squares i d)) begins
+        ∙ sym (square_groups_with_one_square_more squares i d within)
 
-    count : cond {A = ℕ} b (groups + 1) groups ≡ length (with_next b (square_groups (take i squares)) (get_or squares i d))
+    count : cond {A = ℕ} b (groups + 1) groups ≡ length (square_groups_with_a_next_square b (square_groups (take i squares)) (get_or squares i d))
     count = ap (λ (n : ℕ). cond b (n + 1) n) are.groups_are ∙ sym (length_next b (square_groups (take i squares)) (get_or squares i d))
 
 -- there are no more groups than squares

@@ -4,7 +4,9 @@ use Rattle.std.proofs.Common.{Bool, ap, arith, cond, false, inl, inr, length, na
 use Rattle.std.proofs.Common.{◌≡◌, ◌≢◌, ◌≤◌, ◌⊎◌}
 use Rattle.std.proofs.lemmas.Bool.{cases_lt}
 use Rattle.std.proofs.lemmas.Bool.Decides.{nat_tests}
+use Rattle.bk_laws.proofs.HasAtLaws.{has_at-below, has_at-read, has_at-within}
 use Rattle.bk_laws.proofs.ListItems.{slice_index_or-any_default}
+use Rattle.bk_laws.specs.HasAt.{HasAt}
 use Rattle.bk_net.specs.Labels.{AreLabels, EndsBelow, IsRelabelled, relabelled}
 use Rattle.bk_net.specs.Net.{HasNoLoose, IsJoined, IsLeastLoose, IsLoose, Net, against, along, here}
 
@@ -49,15 +51,17 @@ module _ (nodes : ℕ) (wires : List (ℕ × ℕ)) (before after : List ℕ) (do
           equal : (a b : ℕ) → nat_eq a b ≡ true → a ≡ b
           equal a b e = grind (arith, nat_tests)
 
-  new_closed : (k : ℕ) (d : ℕ × ℕ) → k < done + 1 → slice_index after (slice_index_or wires k d).0 ≡ slice_index after (slice_index_or wires k d).1
-  new_closed k d h = cases (cases_lt k done)
+  new_closed : (k : ℕ) (v : ℕ × ℕ) → HasAt wires k v → k < done + 1 → slice_index after v.0 ≡ slice_index after v.1
+  new_closed k v has h = cases (cases_lt k done)
     where
-      cases : (k < done) ⊎ (done ≤ k) → slice_index after (slice_index_or wires k d).0 ≡ slice_index after (slice_index_or wires k d).1
-      cases (inl old) = let e = ends k d (omega (arith, below)) in
-          each_node (slice_index_or wires k d).0 e.0 ∙ ap (relabelled (slice_index before w.0) (slice_index before w.1)) (are.closed k d old)
-          ∙ sym (each_node (slice_index_or wires k d).1 e.1)
+      ends_of : (v.0 < nodes) × (v.1 < nodes)
+      ends_of = subst (λ (v : ℕ × ℕ). (v.0 < nodes) × (v.1 < nodes)) (has_at-read wires k v v has) (ends k v (has_at-below wires k v has))
+
+      cases : (k < done) ⊎ (done ≤ k) → slice_index after v.0 ≡ slice_index after v.1
+      cases (inl old) = each_node v.0 ends_of.0 ∙ ap (relabelled (slice_index before w.0) (slice_index before w.1)) (are.closed k v has old)
+          ∙ sym (each_node v.1 ends_of.1)
       cases (inr new) = subst (λ (v : ℕ × ℕ). slice_index after v.0 ≡ slice_index after v.1)
-          (sym (ap (λ (n : ℕ). slice_index_or wires n d) (omega arith) ∙ at d))
+          (sym (at v) ∙ ap (λ (n : ℕ). slice_index_or wires n v) (omega arith) ∙ has_at-read wires k v v has)
           (each_node w.0 here_ends.0 ∙ relabelled_old (slice_index before w.0) (slice_index before w.1) (slice_index before w.0) refl
           ∙ sym (relabelled_new (slice_index before w.0) (slice_index before w.1)) ∙ sym (each_node w.1 here_ends.1))
 
@@ -81,7 +85,7 @@ pub own_are : (nodes : ℕ) (wires : List (ℕ × ℕ)) (labels : List ℕ) → 
 own_are nodes wires labels many own = record {
   many = many;
   joined = λ v h. subst (IsJoined wires v) (sym (own v h)) here;
-  closed = λ k d h. absurd (omega arith);
+  closed = λ k wire has h. absurd (omega arith);
 }
 
 -- in the end, joined nodes have one label
@@ -89,8 +93,8 @@ module _ (net : Net) (labels : List ℕ) (are : AreLabels net.nodes net.wires la
   -- joined nodes have one label
   pub one_label : {u v : ℕ} → IsJoined net.wires u v → slice_index labels u ≡ slice_index labels v
   one_label here = refl
-  one_label (along {u} {v} {w} c j) = subst (λ (e : ℕ × ℕ). slice_index labels e.0 ≡ slice_index labels e.1) c.2 (are.closed c.0 (u, v) c.1) ∙ one_label j
-  one_label (against {u} {v} {w} c j) = sym (subst (λ (e : ℕ × ℕ). slice_index labels e.0 ≡ slice_index labels e.1) c.2 (are.closed c.0 (v, u) c.1))
+  one_label (along {u} {v} {w} c j) = are.closed c.0 (u, v) (subst (HasAt net.wires c.0) c.2 (has_at-within net.wires c.0 (u, v) c.1)) c.1 ∙ one_label j
+  one_label (against {u} {v} {w} c j) = sym (are.closed c.0 (v, u) (subst (HasAt net.wires c.0) c.2 (has_at-within net.wires c.0 (v, u) c.1)) c.1)
       ∙ one_label j
 
   -- nodes with one label are joined

@@ -15,7 +15,7 @@ use Rattle.bk_net.specs.declared.reader.ByteKind.TheVariants.{Blank, Dash, Digit
 use Rattle.bk_net.specs.declared.reader.Place.{Place}
 use Rattle.bk_net.specs.declared.reader.Place.TheVariants.{BehindDash, Between, Comment as InComment, Count, First, Second, Start}
 use Rattle.bk_net.proofs.NodeDigits.{Goes_on, number_of}
-use Rattle.bk_net.proofs.ReadingAll.{Means, line_at, kind_means, net_read_from}
+use Rattle.bk_net.proofs.ReadingAll.{HasNetKind, kind_means, net_line_where_one_may_end, net_read_from}
 
 -- further wires and the end of the line, behind n nodes and some wires
 abbrev pub WiresRest : ℕ → List (ℕ × ℕ) → NetLine → List ℕ → Type 0
@@ -35,17 +35,17 @@ abbrev pub DashRest : ℕ → ℕ → List (ℕ × ℕ) → NetLine → List ℕ
 DashRest n a ws l bs = (b : ℕ) × (text rest : List ℕ) × (bs ≡ text ++ rest) × NodeNumber b text × WiresRest n (ws ++ (a, b) ∷ []) l rest
 
 -- digits that end a number, and what comes behind it
-abbrev pub NumberRest : ℕ → (ℕ → List ℕ → Type 0) → List ℕ → Type 0
-NumberRest v Rest bs = (n : ℕ) × (ds rest : List ℕ) × (bs ≡ ds ++ rest) × Goes_on v n ds × Rest n rest
+abbrev pub WireNumberRest : ℕ → (ℕ → List ℕ → Type 0) → List ℕ → Type 0
+WireNumberRest v Rest bs = (n : ℕ) × (ds rest : List ℕ) × (bs ≡ ds ++ rest) × Goes_on v n ds × Rest n rest
 
 -- what completes a line from a place
 abbrev pub RestOf : Place → List (ℕ × ℕ) → NetLine → List ℕ → Type 0
 RestOf Start ws l bs = ws ≡ [] → IsNetLine l bs
-RestOf (Count v) ws l bs = NumberRest v (λ n rest. WiresRest n ws l rest) bs
+RestOf (Count v) ws l bs = WireNumberRest v (λ n rest. WiresRest n ws l rest) bs
 RestOf (Between n) ws l bs = BetweenRest n ws l bs
-RestOf (First n v) ws l bs = NumberRest v (λ a rest. (others : List ℕ) × (rest ≡ 45 ∷ others) × DashRest n a ws l others) bs
+RestOf (First n v) ws l bs = WireNumberRest v (λ a rest. (others : List ℕ) × (rest ≡ 45 ∷ others) × DashRest n a ws l others) bs
 RestOf (BehindDash n a) ws l bs = DashRest n a ws l bs
-RestOf (Second n a v) ws l bs = NumberRest v (λ b rest. WiresRest n (ws ++ (a, b) ∷ []) l rest) bs
+RestOf (Second n a v) ws l bs = WireNumberRest v (λ b rest. WiresRest n (ws ++ (a, b) ∷ []) l rest) bs
 RestOf (InComment Empty) ws l bs = l ≡ Skip
 RestOf (InComment (Nodes n)) ws l bs = l ≡ Item n ws
 
@@ -82,14 +82,14 @@ line_ends n ws l is = ([], ([], [], refl, refl, ([], [], refl, tt, inl refl)), i
 
 -- a digit of a number
 digit_before : (v d : ℕ) (Rest : ℕ → List ℕ → Type 0) (b : ℕ) (bs : List ℕ) → digit_value b ≡ d → digit_value b < 10 → 0 < v → v < 100
-    → NumberRest (v * 10 + d) Rest bs → NumberRest v Rest (b ∷ bs)
+    → WireNumberRest (v * 10 + d) Rest bs → WireNumberRest v Rest (b ∷ bs)
 digit_before v d Rest b bs e small some few (n, ds, rest, is, goes, h) =
     (n, b ∷ ds, rest, ap (λ (z : List ℕ). b ∷ z) is, (small, some, few, subst (λ (k : ℕ). Goes_on (v * 10 + k) n ds) (sym e) goes), h)
 
 first_digit : (d : ℕ) (b n : ℕ) (ds : List ℕ) → digit_value b ≡ d → digit_value b < 10 → Goes_on d n ds → NodeNumber n (b ∷ ds)
 first_digit d b n ds e small goes = number_of b n ds small (subst (λ (k : ℕ). Goes_on k n ds) (sym e) goes)
 
-number_here : (v : ℕ) (Rest : ℕ → List ℕ → Type 0) (bs : List ℕ) → Rest v bs → NumberRest v Rest bs
+number_here : (v : ℕ) (Rest : ℕ → List ℕ → Type 0) (bs : List ℕ) → Rest v bs → WireNumberRest v Rest bs
 number_here v Rest bs h = (v, [], bs, refl, refl, h)
 
 -- where a number goes on, it is not 0 and has fewer than three digits
@@ -143,7 +143,7 @@ start_comment : (ws : List (ℕ × ℕ)) (l : NetLine) (b : ℕ) (bs : List ℕ)
 start_comment ws l b bs e is none = subst (λ (k : NetLine). IsNetLine k (b ∷ bs)) (sym is) ([], b ∷ bs, refl, tt, inr (bs, ap (λ (c : ℕ). c ∷ bs) e))
 
 -- what completes a line from the next place completes it from this one, with the byte between them
-step : (p : Place) (k : ByteKind) (ws : List (ℕ × ℕ)) (l : NetLine) (b : ℕ) (bs : List ℕ) → Means k b
+step : (p : Place) (k : ByteKind) (ws : List (ℕ × ℕ)) (l : NetLine) (b : ℕ) (bs : List ℕ) → HasNetKind k b
     → NextRest (next_net_place p k) (and_wire (ended_wire p k) ws) l bs → RestOf p ws l (b ∷ bs)
 step Start Blank ws l b bs m h = start_blank ws l b bs m h
 step Start (Digit d) ws l b bs m h = start_digit d ws l b bs m.0 m.1 h
@@ -185,7 +185,7 @@ step (InComment (Nodes n)) k ws l b bs m h = h
 
 -- ---- the end of the bytes
 
-ends : (p : Place) (ws : List (ℕ × ℕ)) (l : NetLine) → line_at (net_ending_at p) (and_wire (last_wire p) ws) ≡ Some l → RestOf p ws l []
+ends : (p : Place) (ws : List (ℕ × ℕ)) (l : NetLine) → net_line_where_one_may_end (net_ending_at p) (and_wire (last_wire p) ws) ≡ Some l → RestOf p ws l []
 ends Start ws l e = let same : Skip ≡ l = cc in λ none. subst (λ (k : NetLine). IsNetLine k []) same ([], [], refl, tt, inl refl)
 ends (Count v) ws l e = let same : Item v ws ≡ l = cc in number_here v (λ n rest. WiresRest n ws l rest) [] (line_ends v ws l (sym same))
 ends (Between n) ws l e = let same : Item n ws ≡ l = cc in ([], ([], [], refl, tt, inl refl), sym same ∙ ap (Item n) (sym (append-nil ws)))
@@ -210,5 +210,5 @@ read_is_rest (b ∷ bs) p ws l e =
     next (Some q) f rest = rest q f
 
 -- what is read from the start is a network line
-pub read_is_line : (bs : List ℕ) (l : NetLine) → net_read_from bs Start [] ≡ Some l → IsNetLine l bs
-read_is_line bs l e = read_is_rest bs Start [] l e refl
+pub what_is_read_is_a_net_line : (bs : List ℕ) (l : NetLine) → net_read_from bs Start [] ≡ Some l → IsNetLine l bs
+what_is_read_is_a_net_line bs l e = read_is_rest bs Start [] l e refl

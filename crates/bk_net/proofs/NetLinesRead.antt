@@ -15,7 +15,8 @@ use Rattle.bk_net.specs.declared.reader.ByteKind.TheVariants.{Blank, Dash, Digit
 use Rattle.bk_net.specs.declared.reader.Place.{Place}
 use Rattle.bk_net.specs.declared.reader.Place.TheVariants.{BehindDash, Between, Comment as InComment, Count, First, Second, Start}
 use Rattle.bk_net.proofs.NodeDigits.{Goes_on, number_from}
-use Rattle.bk_net.proofs.ReadingAll.{kind_blank, kind_digit, line_at, line_of, net_read_from, read_next}
+use Rattle.bk_net.proofs.ReadingAll.{kind_blank, net_kind_of_a_digit, net_line_by_its_ending, net_line_where_one_may_end, net_read_from}
+use Rattle.bk_net.proofs.ReadingAll.{net_read_of_a_further_byte}
 
 -- ---- numbers
 
@@ -40,7 +41,7 @@ digits_read : (at : ℕ → Place) → HasNumber at → (ws : List (ℕ × ℕ))
     → net_read_from (ds ++ x) (at v) ws ≡ net_read_from x (at n) ws
 digits_read at has ws v n [] x h = ap (λ (k : ℕ). net_read_from x (at k) ws) (sym h)
 digits_read at has ws v n (c ∷ ds) x h =
-    read_next (at v) (at (v * 10 + digit_value c)) (Digit (digit_value c)) ws ws c (ds ++ x) (kind_digit c h.0)
+    net_read_of_a_further_byte (at v) (at (v * 10 + digit_value c)) (Digit (digit_value c)) ws ws c (ds ++ x) (net_kind_of_a_digit c h.0)
     (has.goes v (digit_value c) ∙ ap (option_map at) (longer_goes v (digit_value c) h.1 h.2)) (ap (λ o. and_wire o ws) (has.keeps v (digit_value c)))
     ∙ digits_read at has ws (v * 10 + digit_value c) n ds x h.3
 
@@ -55,7 +56,7 @@ number_read : (p : Place) (at : ℕ → Place) → BeginsNumber p at → (ws : L
 number_read p at b ws n text x (a, h, e) =
     let k = number_from n a h in
     ap (λ (z : List ℕ). net_read_from z p ws) (e ∙ ap (λ (z : List ℕ). z ++ x) k.is)
-    ∙ read_next p (at (digit_value k.first)) (Digit (digit_value k.first)) ws ws k.first (k.others ++ x) (kind_digit k.first k.digit)
+    ∙ net_read_of_a_further_byte p (at (digit_value k.first)) (Digit (digit_value k.first)) ws ws k.first (k.others ++ x) (net_kind_of_a_digit k.first k.digit)
     (b.begins (digit_value k.first)) (ap (λ o. and_wire o ws) (b.none (digit_value k.first)))
     ∙ digits_read at b.within ws (digit_value k.first) n k.others x k.goes_on
 
@@ -65,7 +66,7 @@ skipped : (p : Place) (ws : List (ℕ × ℕ)) (a x : List ℕ) → next_net_pla
     → net_read_from (a ++ x) p ws ≡ net_read_from x p ws
 skipped p ws [] x next none blanks = refl
 skipped p ws (b ∷ a) x next none blanks =
-    read_next p p Blank ws ws b (a ++ x) (kind_blank b blanks.0) next (ap (λ o. and_wire o ws) none) ∙ skipped p ws a x next none blanks.1
+    net_read_of_a_further_byte p p Blank ws ws b (a ++ x) (kind_blank b blanks.0) next (ap (λ o. and_wire o ws) none) ∙ skipped p ws a x next none blanks.1
 
 blanks_read : (p : Place) (ws : List (ℕ × ℕ)) (text x : List ℕ) → next_net_place p Blank ≡ Some p → ended_wire p Blank ≡ None → Reads Blanks text x
     → net_read_from text p ws ≡ net_read_from x p ws
@@ -73,7 +74,7 @@ blanks_read p ws text x next none (a, h, e) = ap (λ (z : List ℕ). net_read_fr
 
 -- ---- the end of a line
 
-comment_read : (text : List ℕ) (ending : NetEnding) (ws : List (ℕ × ℕ)) → net_read_from text (InComment ending) ws ≡ Some (line_of ending ws)
+comment_read : (text : List ℕ) (ending : NetEnding) (ws : List (ℕ × ℕ)) → net_read_from text (InComment ending) ws ≡ Some (net_line_by_its_ending ending ws)
 comment_read [] ending ws = refl
 comment_read (b ∷ bs) ending ws = comment_read bs ending ws
 
@@ -83,7 +84,7 @@ pub record Closes (p : Place) (n : ℕ) (ws vs : List (ℕ × ℕ)) : Type 0 whe
   pub blank_wires : and_wire (ended_wire p Blank) ws ≡ vs
   pub semicolon : next_net_place p Semicolon ≡ Some (InComment (Nodes n))
   pub semicolon_wires : and_wire (ended_wire p Semicolon) ws ≡ vs
-  pub end : line_at (net_ending_at p) (and_wire (last_wire p) ws) ≡ Some (Item n vs)
+  pub end : net_line_where_one_may_end (net_ending_at p) (and_wire (last_wire p) ws) ≡ Some (Item n vs)
 
 count_closes : (n : ℕ) (ws : List (ℕ × ℕ)) → Closes (Count n) n ws ws
 count_closes n ws = record { blank = refl; blank_wires = refl; semicolon = refl; semicolon_wires = refl; end = refl }
@@ -98,14 +99,14 @@ bare_end : (p : Place) (n : ℕ) (ws vs : List (ℕ × ℕ)) (x : List ℕ) → 
 bare_end p n ws vs x c (inl e) = ap (λ (z : List ℕ). net_read_from z p ws) e ∙ c.end
 bare_end p n ws vs x c (inr (text, e)) =
     ap (λ (z : List ℕ). net_read_from z p ws) e
-    ∙ read_next p (InComment (Nodes n)) Semicolon ws vs 59 text refl c.semicolon c.semicolon_wires
+    ∙ net_read_of_a_further_byte p (InComment (Nodes n)) Semicolon ws vs 59 text refl c.semicolon c.semicolon_wires
     ∙ comment_read text (Nodes n) vs
 
 end_read : (p : Place) (n : ℕ) (ws vs : List (ℕ × ℕ)) (bs : List ℕ) → Closes p n ws vs → LineEnd bs → net_read_from bs p ws ≡ Some (Item n vs)
 end_read p n ws vs bs c ([], x, e, blanks, h) = ap (λ (z : List ℕ). net_read_from z p ws) e ∙ bare_end p n ws vs x c h
 end_read p n ws vs bs c (b ∷ a, x, e, blanks, h) =
     ap (λ (z : List ℕ). net_read_from z p ws) e
-    ∙ read_next p (Between n) Blank ws vs b (a ++ x) (kind_blank b blanks.0) c.blank c.blank_wires
+    ∙ net_read_of_a_further_byte p (Between n) Blank ws vs b (a ++ x) (kind_blank b blanks.0) c.blank c.blank_wires
     ∙ skipped (Between n) vs a x refl refl blanks.1
     ∙ bare_end (Between n) n vs vs x (between_closes n vs) h
 
@@ -114,7 +115,7 @@ gap_read : (p : Place) (n : ℕ) (ws vs : List (ℕ × ℕ)) (text x : List ℕ)
 gap_read p n ws vs text x c ([], h, e) = absurd (omega (arith, h.0))
 gap_read p n ws vs text x c (b ∷ a, h, e) =
     ap (λ (z : List ℕ). net_read_from z p ws) e
-    ∙ read_next p (Between n) Blank ws vs b (a ++ x) (kind_blank b h.1.0) c.blank c.blank_wires
+    ∙ net_read_of_a_further_byte p (Between n) Blank ws vs b (a ++ x) (kind_blank b h.1.0) c.blank c.blank_wires
     ∙ skipped (Between n) vs a x refl refl h.1.1
 
 -- ---- wires
@@ -130,7 +131,7 @@ wire_read n a b ws text x r =
   where
     dash_read : (text x : List ℕ) → Reads (Is (codes "-")) text x → net_read_from text (First n a) ws ≡ net_read_from x (BehindDash n a) ws
     dash_read text x (c, h, e) = ap (λ (z : List ℕ). net_read_from z (First n a) ws) (e ∙ ap (λ (z : List ℕ). z ++ x) h)
-        ∙ read_next (First n a) (BehindDash n a) Dash ws ws 45 x refl refl refl
+        ∙ net_read_of_a_further_byte (First n a) (BehindDash n a) Dash ws ws 45 x refl refl refl
 
 wires_read : (more : List (ℕ × ℕ)) (p : Place) (n : ℕ) (ws vs : List (ℕ × ℕ)) (bs rest : List ℕ) → Closes p n ws vs → Reads (Wires more) bs rest
     → LineEnd rest → net_read_from bs p ws ≡ Some (Item n (vs ++ more))
@@ -152,13 +153,14 @@ skip_read bs (a, x, e, blanks, h) = ap (λ (z : List ℕ). net_read_from z Start
   where
     rest : (Nothing or Comment) x → net_read_from x Start [] ≡ Some Skip
     rest (inl f) = ap (λ (z : List ℕ). net_read_from z Start []) f
-    rest (inr (text, f)) = ap (λ (z : List ℕ). net_read_from z Start []) f ∙ read_next Start (InComment Empty) Semicolon [] [] 59 text refl refl refl
+    rest (inr (text, f)) = ap (λ (z : List ℕ). net_read_from z Start []) f
+        ∙ net_read_of_a_further_byte Start (InComment Empty) Semicolon [] [] 59 text refl refl refl
         ∙ comment_read text Empty []
 
 -- each network line is read as what it stands for
-pub line_is_read : (l : NetLine) (bs : List ℕ) → IsNetLine l bs → net_read_from bs Start [] ≡ Some l
-line_is_read Skip bs h = skip_read bs h
-line_is_read (Item n ws) bs (a, x, e, blanks, (text, y, f, number, (wires, z, g, h, end))) =
+pub net_line_is_read : (l : NetLine) (bs : List ℕ) → IsNetLine l bs → net_read_from bs Start [] ≡ Some l
+net_line_is_read Skip bs h = skip_read bs h
+net_line_is_read (Item n ws) bs (a, x, e, blanks, (text, y, f, number, (wires, z, g, h, end))) =
     blanks_read Start [] bs x refl refl (a, blanks, e)
     ∙ number_read Start Count (record { begins = λ d. refl; none = λ d. refl; within = in_count }) [] n x y (text, number, f)
     ∙ wires_read ws (Count n) n [] [] y z (count_closes n []) (wires, h, g) end

@@ -14,19 +14,19 @@ use Rattle.bk_net.specs.declared.reader.NetEnding.{NetEnding}
 use Rattle.bk_net.specs.declared.reader.NetEnding.TheVariants.{Empty, Nodes}
 use Rattle.bk_net.specs.declared.reader.Place.{Place}
 use Rattle.bk_net.specs.declared.reader.Place.TheVariants.{Start}
-use Rattle.bk_net.proofs.NetLinesMeant.{read_is_line}
-use Rattle.bk_net.proofs.NetStopping.{Leads, read_whole, stops_at, stops_at_end}
-use Rattle.bk_net.proofs.ReadingAll.{line_at, line_of, net_read_from, read_next}
+use Rattle.bk_net.proofs.NetLinesMeant.{what_is_read_is_a_net_line}
+use Rattle.bk_net.proofs.NetStopping.{LeadsToWires, net_read_where_the_bytes_end, no_net_line_where_bytes_end_early, no_net_line_where_no_place_is_next}
+use Rattle.bk_net.proofs.ReadingAll.{net_line_by_its_ending, net_line_where_one_may_end, net_read_from, net_read_of_a_further_byte}
 
 -- the bytes read so far lead to this place with these wires, of which the first are kept
 pub record Progress (front : List ℕ) (p : Place) (kept : List (ℕ × ℕ)) (many : Bool) : Type 0 where
   pub all : List (ℕ × ℕ)
-  pub leads : Leads front p all
+  pub leads : LeadsToWires front p all
   pub keeps : KeepsWires all kept many
 
 -- before the first byte
-pub at_first : (kept : List (ℕ × ℕ)) → kept ≡ [] → Progress [] Start kept false
-at_first kept none = record { all = []; leads = λ x. refl; keeps = record { same = λ h. none; more = λ h. absurd (false≢true h) } }
+pub progress_before_the_first_byte : (kept : List (ℕ × ℕ)) → kept ≡ [] → Progress [] Start kept false
+progress_before_the_first_byte kept none = record { all = []; leads = λ x. refl; keeps = record { same = λ h. none; more = λ h. absurd (false≢true h) } }
 
 -- behind a further byte
 pub progress_more : (bs : List ℕ) (i : ℕ) (p q : Place) (kept next_kept : List (ℕ × ℕ)) (many next_many : Bool) → i < length bs
@@ -41,18 +41,20 @@ progress_more bs i p q kept next_kept many next_many within progress next keeps 
           ap (λ front. net_read_from (front ++ x) Start []) (take_more bs i 0 within)
           ∙ ap (λ z. net_read_from z Start []) (append_assoc (take i bs) (b ∷ []) x)
           ∙ progress.leads (b ∷ x)
-          ∙ read_next p q (net_kind_of b) progress.all wires b x refl next refl;
+          ∙ net_read_of_a_further_byte p q (net_kind_of b) progress.all wires b x refl next refl;
       keeps = keeps progress.all progress.keeps;
     }
 
 -- where the reader stops, the bytes leave the grammar
-pub no_next : (bs : List ℕ) (i : ℕ) (p : Place) (kept : List (ℕ × ℕ)) (many : Bool) → i < length bs → Progress (take i bs) p kept many
+pub no_net_line_where_the_reader_stops : (bs : List ℕ) (i : ℕ) (p : Place) (kept : List (ℕ × ℕ)) (many : Bool) → i < length bs
+    → Progress (take i bs) p kept many
     → next_net_place p (net_kind_of (get_or bs i 0)) ≡ None → IsNoNetLine bs i
-no_next bs i p kept many within progress none = stops_at bs i p progress.all within progress.leads none
+no_net_line_where_the_reader_stops bs i p kept many within progress none = no_net_line_where_no_place_is_next bs i p progress.all within progress.leads none
 
 -- where a line can't end, its bytes leave the grammar at their end
-pub no_ending : (bs : List ℕ) (p : Place) (kept : List (ℕ × ℕ)) (many : Bool) → Progress bs p kept many → net_ending_at p ≡ None → IsNoNetLine bs (length bs)
-no_ending bs p kept many progress none = stops_at_end bs p progress.all progress.leads none
+pub no_net_line_where_none_may_end : (bs : List ℕ) (p : Place) (kept : List (ℕ × ℕ)) (many : Bool) → Progress bs p kept many → net_ending_at p ≡ None
+    → IsNoNetLine bs (length bs)
+no_net_line_where_none_may_end bs p kept many progress none = no_net_line_where_bytes_end_early bs p progress.all progress.leads none
 
 -- the whole line was read
 pub progress_all : (bs : List ℕ) (i : ℕ) (p : Place) (kept : List (ℕ × ℕ)) (many : Bool) → length bs ≤ i → Progress (take i bs) p kept many
@@ -60,10 +62,11 @@ pub progress_all : (bs : List ℕ) (i : ℕ) (p : Place) (kept : List (ℕ × �
 progress_all bs i p kept many all progress = subst (λ (z : List ℕ). Progress z p kept many) (take_all i bs all) progress
 
 -- at an end the bytes are a line
-whole_line : (bs : List ℕ) (p : Place) (ws : List (ℕ × ℕ)) (ending : NetEnding) → Leads bs p ws → net_ending_at p ≡ Some ending
-    → IsNetLine (line_of ending (and_wire (last_wire p) ws)) bs
+whole_line : (bs : List ℕ) (p : Place) (ws : List (ℕ × ℕ)) (ending : NetEnding) → LeadsToWires bs p ws → net_ending_at p ≡ Some ending
+    → IsNetLine (net_line_by_its_ending ending (and_wire (last_wire p) ws)) bs
 whole_line bs p ws ending leads e =
-    read_is_line bs (line_of ending (and_wire (last_wire p) ws)) (read_whole bs p ws leads ∙ ap (λ o. line_at o (and_wire (last_wire p) ws)) e)
+    what_is_read_is_a_net_line bs (net_line_by_its_ending ending (and_wire (last_wire p) ws))
+    (net_read_where_the_bytes_end bs p ws leads ∙ ap (λ o. net_line_where_one_may_end o (and_wire (last_wire p) ws)) e)
 
 -- a line that ends without a number of nodes stands for nothing
 pub skip_found : (bs : List ℕ) (p : Place) (kept : List (ℕ × ℕ)) (many : Bool) → Progress bs p kept many → net_ending_at p ≡ Some Empty → IsNetLine Skip bs
@@ -110,7 +113,7 @@ one_fault (NodesFault count) bs nodes kept many h few none = (
 one_fault (Wire place) bs nodes kept many h few none = (nodes, kept, all_kept bs nodes kept many h none.0, few, none.1, none.2)
 
 -- a network line that is refused has the fault that is told
-pub fault_is : (r : Result NetLineRead NetFault) (bs : List ℕ) (nodes : ℕ) (kept : List (ℕ × ℕ)) (many : Bool) → HasWires bs nodes kept many
+pub told_net_fault_is_the_fault : (r : Result NetLineRead NetFault) (bs : List ℕ) (nodes : ℕ) (kept : List (ℕ × ℕ)) (many : Bool) → HasWires bs nodes kept many
     → length kept ≤ 200 → IfErr r (IsNoNet nodes many kept) → IfErr r (λ fault. IsNetFaultOf fault bs)
-fault_is (Ok l) bs nodes kept many h few none = tt
-fault_is (Err fault) bs nodes kept many h few none = one_fault fault bs nodes kept many h few none
+told_net_fault_is_the_fault (Ok l) bs nodes kept many h few none = tt
+told_net_fault_is_the_fault (Err fault) bs nodes kept many h few none = one_fault fault bs nodes kept many h few none

@@ -11,7 +11,7 @@ use Rattle.bk_tiling.specs.Tiling.{IsOneOf, IsTiling, Tiling, covers}
 use Rattle.bk_tiling.specs.declared.Square.{Square}
 use Rattle.bk_tiling.proofs.Groups.{IsRow, row_of}
 use Rattle.bk_tiling.specs.SquareGroups.{square_groups}
-use Rattle.bk_net.proofs.GroupSquares.{begins_below, get_index, group_of, level_is, row_is, square_at, top_of}
+use Rattle.bk_net.proofs.GroupSquares.{a_square_over_each_cell, get_index, group_of, level_is, row_is, square_below_begins_at_the_bottom, top_of}
 use Rattle.bk_net.proofs.SmithLists.{HasGroup, has_group}
 use Rattle.bk_net.specs.Diagram.{group_level, node_below}
 
@@ -111,7 +111,8 @@ module _ (t : Tiling) (tiling : IsTiling t) where
         where
           bottom : (q.y + q.s < t.height) ⊎ (t.height ≤ q.y + q.s) → q.y + q.s ≡ t.height
           bottom (inr l) = omega (arith, (within_of t tiling q h).bottom)
-          bottom (inl l) = from (square_at t tiling q.x (q.y + q.s) (let w = (within_of t tiling q h).right in omega (arith, side_of t tiling q h)) l)
+          bottom (inl l) = from (a_square_over_each_cell t tiling q.x (q.y + q.s)
+              (let w = (within_of t tiling q h).right in omega (arith, side_of t tiling q h)) l)
             where
               from : (r : Square) × IsOneOf r t.squares × (covers q.x (q.y + q.s) r ≡ true) → q.y + q.s ≡ t.height
               from (r, m, f) = absurd (omega (
@@ -119,6 +120,6 @@ module _ (t : Tiling) (tiling : IsTiling t) where
                 k.1,
                 ap (count_by (λ r. nat_eq r.y (q.y + q.s) && covers_column q.x r)) (row_is t tiling),
                 one_counted (λ r. nat_eq r.y (q.y + q.s) && covers_column q.x r) t.squares r m
-                    (below_from q r (begins_below t tiling q r q.x h (omega arith) (omega (arith, side_of t tiling q h)) m f)
+                    (below_from q r (square_below_begins_at_the_bottom t tiling q r q.x h (omega arith) (omega (arith, side_of t tiling q h)) m f)
                     (over_from q.x (q.y + q.s) r f).left (over_from q.x (q.y + q.s) r f).right),
               ))

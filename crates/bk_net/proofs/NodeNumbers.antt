@@ -20,15 +20,15 @@ use Rattle.bk_tiling.specs.KeptTiling.{IsKept}
 use Rattle.bk_tiling.specs.SquareGroups.{square_groups}
 use Rattle.bk_tiling.specs.Tiling.{IsOneOf, IsTiling, Tiling, covers}
 use Rattle.bk_tiling.specs.declared.Square.{Square}
-use Rattle.bk_net.proofs.GroupSquares.{begins_below, row_is, square_at}
+use Rattle.bk_net.proofs.GroupSquares.{a_square_over_each_cell, row_is, square_below_begins_at_the_bottom}
 use Rattle.bk_net.proofs.NodeBelow.{below_from, has_node_below}
 use Rattle.bk_net.proofs.SidesFlow.{the_one_flow}
 use Rattle.bk_net.proofs.SmithLists.{HasGroup, count_at}
 use Rattle.bk_net.specs.Diagram.{node_below, smith_diagram}
 use Rattle.bk_net.specs.CellOrder.{is_no_later}
 use Rattle.bk_net.specs.GroupNumbers.{group_numbers}
-use Rattle.bk_net.proofs.SquareNumbers.{wires_by, wires_by-groups, wires_by-at, wires_by-length, numbers-length, HasNumber}
-use Rattle.bk_net.proofs.SquareNumbers.{has_number, no_later_to, no_later_from}
+use Rattle.bk_net.proofs.SquareNumbers.{HasNumber, group_numbers_are_as_many_as_squares, has_number, no_later_from, no_later_to, wires_by, wires_by-at}
+use Rattle.bk_net.proofs.SquareNumbers.{wires_by-groups, wires_by-length}
 
 -- the lower edge of a square of a kept tiling fits 64 bits
 pub lower_edge_fits : (t : Tiling) → IsKept t → (q : Square) → IsOneOf q t.squares → q.y + q.s < 2 ^ 64
@@ -73,10 +73,10 @@ module _ (t : Tiling) (tiling : IsTiling t) (q : Square) (one : IsOneOf q t.squa
       inside = let w = (within_of t tiling q one).bottom in omega arith
 
       below : (r : Square) × IsOneOf r t.squares × (covers q.x (q.y + q.s) r ≡ true)
-      below = square_at t tiling q.x (q.y + q.s) (let w = (within_of t tiling q one).right in omega (arith, side_of t tiling q one)) inside
+      below = a_square_over_each_cell t tiling q.x (q.y + q.s) (let w = (within_of t tiling q one).right in omega (arith, side_of t tiling q one)) inside
 
       level : (below.0).y ≡ q.y + q.s
-      level = begins_below t tiling q below.0 q.x one (omega arith) (omega (arith, side_of t tiling q one)) below.1 below.2
+      level = square_below_begins_at_the_bottom t tiling q below.0 q.x one (omega arith) (omega (arith, side_of t tiling q one)) below.1 below.2
 
       left : (below.0).x ≤ q.x
       left = (over_from q.x (q.y + q.s) below.0 below.2).left
@@ -160,25 +160,26 @@ module _ (t : Tiling) (tiling : IsTiling t) (q : Square) (one : IsOneOf q t.squa
 
 module _ (t : Tiling) (tiling : IsTiling t) where
   -- the wires of the Smith diagram, square by square, lead from the number of its group to that of the node below
-  pub wires_are : (smith_diagram t).wires ≡ wires_by (node_below (square_groups t.squares)) (group_numbers t.squares) t.squares
-  wires_are = wires_by-groups (node_below (square_groups t.squares)) 0 (square_groups t.squares)
+  pub wires_lead_from_groups_to_nodes_below : (smith_diagram t).wires ≡ wires_by (node_below (square_groups t.squares)) (group_numbers t.squares) t.squares
+  wires_lead_from_groups_to_nodes_below = wires_by-groups (node_below (square_groups t.squares)) 0 (square_groups t.squares)
       ∙ ap (wires_by (node_below (square_groups t.squares)) (group_numbers t.squares)) (row_is t tiling)
 
   -- there is a number for each square
   pub numbers_many : length (group_numbers t.squares) ≡ length t.squares
-  numbers_many = numbers-length 0 (square_groups t.squares) ∙ ap length (row_is t tiling)
+  numbers_many = group_numbers_are_as_many_as_squares 0 (square_groups t.squares) ∙ ap length (row_is t tiling)
 
   -- there is a wire for each square
-  pub wires_many : length (smith_diagram t).wires ≡ length t.squares
-  wires_many = ap length wires_are ∙ wires_by-length (node_below (square_groups t.squares)) (group_numbers t.squares) t.squares numbers_many
+  pub diagram_has_a_wire_for_each_square : length (smith_diagram t).wires ≡ length t.squares
+  diagram_has_a_wire_for_each_square = ap length wires_lead_from_groups_to_nodes_below
+      ∙ wires_by-length (node_below (square_groups t.squares)) (group_numbers t.squares) t.squares numbers_many
 
   -- the wire of the square at a place leads from its group to the node below it
-  pub wire_at : (i : ℕ) (q : Square) (d : ℕ × ℕ) → i < length t.squares
+  pub wire_leads_from_the_group_to_the_node_below : (i : ℕ) (q : Square) (d : ℕ × ℕ) → i < length t.squares
       → slice_index_or (smith_diagram t).wires i d ≡ (
         slice_index (group_numbers t.squares) i,
         node_below (square_groups t.squares) (slice_index_or t.squares i q),
       )
-  wire_at i q d h = ap (λ (ws : List (ℕ × ℕ)). slice_index_or ws i d) wires_are
+  wire_leads_from_the_group_to_the_node_below i q d h = ap (λ (ws : List (ℕ × ℕ)). slice_index_or ws i d) wires_lead_from_groups_to_nodes_below
       ∙ wires_by-at (node_below (square_groups t.squares)) (group_numbers t.squares) t.squares i d q (omega (arith, numbers_many)) h
 
   -- two ends of a wire: two different nodes
@@ -188,19 +189,20 @@ module _ (t : Tiling) (tiling : IsTiling t) where
     pub differ : from ≢ to
 
   -- the ends of the wire of a square are two nodes
-  pub ends_at : (i : ℕ) (q : Square) → i < length t.squares
+  pub wire_of_square_ends_at_nodes : (i : ℕ) (q : Square) → i < length t.squares
       → HasEnds (slice_index (group_numbers t.squares) i) (node_below (square_groups t.squares) (slice_index_or t.squares i q))
-  ends_at i q h = record { from_node = here.0; to_node = here.1; differ = here.2 }
+  wire_of_square_ends_at_nodes i q h = record { from_node = here.0; to_node = here.1; differ = here.2 }
     where
       here : (slice_index (group_numbers t.squares) i < length (square_groups t.squares) + 1)
           × (node_below (square_groups t.squares) (slice_index_or t.squares i q) < length (square_groups t.squares) + 1)
           × (slice_index (group_numbers t.squares) i ≢ node_below (square_groups t.squares) (slice_index_or t.squares i q))
       here = subst (λ (w : ℕ × ℕ). (w.0 < length (square_groups t.squares) + 1) × (w.1 < length (square_groups t.squares) + 1) × (w.0 ≢ w.1))
-          (wire_at i q (0, 0) h)
-          ((the_one_flow t tiling).0.ends i (0, 0) (omega (arith, wires_many)))
+          (wire_leads_from_the_group_to_the_node_below i q (0, 0) h)
+          ((the_one_flow t tiling).0.ends i (0, 0) (omega (arith, diagram_has_a_wire_for_each_square)))
 
   -- a further wire
-  pub wires_more : (i : ℕ) (q : Square) (wires : List (ℕ × ℕ)) → i < length t.squares → wires ≡ take i (smith_diagram t).wires
+  pub wires_with_that_of_one_square_more : (i : ℕ) (q : Square) (wires : List (ℕ × ℕ)) → i < length t.squares → wires ≡ take i (smith_diagram t).wires
       → wires ++ (slice_index (group_numbers t.squares) i, node_below (square_groups t.squares) (slice_index_or t.squares i q)) ∷ []
       ≡ take (i + 1) (smith_diagram t).wires
-  wires_more i q wires h e = (λ k. e k ++ sym (wire_at i q (0, 0) h) k ∷ []) ∙ sym (take_more (smith_diagram t).wires i (0, 0) (omega (arith, wires_many)))
+  wires_with_that_of_one_square_more i q wires h e = (λ k. e k ++ sym (wire_leads_from_the_group_to_the_node_below i q (0, 0) h) k ∷ [])
+      ∙ sym (take_more (smith_diagram t).wires i (0, 0) (omega (arith, diagram_has_a_wire_for_each_square)))

@@ -19,42 +19,42 @@ use Rattle.bk_net.specs.declared.reader.ByteKind.TheVariants.{Blank, Dash, Digit
 use Rattle.bk_net.specs.declared.reader.Place.{Place}
 
 -- what a line stands for
-abbrev pub line_of : NetEnding → List (ℕ × ℕ) → NetLine
-line_of Empty wires = Skip
-line_of (Nodes n) wires = Item n wires
+abbrev pub net_line_by_its_ending : NetEnding → List (ℕ × ℕ) → NetLine
+net_line_by_its_ending Empty wires = Skip
+net_line_by_its_ending (Nodes n) wires = Item n wires
 
 -- what a line stands for, or nothing where a line may not end
-abbrev pub line_at : Option NetEnding → List (ℕ × ℕ) → Option NetLine
-line_at None wires = None
-line_at (Some e) wires = Some (line_of e wires)
+abbrev pub net_line_where_one_may_end : Option NetEnding → List (ℕ × ℕ) → Option NetLine
+net_line_where_one_may_end None wires = None
+net_line_where_one_may_end (Some e) wires = Some (net_line_by_its_ending e wires)
 
 -- what is read from a place on
 abbrev pub net_read_from : List ℕ → Place → List (ℕ × ℕ) → Option NetLine
-net_read_from [] p wires = line_at (net_ending_at p) (and_wire (last_wire p) wires)
+net_read_from [] p wires = net_line_where_one_may_end (net_ending_at p) (and_wire (last_wire p) wires)
 net_read_from (b ∷ bs) p wires = option_and_then (λ q. net_read_from bs q (and_wire (ended_wire p (net_kind_of b)) wires)) (next_net_place p (net_kind_of b))
 
 -- a further byte of a known kind
-pub read_next : (p q : Place) (k : ByteKind) (ws vs : List (ℕ × ℕ)) (b : ℕ) (bs : List ℕ) → net_kind_of b ≡ k → next_net_place p k ≡ Some q
+pub net_read_of_a_further_byte : (p q : Place) (k : ByteKind) (ws vs : List (ℕ × ℕ)) (b : ℕ) (bs : List ℕ) → net_kind_of b ≡ k → next_net_place p k ≡ Some q
     → and_wire (ended_wire p k) ws ≡ vs → net_read_from (b ∷ bs) p ws ≡ net_read_from bs q vs
-read_next p q k ws vs b bs kind next wires =
+net_read_of_a_further_byte p q k ws vs b bs kind next wires =
     ap (λ k. option_and_then (λ q. net_read_from bs q (and_wire (ended_wire p k) ws)) (next_net_place p k)) kind
     ∙ ap (option_and_then (λ q. net_read_from bs q (and_wire (ended_wire p k) ws))) next
     ∙ ap (net_read_from bs q) wires
 
 -- what is known of a byte of each kind
-abbrev pub Means : ByteKind → ℕ → Type 0
-Means Blank b = IsBlank b
-Means (Digit d) b = (digit_value b ≡ d) × (digit_value b < 10)
-Means Dash b = b ≡ 45
-Means Semicolon b = b ≡ 59
-Means Other b = Unit {0}
+abbrev pub HasNetKind : ByteKind → ℕ → Type 0
+HasNetKind Blank b = IsBlank b
+HasNetKind (Digit d) b = (digit_value b ≡ d) × (digit_value b < 10)
+HasNetKind Dash b = b ≡ 45
+HasNetKind Semicolon b = b ≡ 59
+HasNetKind Other b = Unit {0}
 
-either : (test : Bool) (one two : ByteKind) (b : ℕ) → (test ≡ true → Means one b) → Means two b → Means (if test then one else two) b
+either : (test : Bool) (one two : ByteKind) (b : ℕ) → (test ≡ true → HasNetKind one b) → HasNetKind two b → HasNetKind (if test then one else two) b
 either true one two b yes' no' = yes' refl
 either false one two b yes' no' = no'
 
 -- a byte is what its kind says
-pub kind_means : (b : ℕ) → Means (net_kind_of b) b
+pub kind_means : (b : ℕ) → HasNetKind (net_kind_of b) b
 kind_means b =
     either (nat_le 48 b && nat_le b 57) (Digit (b - 48)) _ b (λ h. digit_value-of_test b h) (
     either ((b == 32) || ((b == 9) || (b == 13))) Blank _ b (λ h. blank_means b h) (
@@ -68,8 +68,8 @@ kind_blank b (inr (inl e)) = ap net_kind_of e
 kind_blank b (inr (inr e)) = ap net_kind_of e
 
 -- a digit has the kind of digits, with its value
-pub kind_digit : (b : ℕ) → digit_value b < 10 → net_kind_of b ≡ Digit (digit_value b)
-kind_digit b small =
+pub net_kind_of_a_digit : (b : ℕ) → digit_value b < 10 → net_kind_of b ≡ Digit (digit_value b)
+net_kind_of_a_digit b small =
     let range = digit_from_value b small in
     let value = digit_value_digit b range in
     let is_digit : (nat_le 48 b && nat_le b 57) ≡ true = and_from _ _ (le-leb 48 b (omega (arith, range))) (le-leb b 57 (omega (arith, range))) in

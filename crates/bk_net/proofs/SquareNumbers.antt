@@ -54,14 +54,14 @@ wires_by-length below (n ∷ numbers) [] e = absurd (omega arith)
 wires_by-length below (n ∷ numbers) (q ∷ squares) e = ap suc (wires_by-length below numbers squares (omega arith))
 
 -- each square of a row of groups has the number of a group
-pub numbers-length : (n : ℕ) (groups : List (List Square)) → length (numbers_from n groups) ≡ length (row_of groups)
-numbers-length n [] = refl
-numbers-length n (g ∷ groups) = omega (
+pub group_numbers_are_as_many_as_squares : (n : ℕ) (groups : List (List Square)) → length (numbers_from n groups) ≡ length (row_of groups)
+group_numbers_are_as_many_as_squares n [] = refl
+group_numbers_are_as_many_as_squares n (g ∷ groups) = omega (
   arith,
   length-append (map (λ (q : Square). n) g) (numbers_from (n + 1) groups),
   length-append g (row_of groups),
   length-map g (λ (q : Square). n),
-  numbers-length (n + 1) groups,
+  group_numbers_are_as_many_as_squares (n + 1) groups,
 )
 
 -- ---- the group of the square at a place

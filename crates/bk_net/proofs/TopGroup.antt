@@ -8,7 +8,7 @@ use Rattle.bk_tiling.specs.declared.Square.{Square}
 use Rattle.bk_tiling.proofs.Groups.{IsRow, row_of}
 use Rattle.bk_tiling.proofs.TilingGroups.{known_groups}
 use Rattle.bk_tiling.specs.SquareGroups.{square_groups}
-use Rattle.bk_net.proofs.GroupSquares.{first_in, get_index, group_of, in_group, row_is, square_at}
+use Rattle.bk_net.proofs.GroupSquares.{a_square_over_each_cell, first_in, get_index, group_of, in_group, row_is}
 use Rattle.bk_net.proofs.GroupEdges.{below_height, end_within, first_one, not_left, not_right, some_width}
 use Rattle.bk_net.proofs.SmithLists.{count_at, count_row}
 
@@ -41,7 +41,7 @@ module _ (t : Tiling) (tiling : IsTiling t) where
           ⊎ (t.width ≤ (group_of t tiling 0 (known_groups t tiling).group top_group).0.row.end)
           → (group_of t tiling 0 (known_groups t tiling).group top_group).0.row.end ≡ t.width
       cases (inr h) = omega (arith, end_within t tiling 0 (known_groups t tiling).group top_group)
-      cases (inl h) = from (square_at t tiling (group_of t tiling 0 (known_groups t tiling).group top_group).0.row.end 0 h
+      cases (inl h) = from (a_square_over_each_cell t tiling (group_of t tiling 0 (known_groups t tiling).group top_group).0.row.end 0 h
           (omega (arith, below_height t tiling 0 (known_groups t tiling).group top_group)))
         where
           from : (z : Square) × IsOneOf z t.squares × (covers (group_of t tiling 0 (known_groups t tiling).group top_group).0.row.end 0 z ≡ true)
@@ -62,7 +62,7 @@ module _ (t : Tiling) (tiling : IsTiling t) where
       cases (inr h) = absurd (from (cases_lt 0 (group_of t tiling (suc v) g e).0.row.first.x))
         where
           from : (0 < (group_of t tiling (suc v) g e).0.row.first.x) ⊎ ((group_of t tiling (suc v) g e).0.row.first.x ≤ 0) → ⊥
-          from (inl k) = at (square_at t tiling ((group_of t tiling (suc v) g e).0.row.first.x - 1) 0 (omega (
+          from (inl k) = at (a_square_over_each_cell t tiling ((group_of t tiling (suc v) g e).0.row.first.x - 1) 0 (omega (
             arith,
             some_width t tiling (suc v) g e,
             end_within t tiling (suc v) g e,

@@ -1,6 +1,7 @@
 -- Nodes labelled so that those that are joined by wires have one label.
 -- Example (NetLineExamples): where 0 takes the place of the label 2, 2 becomes 0, and 1 stays.
-use Rattle.std.specs.Prelude.{All, List, if◌then◌else◌, length, slice_index, slice_index_or, ℕ, ◌<◌, ◌==◌, ◌≡◌}
+use Rattle.std.specs.Prelude.{All, List, if◌then◌else◌, length, slice_index, ℕ, ◌<◌, ◌==◌, ◌≡◌}
+use Rattle.bk_laws.specs.HasAt.{HasAt}
 use Rattle.bk_net.specs.Net.{IsJoined}
 
 -- the ends of each wire are below this number
@@ -12,8 +13,8 @@ EndsBelow nodes wires = All (λ w. (w.0 < nodes) × (w.1 < nodes)) wires
 pub record AreLabels (nodes : ℕ) (wires : List (ℕ × ℕ)) (labels : List ℕ) (done : ℕ) : Type 0 where
   pub many : length labels ≡ nodes
   pub joined : (v : ℕ) → v < nodes → IsJoined wires v (slice_index labels v)
-  pub closed : (k : ℕ) (d : ℕ × ℕ) → k < done
-      → slice_index labels (slice_index_or wires k d).0 ≡ slice_index labels (slice_index_or wires k d).1
+  pub closed : (k : ℕ) (wire : ℕ × ℕ) → HasAt wires k wire → k < done
+      → slice_index labels wire.0 ≡ slice_index labels wire.1
 
 -- a label, or the new one in place of the old one
 abbrev pub relabelled : ℕ → ℕ → ℕ → ℕ

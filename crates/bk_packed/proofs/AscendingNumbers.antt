@@ -58,8 +58,8 @@ one_ascends x (suc place) (y ∷ xs) asc before from = (
 )
 
 -- numbers that pass a test, with one more that does put in, pass it
-pub all_one : (P : ℕ → Type 0) (x place : ℕ) (xs : List ℕ) → P x → All P xs → All P (with_one place x xs)
-all_one P x place xs one all = all_join P (take place xs) (x ∷ drop place xs) (all_take P place xs all) (one, all_drop P place xs all)
+pub all_pass_with_one_put_in : (P : ℕ → Type 0) (x place : ℕ) (xs : List ℕ) → P x → All P xs → All P (with_one place x xs)
+all_pass_with_one_put_in P x place xs one all = all_join P (take place xs) (x ∷ drop place xs) (all_take P place xs all) (one, all_drop P place xs all)
 
 -- a list with a number put in is longer by one
 pub long_one : (x place : ℕ) (xs : List ℕ) → length (with_one place x xs) ≡ length xs + 1
@@ -131,13 +131,16 @@ pub same_itself : (xs : List ℕ) → AreSame xs xs
 same_itself xs y = (λ h. h, λ h. h)
 
 -- what each of the numbers passes
-pub all_from : (P : ℕ → Type 0) (xs : List ℕ) → ((y : ℕ) → Contains xs y → P y) → All P xs
-all_from P [] each = tt
-all_from P (x ∷ xs) each = (each x (zero, omega arith, refl), all_from P xs (λ y (k, low, is). each y (suc k, omega (arith, low), is)))
+pub all_of_each_contained : (P : ℕ → Type 0) (xs : List ℕ) → ((y : ℕ) → Contains xs y → P y) → All P xs
+all_of_each_contained P [] each = tt
+all_of_each_contained P (x ∷ xs) each = (
+  each x (zero, omega arith, refl),
+  all_of_each_contained P xs (λ y (k, low, is). each y (suc k, omega (arith, low), is)),
+)
 
 -- what all of some numbers pass, all of the same pass
 pub all_same : (P : ℕ → Type 0) (xs ys : List ℕ) → AreSame xs ys → All P xs → All P ys
-all_same P xs ys same all = all_from P ys (λ y h. All-contains P xs y (All-from_recursion P xs all) ((same y).1 h))
+all_same P xs ys same all = all_of_each_contained P ys (λ y h. All-contains P xs y (All-from_recursion P xs all) ((same y).1 h))
 
 -- ---- finding the place
 

@@ -40,9 +40,10 @@ pub record IsSumFrom (ds : List ℕ) (i number unit d : ℕ) : Type 0 where
   pub small : d * unit + number / 4 < 4 ^ 64
 
 -- one digit more stands in front
-pub sum_from : (ds : List ℕ) (i number unit d : ℕ) → i < length ds → length ds ≤ 64 → AreDigits ds → number ≡ begun_by 64 (drop (i + 1) ds)
+pub digit_sum_with_one_more_in_front : (ds : List ℕ) (i number unit d : ℕ) → i < length ds → length ds ≤ 64 → AreDigits ds
+    → number ≡ begun_by 64 (drop (i + 1) ds)
     → unit ≡ 4 ^ 63 → d ≡ get_or ds i 0 → IsSumFrom ds i number unit d
-sum_from ds i number unit d within few digits e u is = record {
+digit_sum_with_one_more_in_front ds i number unit d within few digits e u is = record {
   sum = sum;
   small = subst (λ n. n < 4 ^ 64) (sym sum) (digits_small 64 (drop i ds) (digits_from ds i digits) (omega (arith, length-drop i ds)));
 }

@@ -10,7 +10,7 @@ use Rattle.std.proofs.lemmas.List.{get_or-set_other, get_or-take, get_or_default
 use Rattle.std.proofs.lemmas.List.Elements.{All-contains, All-from_recursion, All-get_or, Contains-append_left, Contains-push, Contains-push_cases}
 use Rattle.std.proofs.lemmas.List.Elements.{recursion_from_All}
 use Rattle.bk_packed.specs.KeptNumbers.{AreAscendingNumbers, IsPlaceOf}
-use Rattle.bk_packed.proofs.AscendingNumbers.{All, all_from, all_join, all_map, from_place, less_before}
+use Rattle.bk_packed.proofs.AscendingNumbers.{All, all_join, all_map, all_of_each_contained, from_place, less_before}
 
 -- of each number among so many first ones one is brought to the front, and those behind are as they were
 pub record IsBrought (old now : List ℕ) (count i : ℕ) : Type 0 where
@@ -48,7 +48,7 @@ module _ (old now : List ℕ) (count i : ℕ) (b : IsBrought old now count i) (u
   next = take_more old i 0 low
 
   below_or_same : All (λ y. y ≤ slice_index old i) (take count now)
-  below_or_same = all_from (λ y. y ≤ slice_index old i) (take count now) (λ y h. All-contains (λ z. z ≤ slice_index old i) (take i old) y
+  below_or_same = all_of_each_contained (λ y. y ≤ slice_index old i) (take count now) (λ y h. All-contains (λ z. z ≤ slice_index old i) (take i old) y
       (All-from_recursion (λ z. z ≤ slice_index old i) (take i old) (none_greater old i up low)) ((b.same y).0 h))
 
   -- one number more is looked at that is there already

@@ -7,9 +7,10 @@ use Rattle.bk_packed.specs.KeptNumbers.{AreAscendingNumbers, IsFirstFrom, IsPlac
 use Rattle.bk_packed.proofs.AscendingNumbers.{All, all_again, all_map, no_less_from}
 
 -- the number at the place of the bound is the first
-pub first_is : (xs : List ℕ) (bound place x : ℕ) → AreAscendingNumbers xs → IsPlaceOf xs bound place → place < length xs → slice_index xs place ≡ x
+pub number_at_the_bound_is_the_first : (xs : List ℕ) (bound place x : ℕ) → AreAscendingNumbers xs → IsPlaceOf xs bound place → place < length xs
+    → slice_index xs place ≡ x
     → IsFirstFrom xs bound x
-first_is xs bound place x asc is few at = record { has = contains-slice_index xs place x few at; from = from; least = least }
+number_at_the_bound_is_the_first xs bound place x asc is few at = record { has = contains-slice_index xs place x few at; from = from; least = least }
   where
     from : bound ≤ x
     from = subst (λ y. bound ≤ y) at (subst (All (λ y. bound ≤ y)) (drop_more xs place 0 few) is.from).0

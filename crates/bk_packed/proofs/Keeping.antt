@@ -5,8 +5,8 @@ use Rattle.std.proofs.lemmas.List.{take-append-drop}
 use Rattle.std.proofs.lemmas.List.Elements.{All-contains, All-from_recursion, Contains-append_cases, Contains-append_left}
 use Rattle.std.proofs.lemmas.List.Elements.{Contains-push, Contains-push_cases}
 use Rattle.bk_packed.specs.KeptNumbers.{AreAscendingNumbers, HasMoreDifferent, Holds, HoldsOneMore, IsKeptTable, Numbers}
-use Rattle.bk_packed.proofs.AscendingNumbers.{All, AreSame, IsNewPlace, all_from, all_join, all_map, all_one, all_same, from_place, least_below, long_one}
-use Rattle.bk_packed.proofs.AscendingNumbers.{low_half, one_ascends, place_in, with_one}
+use Rattle.bk_packed.proofs.AscendingNumbers.{All, AreSame, IsNewPlace, all_join, all_map, all_of_each_contained, all_pass_with_one_put_in, all_same}
+use Rattle.bk_packed.proofs.AscendingNumbers.{from_place, least_below, long_one, low_half, one_ascends, place_in, with_one}
 
 -- ---- a table with one more
 
@@ -117,8 +117,8 @@ module _ (room : ℕ) (t : Numbers) (x : ℕ) (numbers : List ℕ) (table : IsKe
       cases p = record {
         different = with_one p.place x numbers;
         ascending = one_ascends x p.place numbers ascend p.before p.from;
-        each = all_one (λ y. Contains (x ∷ t.kept) y) x p.place numbers (zero, omega arith, refl)
-            (all_from (λ y. Contains (x ∷ t.kept) y) numbers (λ y h. behind y ((same y).0 h)));
+        each = all_pass_with_one_put_in (λ y. Contains (x ∷ t.kept) y) x p.place numbers (zero, omega arith, refl)
+            (all_of_each_contained (λ y. Contains (x ∷ t.kept) y) numbers (λ y h. behind y ((same y).0 h)));
         more = omega (arith, long_one x p.place numbers, full);
       }
         where

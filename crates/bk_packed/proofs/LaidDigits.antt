@@ -54,9 +54,10 @@ module _ (t : Tiling) (o p : Outline) (digits : List ℕ) (has : HasLaidDigits t
   }
 
 -- where there is no move more, they are those of the word
-pub all_laid : (t : Tiling) (o : Outline) (digits : List ℕ) → HasLaidDigits t o digits → length t.squares ≤ 16 → ((w : Word) → IsLaidTo t w o → IsWordOf t w)
+pub digits_of_all_squares_where_all_are_laid : (t : Tiling) (o : Outline) (digits : List ℕ) → HasLaidDigits t o digits → length t.squares ≤ 16
+    → ((w : Word) → IsLaidTo t w o → IsWordOf t w)
     → HasDigitsOf t digits
-all_laid t o digits has few last = record {
+digits_of_all_squares_where_all_are_laid t o digits has few last = record {
   word = has.word;
   is_word = last has.word has.to;
   few = omega (arith, few, has.few);

@@ -19,7 +19,7 @@ use Rattle.bk_word.specs.declared.Sign.{Sign}
 use Rattle.bk_word.proofs.StoredBytes.{order_more}
 use Rattle.bk_packed.specs.Packed.{AreDigits, begun_by, packed, word_digits}
 use Rattle.bk_packed.specs.PackedLaws.{PackedPlacesCompare, PackedWordsCompare}
-use Rattle.bk_word.proofs.PlayLaws.{few_signs}
+use Rattle.bk_word.proofs.PlayLaws.{at_most_one_sign_more_than_squares}
 use Rattle.bk_word.proofs.WordOrder.{move_same}
 use Rattle.bk_packed.proofs.BaseFour.{begun-cons, digits_small}
 use Rattle.bk_packed.proofs.WordDigits.{signs_digits, count_digits, few_digits, are_digits, low_counts}
@@ -67,7 +67,7 @@ digits_low o m w room legal few low = digits_small room (map sign_place m.signs 
       few,
       order_more m w,
       legal.0.some,
-      few_signs o m legal.0,
+      at_most_one_sign_more_than_squares o m legal.0,
       length-append (map sign_place m.signs) (word_digits w),
       length-map m.signs sign_place,
       few_digits (after_move o m) w legal.1,
@@ -116,8 +116,8 @@ first_moves_decide o m n v w room legal legal_w few few_w low low_w =
     cases (inr (inl h)) =
         ap (ordering_then (nat_cmp m.count n.count)) (
         signs_decide room m.signs n.signs (word_digits v) (word_digits w) (as_many_signs o m n legal.0 legal_w.0 h) (are_digits v low.1) (are_digits w low_w.1)
-        (omega (arith, few, few_signs o m legal.0, legal.0.some, few_digits (after_move o m) v legal.1, order_more m v))
-        (omega (arith, few_w, few_signs o n legal_w.0, legal_w.0.some, few_digits (after_move o n) w legal_w.1, order_more n w))
+        (omega (arith, few, at_most_one_sign_more_than_squares o m legal.0, legal.0.some, few_digits (after_move o m) v legal.1, order_more m v))
+        (omega (arith, few_w, at_most_one_sign_more_than_squares o n legal_w.0, legal_w.0.some, few_digits (after_move o n) w legal_w.1, order_more n w))
         )
         ∙ sym (ordering_then-assoc (nat_cmp m.count n.count) (slice_cmp sign_cmp m.signs n.signs) (behind room m v w))
 
@@ -130,7 +130,7 @@ record IsRest (o : Outline) (m n : Move) (v w : Word) (room : ℕ) : Type 0 wher
 rest_of : (o : Outline) (m n : Move) (v w : Word) (room : ℕ) → AreLegalFrom o (n ∷ w) → 4 * order_of (n ∷ w) ≤ suc (suc room) → m ≡ n → IsRest o m n v w room
 rest_of o m n v w room legal_w few same = record {
   legal_w = subst (λ (k : Move). AreLegalFrom (after_move o k) w) (sym same) legal_w.1;
-  room_w = omega (arith, few, order_more n w, few_signs o n legal_w.0, legal_w.0.some, ap (λ (k : Move). length k.signs) same);
+  room_w = omega (arith, few, order_more n w, at_most_one_sign_more_than_squares o n legal_w.0, legal_w.0.some, ap (λ (k : Move). length k.signs) same);
   count = ap (λ (k : Move). k.count) same;
 }
 
@@ -187,7 +187,7 @@ places_compare o (m ∷ place) (n ∷ w) (suc (suc room)) legal legal_w e few lo
   where
     again : IsRest o n m w place room → (IsRest o n m w place room → 4 * order_of w ≤ room - length n.signs
         → AreLessAlike (behind room n w place) (word_cmp w place)) → AreLessAlike (behind room n w place) (word_cmp w place)
-    again r f = f r (omega (arith, few, order_more n w, few_signs o n legal_w.0, legal_w.0.some))
+    again r f = f r (omega (arith, few, order_more n w, at_most_one_sign_more_than_squares o n legal_w.0, legal_w.0.some))
 
 -- the numbers of legal words of one order compare as the words do
 pub packed_words_compare : PackedWordsCompare

@@ -14,7 +14,7 @@ use Rattle.bk_word.specs.declared.Sign.TheVariants.{Above, Even, Under}
 use Rattle.bk_word.proofs.StoredBytes.{order_more}
 use Rattle.bk_play.specs.Skeleton.{signs_of}
 use Rattle.bk_packed.specs.Packed.{AreDigits, begun_by, move_digits, word_digits}
-use Rattle.bk_word.proofs.PlayLaws.{few_signs}
+use Rattle.bk_word.proofs.PlayLaws.{at_most_one_sign_more_than_squares}
 use Rattle.bk_packed.proofs.BaseFour.{begun-cons, begun_roomier}
 
 sign_small : (s : Sign) → sign_place s < 4
@@ -56,7 +56,7 @@ few_digits o (m ∷ w) legal = omega (
   arith,
   legal.0.some,
   order_more m w,
-  few_signs o m legal.0,
+  at_most_one_sign_more_than_squares o m legal.0,
   length-append (move_digits m) (word_digits w),
   length-map m.signs sign_place,
   few_digits (after_move o m) w legal.1,

@@ -79,9 +79,7 @@ pub(crate) fn number_of(digits: &[u8]) -> u128
     ensures { result ≡ begun_by MOST_DIGITS digits.now }
 {
     let mut number = 0;
-    let mut i = digits.len();
-    'digits: while i > 0 {
-        i -= 1;
+    'digits: for i in (0..digits.len()).rev() {
         number = u128::from(digits[i]) * FIRST_UNIT + number / 4;
     }
     number
@@ -103,9 +101,7 @@ fn signs_before(signs: &[Sign], behind: u128) -> u128
         → result ≡ begun_by MOST_DIGITS (map sign_place signs.now ++ ds) }
 {
     let mut number = behind;
-    let mut i = signs.len();
-    'signs: while i > 0 {
-        i -= 1;
+    'signs: for i in (0..signs.len()).rev() {
         number = u128::from(sign_place(signs[i])) * FIRST_UNIT + number / 4;
     }
     number

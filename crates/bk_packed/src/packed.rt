@@ -79,9 +79,7 @@ pub fn number_with(skel: &Skel, m: &Move) -> u128
     ensures { result ≡ packed (skel.now ++ m.now ∷ []) }
 {
     let mut number = number_of_move(m);
-    let mut i = skel.moves();
-    'moves: while i > 0 {
-        i -= 1;
+    'moves: for i in (0..skel.moves()).rev() {
         number = move_before(skel.count_at(i), skel.signs_at(i), number);
     }
     number

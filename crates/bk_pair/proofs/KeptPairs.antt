@@ -7,7 +7,7 @@ use Rattle.bk_laws.proofs.Truth.{false-of_refuted, same_test-of_implications}
 use Rattle.bk_tiling.proofs.OrderLaws.{in_code_order-count, in_code_order-length}
 use Rattle.bk_tiling.specs.Tiling.{Tiling, order}
 use Rattle.bk_tiling.specs.declared.Square.{Square}
-use Rattle.bk_pair.proofs.OwnSides.{first_apart, joined_apart, none_common, second_apart}
+use Rattle.bk_pair.proofs.OwnSides.{first_apart, joined_apart, no_common_side_where_none_occurs_twice, second_apart}
 use Rattle.bk_pair.proofs.PairTests.{laid_from, laid_to}
 use Rattle.bk_pair.specs.SquaresBySide.{tiling_of}
 use Rattle.bk_pair.specs.OwnSides.{HaveCommonSide, stands_apart}
@@ -75,7 +75,8 @@ module _ (a b : Tiling) (width height : ℕ) (squares : List Square) (width' hei
 
       from : are_pair a b ≡ true → not r ≡ true
       from e = elim (cases_Bool r) [
-        | inl t ↦ absurd (none_common a b size (and_parts (can_be_laid a b) (no_twice (pair_sides a b)) e).1 (common_to (common.0 t)))
+        | inl t ↦ absurd (no_common_side_where_none_occurs_twice a b size (and_parts (can_be_laid a b) (no_twice (pair_sides a b)) e).1
+            (common_to (common.0 t)))
         | inr f ↦ ap not f
       ]
 
@@ -86,7 +87,7 @@ module _ (a b : Tiling) (width height : ℕ) (squares : List Square) (width' hei
       never : are_pair a b ≡ true → ⊥
       never e =
           let parts = and_parts (can_be_laid a b) (no_twice (pair_sides a b)) e in
-          none_common a b (laid_to a b parts.0).size parts.1 (common_to common)
+          no_common_side_where_none_occurs_twice a b (laid_to a b parts.0).size parts.1 (common_to common)
 
 -- where one of two doesn't stand apart, or they can't be laid together, they don't join
 pub not_joined : (a b : Tiling) → (stands_apart a ≡ false) ⊎ ((stands_apart b ≡ false) ⊎ (can_be_laid a b ≡ false)) → false ≡ are_pair a b

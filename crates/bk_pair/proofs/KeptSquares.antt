@@ -101,5 +101,6 @@ module _ (width height : ℕ) (squares : List Square) (apart : Bool) (small : �
   stored_apart = tiles_apart width height squares stored.accepted.tiles
 
   -- the stored squares in code order make a tiling that is kept
-  pub stored_kept : (made : List Square) → made ≡ in_code_order squares → IsKept (record { width = width; height = height; squares = made })
-  stored_kept made is = kept_from width height squares made stored.width_fits stored.height_fits stored.accepted is
+  pub stored_squares_make_a_kept_tiling : (made : List Square) → made ≡ in_code_order squares
+      → IsKept (record { width = width; height = height; squares = made })
+  stored_squares_make_a_kept_tiling made is = kept_from width height squares made stored.width_fits stored.height_fits stored.accepted is

@@ -81,8 +81,14 @@ module _ (a b : Tiling) (size : AreOneSize a b) where
   ))
 
   -- where no side of a pair occurs twice, the two tilings have no side in common
-  pub none_common : no_twice (pair_sides a b) ≡ true → HaveCommonSide a.squares b.squares → ⊥
-  none_common e common = omega (arith, common.in_first, common.in_second, count_pair a b common.side, once_each (pair_sides a b) e common.side)
+  pub no_common_side_where_none_occurs_twice : no_twice (pair_sides a b) ≡ true → HaveCommonSide a.squares b.squares → ⊥
+  no_common_side_where_none_occurs_twice e common = omega (
+    arith,
+    common.in_first,
+    common.in_second,
+    count_pair a b common.side,
+    once_each (pair_sides a b) e common.side,
+  )
 
   -- two tilings that stand apart and have no side in common have no side twice
   pub joined_apart : stands_apart a ≡ true → stands_apart b ≡ true → (HaveCommonSide a.squares b.squares → ⊥) → no_twice (pair_sides a b) ≡ true

@@ -7,10 +7,8 @@ use Rattle.std.proofs.lemmas.Bool.Decides.{nat_tests}
 use Rattle.std.proofs.lemmas.List.Sums.{sum_by-cons}
 use Rattle.bk_laws.proofs.Counts.{count_by-list_any, count_by-no_list_any}
 use Rattle.bk_tiling.specs.Tiling.{Tiling, order}
-use Rattle.bk_pair.specs.Pair.{ArePair, CanBeLaid, IsLayingFault, pair_sides}
+use Rattle.bk_pair.specs.Pair.{ArePair, CanBeLaid, pair_sides}
 use Rattle.bk_pair.specs.PairTest.{TheTestsDecide, are_pair, can_be_laid, no_twice}
-use Rattle.bk_pair.specs.declared.PairFault.{PairFault}
-use Rattle.bk_pair.specs.declared.PairFault.TheVariants as faults
 
 -- ---- no number stands twice
 
@@ -98,13 +96,3 @@ pair_from a b pair = and_from (can_be_laid a b) (no_twice (pair_sides a b)) (lai
 -- the tests decide whether two tilings can be laid together and whether they are a pair
 pub the_tests_decide : TheTestsDecide
 the_tests_decide a b = ((laid_to a b, laid_from a b), (pair_to a b, pair_from a b))
-
--- ---- a fault leaves no pair
-
--- two tilings with a fault of laying can't be laid together
-pub not_laid : (a b : Tiling) (fault : PairFault) → IsLayingFault a b fault → CanBeLaid a b → ⊥
-not_laid a b faults.Size fault can = fault can.size
-not_laid a b faults.Square fault can = can.oblong fault.1
-not_laid a b (faults.Many n) fault can = omega (arith, fault.2, fault.3, can.few)
-not_laid a b (faults.Long side) fault can = omega (arith, fault.3, fault.4, can.wide, can.high)
-not_laid a b (faults.Twice side) fault can = fault

@@ -45,9 +45,9 @@ pub record NoneSoFar (width height : ℕ) (squares : List Square) (n : ℕ) : Ty
   pub no_step : (k : ℕ) → k + 1 < n → side_at squares k ≢ side_at squares (k + 1)
 
 -- one more square is none of these
-pub none_more : (width height : ℕ) (squares : List Square) (n : ℕ) → NoneSoFar width height squares n → side_at squares n ≢ width
+pub none_so_far_with_one_square_more : (width height : ℕ) (squares : List Square) (n : ℕ) → NoneSoFar width height squares n → side_at squares n ≢ width
     → side_at squares n ≢ height → (0 < n → side_at squares (n - 1) ≢ side_at squares n) → NoneSoFar width height squares (n + 1)
-none_more width height squares n so wide high step = record {
+none_so_far_with_one_square_more width height squares n so wide high step = record {
   no_width = λ k h. elim (lt_add_one-less_or_same k n h) [ inl l ↦ so.no_width k l | inr e ↦ λ is. wide (ap (side_at squares) (sym e) ∙ is) ];
   no_height = λ k h. elim (lt_add_one-less_or_same k n h) [ inl l ↦ so.no_height k l | inr e ↦ λ is. high (ap (side_at squares) (sym e) ∙ is) ];
   no_step = λ k h. elim (lt_add_one-less_or_same (k + 1) n h) [
@@ -166,8 +166,8 @@ module _ (ps qs : List Square) (i j : ℕ) (so : NoneCommon ps qs i j) where
   ]
 
   -- where one of both is gone through, they have none in common
-  pub none_common : (length ps ≤ i) ⊎ (length qs ≤ j) → HaveCommonSide ps qs → ⊥
-  none_common end c =
+  pub no_common_side_where_one_is_gone_through : (length ps ≤ i) ⊎ (length qs ≤ j) → HaveCommonSide ps qs → ⊥
+  no_common_side_where_one_is_gone_through end c =
       let v : IsPlace c.side ps = place_from_count c.side ps c.in_first in
       let w : IsPlace c.side qs = place_from_count c.side qs c.in_second in
       so v.place w.place v.below w.below (within end v.place w.place v.below w.below) (v.one ∙ sym w.one)

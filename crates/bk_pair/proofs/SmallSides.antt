@@ -21,9 +21,9 @@ has_side squares k below =
     count_one (λ q. q.s == side_at squares k) squares k (record { x = 0; y = 0; s = 0 }) below (eq-eqb (side_at squares k) (side_at squares k) refl)
 
 -- with the bit of one more square
-pub side_added : (squares : List Square) (i n m : ℕ) → i < length squares → AreSideBitsOf n squares
+pub side_bits_with_one_square_more : (squares : List Square) (i n m : ℕ) → i < length squares → AreSideBitsOf n squares
     → ((k : ℕ) → bit_at m k ≡ 1 → (k ≡ side_at squares i) ⊎ (bit_at n k ≡ 1)) → AreSideBitsOf m squares
-side_added squares i n m below sides only k one = cases (only k one)
+side_bits_with_one_square_more squares i n m below sides only k one = cases (only k one)
   where
     cases : (k ≡ side_at squares i) ⊎ (bit_at n k ≡ 1) → HasSide squares k
     cases (inl e) = subst (HasSide squares) (sym e) (has_side squares i below)

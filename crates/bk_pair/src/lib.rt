@@ -55,7 +55,7 @@ pub fn lay_pair(a: &Tiling, b: &Tiling) -> Result<Tiling, PairFault>
 {
     match laying_fault(a, b) {
         Some(fault) => Err(fault),
-        None => Ok(laid(a, b)),
+        None => Ok(joined_square(a, b)),
     }
 }
 
@@ -71,7 +71,7 @@ pub fn join(a: &Tiling, b: &Tiling) -> Result<Tiling, PairFault>
         Some(fault) => Err(fault),
         None => match shared_side(a, b) {
             Some(side) => Err(PairFault::Twice { side }),
-            None => Ok(laid(a, b)),
+            None => Ok(joined_square(a, b)),
         },
     }
 }
@@ -124,8 +124,8 @@ fn sorted_pair_sides(a: &Tiling, b: &Tiling) -> ArrayVec<u64, MOST_SQUARES>
     sides
 }
 
-// The square that the two make, which can be laid so.
-fn laid(a: &Tiling, b: &Tiling) -> Tiling
+/// The square that two tilings make which can be laid together as `lay_pair` lays them.
+pub fn joined_square(a: &Tiling, b: &Tiling) -> Tiling
     requires { CanBeLaid a.now b.now }
     ensures { result ≡ joined_square a.now b.now }
 {

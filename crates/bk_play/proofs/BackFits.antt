@@ -12,7 +12,7 @@ use Rattle.bk_word_net.proofs.Outlines.OutlineParts.{many_segments}
 use Rattle.bk_play.proofs.PlayedFlat.{closed_are, ends_are, ends_were, signs_are, sizes_after_many, sizes_are}
 use Rattle.bk_word_net.proofs.Outlines.Shape.{Filled, filled_parts, valley_in}
 use Rattle.bk_play.proofs.SkelFacts.{Counted, counted}
-use Rattle.bk_play.proofs.RecordParts.{closed_is, first_is, sides_are, start_is}
+use Rattle.bk_play.proofs.RecordParts.{closed_is, record_says_squares_before_the_valley, sides_are, start_is}
 use Rattle.bk_word_net.proofs.Outlines.ValleyCut.{AtValley}
 use Rattle.bk_play.specs.Skeleton.{exchange_back_of, GiveWay, Shows, first_touched, open_sides_of_record, sizes_after, record_of}
 use Rattle.bk_play.specs.Valley.{IsKeptSkeleton}
@@ -58,7 +58,7 @@ module _ (front : Word) (m : Move) (kept : IsKeptSkeleton front) (legal : IsLega
 
   -- the squares that the move hung are there
   pub ends_in : (ends : List ℕ) → ends ≡ concat (after_move (outline_of front) m).segments → noted.first + m.count ≤ length ends
-  ends_in ends e = omega (arith, first_is (outline_of front) c.shaped m from v f, long_ends ends e)
+  ends_in ends e = omega (arith, record_says_squares_before_the_valley (outline_of front) c.shaped m from v f, long_ends ends e)
 
   long_sizes : (sizes : List ℕ) → sizes ≡ sizes_of (after_move (outline_of front) m)
       → length sizes ≡ length v.before + ((noted.parted + 1) + length v.after)

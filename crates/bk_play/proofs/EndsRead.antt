@@ -47,10 +47,10 @@ length-numbered f b zero = refl
 length-numbered f b (suc n) = ap suc (length-numbered f (b + 1) n)
 
 -- where each square ends, as it is read, is where it ends in the outline of a complete word
-pub ends_read : (o : Outline) (n : ℕ) (ended : List ℕ) → Numbered o → length o.segments ≡ 1 → n ≡ length o.hung → n ≤ 200
+pub ends_read_are_those_of_the_outline : (o : Outline) (n : ℕ) (ended : List ℕ) → Numbered o → length o.segments ≡ 1 → n ≡ length o.hung → n ≤ 200
     → length ended ≡ 200 → ((k : ℕ) → k < 200 → slice_index ended k ≡ end_of o.closed (k + 1))
     → take n ended ≡ map (end_of (o.closed ++ o.segments)) (numbers_from 1 n)
-ends_read o n ended numbered one all few long read =
+ends_read_are_those_of_the_outline o n ended numbered one all few long read =
     slice_index-extensionality (take n ended) (map (end_of (o.closed ++ o.segments)) (numbers_from 1 n))
     (taken ∙ sym (length-numbered (end_of (o.closed ++ o.segments)) 1 n)) each
   where

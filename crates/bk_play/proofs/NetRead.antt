@@ -18,7 +18,7 @@ use Rattle.bk_word_net.specs.WordNet.{end_of, net_of_word}
 use Rattle.bk_play.specs.declared.records.MoveRecord.{MoveRecord}
 use Rattle.bk_play.proofs.RecordCounts.{counts_records, counts_sum}
 use Rattle.bk_play.proofs.HungWires.{nodes_from, hung_nodes, zip_nodes}
-use Rattle.bk_play.proofs.EndsRead.{ends_read}
+use Rattle.bk_play.proofs.EndsRead.{ends_read_are_those_of_the_outline}
 
 -- the net of a complete word, as it is read
 pub record ReadsNet (w : Word) (records : List MoveRecord) (ends : List ℕ) : Type 0 where
@@ -43,7 +43,7 @@ reads_net {w = w} {lists = lists} s complete ended n order long read =
     all = length-take-le n ended (omega (arith, order, (s.kept).few)) ∙ order ∙ sym (ap sum counts ∙ counts_sum w)
 
     ends_are : take n ended ≡ map (end_of ((outline_of w).closed ++ (outline_of w).segments)) (numbers_from 1 (length (outline_of w).hung))
-    ends_are = ends_read (outline_of w) n ended (numbered_moves start w numbered_start) complete.one (order ∙ sym hung)
+    ends_are = ends_read_are_those_of_the_outline (outline_of w) n ended (numbered_moves start w numbered_start) complete.one (order ∙ sym hung)
         (omega (arith, order, (s.kept).few)) long read
         ∙ ap (λ k. map (end_of ((outline_of w).closed ++ (outline_of w).segments)) (numbers_from 1 k)) (order ∙ sym hung)
 

@@ -18,7 +18,8 @@ use Rattle.bk_play.proofs.FlatMoves.{sizes_between}
 use Rattle.bk_word_net.proofs.Outlines.OutlineParts.{left_one, right_one, valley_is}
 use Rattle.bk_word_net.proofs.Outlines.MovedParts.{many_between, segments_after, signs_after}
 use Rattle.bk_word_net.proofs.Outlines.Shape.{Filled, Shaped, filled_parts, valley_in}
-use Rattle.bk_play.proofs.RecordParts.{closed_is, first_is, left_is, right_is, sides_are, signs_before_are, sizes_before_are, start_is}
+use Rattle.bk_play.proofs.RecordParts.{closed_is, record_says_squares_at_the_left, record_says_squares_at_the_right, record_says_squares_before_the_valley}
+use Rattle.bk_play.proofs.RecordParts.{sides_are, signs_before_are, sizes_before_are, start_is}
 use Rattle.bk_word_net.proofs.Outlines.ValleyCut.{AtValley}
 use Rattle.bk_play.specs.Skeleton.{Shows, first_touched, joined_sizes, next_size, open_sides_of_record, signs_before, sizes_after, sizes_before, record_of}
 use Rattle.bk_play.specs.declared.records.MoveRecord.{MoveRecord}
@@ -80,7 +81,8 @@ module _ (o : Outline) (shaped : Shaped o) (m : Move) (legal : IsLegalMove o m) 
       middle : map length (joined m.signs between) ≡ sizes_after noted m.signs
       middle = sizes_between v.left v.right (new_squares o m) m.signs (left_one o v).1 (right_one o v).1 f.left f.right
           (omega (arith, legal.some, numbers-length (length o.hung + 1) m.count)) (many_between o v m legal)
-          ∙ (λ i. joined_sizes (max (sym (left_is o shaped m from v f) i) 1) (max (sym (right_is o shaped m from v f) i) 1) m.signs)
+          ∙ (λ i. joined_sizes (max (sym (record_says_squares_at_the_left o shaped m from v f) i) 1)
+          (max (sym (record_says_squares_at_the_right o shaped m from v f) i) 1) m.signs)
 
   -- the signs after it
   pub signs_are : (after_move o m).signs ≡ v.before_signs ++ (filter parts m.signs ++ v.after_signs)
@@ -92,7 +94,7 @@ module _ (o : Outline) (shaped : Shaped o) (m : Move) (legal : IsLegalMove o m) 
 
   -- how far the parts reach
   first_long : length (concat v.before ++ concat v.left) ≡ noted.first
-  first_long = length-append (concat v.before) (concat v.left) ∙ sym (first_is o shaped m from v f)
+  first_long = length-append (concat v.before) (concat v.left) ∙ sym (record_says_squares_before_the_valley o shaped m from v f)
 
   start_long : length (map length v.before) ≡ first_touched noted
   start_long = length-map v.before length ∙ sym (start_is o shaped m from v f)

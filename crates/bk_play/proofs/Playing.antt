@@ -4,7 +4,7 @@ use Rattle.bk_word.specs.Outline.{IsLegalMove, start}
 use Rattle.bk_word.specs.Play.{outline_of}
 use Rattle.bk_word.specs.Word.{Move, Word, order_of}
 use Rattle.bk_word.specs.declared.Sign.{Sign}
-use Rattle.bk_play.proofs.SkelFacts.{Counted, Touches, counted, lists_after, stored_move, touches}
+use Rattle.bk_play.proofs.SkelFacts.{Counted, Touches, counted, skeleton_lists_after_a_move, stored_move, touches}
 use Rattle.bk_word.proofs.PlayLaws.{moves_many}
 use Rattle.bk_play.proofs.StoredMoves.{signs_many, stored_word, records_many}
 use Rattle.bk_play.specs.Skeleton.{exchange_of, GiveWay, IsStoredSkeleton, SkeletonLists, moves_stored, record_of}
@@ -90,6 +90,6 @@ stored_shown {lists = lists} s = subst (λ (v : Word). IsStoredSkeleton v lists)
 
 -- with a move played, the lists store the word with that move
 pub stored_played : {most : ℕ} {w : Word} {m : Move} {lists : SkeletonLists} {noted : MoveRecord} {new : SkeletonLists}
-    → IsStoredSkeleton w lists → Playing most w m lists noted → new ≡ lists_after lists m noted → IsStoredSkeleton (w ++ m ∷ []) new
+    → IsStoredSkeleton w lists → Playing most w m lists noted → new ≡ skeleton_lists_after_a_move lists m noted → IsStoredSkeleton (w ++ m ∷ []) new
 stored_played {w = w} {m = m} {lists = lists} {noted = noted} s p n =
     subst (IsStoredSkeleton (w ++ m ∷ [])) (sym n) (stored_move w m lists noted s p.legal p.few p.record_is)

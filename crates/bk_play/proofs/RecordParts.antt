@@ -70,8 +70,8 @@ module _ (o : Outline) (shaped : Shaped o) (m : Move) (from : ℕ) (v : AtValley
   place_long = length-append v.before v.left ∙ sym v.place
 
   -- a move's record says how many open squares stand before the valley
-  pub first_is : (record_of (sizes_of o) o.signs m from).first ≡ length (concat v.before) + length (concat v.left)
-  first_is = ap sum (take-map_length (valley_place o.signs) o.segments)
+  pub record_says_squares_before_the_valley : (record_of (sizes_of o) o.signs m from).first ≡ length (concat v.before) + length (concat v.left)
+  record_says_squares_before_the_valley = ap sum (take-map_length (valley_place o.signs) o.segments)
       ∙ sum-map_length (take (valley_place o.signs) o.segments)
       ∙ ap (λ (l : List (List ℕ)). length (concat l))
       (ap (take (valley_place o.signs)) fronts ∙ take_at (v.before ++ v.left) (v.valley ∷ (v.right ++ v.after)) (valley_place o.signs) place_long)
@@ -83,8 +83,8 @@ module _ (o : Outline) (shaped : Shaped o) (m : Move) (from : ℕ) (v : AtValley
       ∙ slice_index-map_length_middle (v.before ++ v.left) v.valley (v.right ++ v.after) (valley_place o.signs) place_long
 
   -- a move's record says how many squares the segment at the valley's left has
-  pub left_is : (record_of (sizes_of o) o.signs m from).left ≡ length (concat v.left)
-  left_is = cases v.left_beside
+  pub record_says_squares_at_the_left : (record_of (sizes_of o) o.signs m from).left ≡ length (concat v.left)
+  record_says_squares_at_the_left = cases v.left_beside
     where
       wall : (p x : ℕ) → p ≡ 0 → ◌≡◌ {A = ℕ} (cond (nat_eq p 0) 0 x) 0
       wall p x e = grind (arith, nat_tests)
@@ -103,8 +103,8 @@ module _ (o : Outline) (shaped : Shaped o) (m : Move) (from : ℕ) (v : AtValley
           ∙ sym (ap length (append-nil s)) ∙ sym (ap (λ (l : List (List ℕ)). length (concat l)) e)
 
   -- a move's record says how many squares the segment at the valley's right has
-  pub right_is : (record_of (sizes_of o) o.signs m from).right ≡ length (concat v.right)
-  right_is = cases v.right_beside
+  pub record_says_squares_at_the_right : (record_of (sizes_of o) o.signs m from).right ≡ length (concat v.right)
+  record_says_squares_at_the_right = cases v.right_beside
     where
       wall : (p n x : ℕ) → p ≡ n → ◌≡◌ {A = ℕ} (cond (nat_eq p n) 0 x) 0
       wall p n x e = grind (arith, nat_tests)
@@ -130,11 +130,11 @@ module _ (o : Outline) (shaped : Shaped o) (m : Move) (from : ℕ) (v : AtValley
 
   -- one if the valley has a segment at its left, none if it has none
   pub left_min : min (record_of (sizes_of o) o.signs m from).left 1 ≡ length v.left
-  left_min = ap (λ n. min n 1) left_is ∙ one_beside v.left (left_one o v).1 f.left
+  left_min = ap (λ n. min n 1) record_says_squares_at_the_left ∙ one_beside v.left (left_one o v).1 f.left
 
   -- one if the valley has a segment at its right, none if it has none
   pub right_min : min (record_of (sizes_of o) o.signs m from).right 1 ≡ length v.right
-  right_min = ap (λ n. min n 1) right_is ∙ one_beside v.right (right_one o v).1 f.right
+  right_min = ap (λ n. min n 1) record_says_squares_at_the_right ∙ one_beside v.right (right_one o v).1 f.right
 
   -- the first segment that a move touches is behind those that lie before the valley's left
   pub start_is : first_touched (record_of (sizes_of o) o.signs m from) ≡ length v.before
@@ -146,10 +146,11 @@ module _ (o : Outline) (shaped : Shaped o) (m : Move) (from : ℕ) (v : AtValley
 
   -- the sizes before a move are those of the left segment, the valley and the right one
   pub sizes_before_are : sizes_before (record_of (sizes_of o) o.signs m from) ≡ map length v.left ++ (length v.valley ∷ map length v.right)
-  sizes_before_are = (λ i. slice_range (left_is i ∷ closed_is i ∷ right_is i ∷ []) (1 - min (left_is i) 1) (2 + min (right_is i) 1))
+  sizes_before_are = (λ i. slice_range (record_says_squares_at_the_left i ∷ closed_is i ∷ record_says_squares_at_the_right i ∷ [])
+      (1 - min (record_says_squares_at_the_left i) 1) (2 + min (record_says_squares_at_the_right i) 1))
       ∙ three_sizes v.left v.right (length v.valley) (left_one o v).1 (right_one o v).1 f.left f.right
 
   -- the signs before a move are those at the left and at the right of the valley
   pub signs_before_are : signs_before (record_of (sizes_of o) o.signs m from) ≡ v.left_signs ++ v.right_signs
-  signs_before_are = (λ i. slice_range (Under ∷ Above ∷ []) (1 - min (left_is i) 1) (1 + min (right_is i) 1))
+  signs_before_are = (λ i. slice_range (Under ∷ Above ∷ []) (1 - min (record_says_squares_at_the_left i) 1) (1 + min (record_says_squares_at_the_right i) 1))
       ∙ two_signs v.left v.right v.left_signs v.right_signs v.left_beside v.right_beside f.left f.right

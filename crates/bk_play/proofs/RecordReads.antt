@@ -75,8 +75,8 @@ says_where {w = w} s a f i d h = subst (λ (l : List MoveRecord). SaysWhere w i 
     spans = record_spans start 0 w kept.legal kept.few i d h
 
 -- a move has few signs
-pub signs_few : {w : Word} {i : ℕ} {noted : MoveRecord} (m : Move) → SaysWhere w i noted → slice_get w i ≡ Some m → length m.signs ≤ 201
-signs_few {w} {i} {noted} m says e = omega (
+pub a_move_has_at_most_201_signs : {w : Word} {i : ℕ} {noted : MoveRecord} (m : Move) → SaysWhere w i noted → slice_get w i ≡ Some m → length m.signs ≤ 201
+a_move_has_at_most_201_signs {w} {i} {noted} m says e = omega (
   arith,
   says.order,
   says.few,

@@ -10,8 +10,8 @@ numbers-snoc n zero = ap (λ m. m ∷ []) (omega arith)
 numbers-snoc n (suc k) = ap (λ (l : List ℕ). n ∷ l) (numbers-snoc (n + 1) k ∙ ap (λ m. numbers_from (n + 1) k ++ m ∷ []) (omega arith))
 
 -- one more of numbers that are written in order
-pub next_number : (room : List ℕ) (first next index : ℕ) → index < length room → next ≡ first + index
+pub numbers_in_order_with_one_more_written : (room : List ℕ) (first next index : ℕ) → index < length room → next ≡ first + index
     → take index room ≡ numbers_from first index → take (index + 1) (set room index next) ≡ numbers_from first (index + 1)
-next_number room first next index within e put =
+numbers_in_order_with_one_more_written room first next index within e put =
     let more : suc index ≡ index + 1 = omega arith in
     take-set_at room index (index + 1) next refl within ∙ (λ i. put i ++ e i ∷ []) ∙ sym (numbers-snoc first index) ∙ ap (numbers_from first) more

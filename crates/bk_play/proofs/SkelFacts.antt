@@ -15,9 +15,10 @@ use Rattle.bk_word_net.proofs.Outlines.MovedParts.{many_between, segments_after}
 use Rattle.bk_play.proofs.PlayedFlat.{ends_were, shows_move}
 use Rattle.bk_word_net.proofs.Outlines.Shape.{AllFilled, Filled, Shaped, filled_many, filled_move, filled_parts, hung_many, joined_many, shaped_move}
 use Rattle.bk_word_net.proofs.Outlines.Shape.{shaped_moves, shaped_start, valley_in}
-use Rattle.bk_word.proofs.PlayLaws.{after-snoc, few_signs, legal-snoc}
+use Rattle.bk_word.proofs.PlayLaws.{after-snoc, at_most_one_sign_more_than_squares, legal-snoc}
 use Rattle.bk_play.proofs.StoredMoves.{signs-snoc, records-snoc}
-use Rattle.bk_play.proofs.RecordParts.{closed_is, first_is, left_is, right_is, sides_are, start_is}
+use Rattle.bk_play.proofs.RecordParts.{closed_is, record_says_squares_at_the_left, record_says_squares_at_the_right, record_says_squares_before_the_valley}
+use Rattle.bk_play.proofs.RecordParts.{sides_are, start_is}
 use Rattle.bk_word_net.proofs.Outlines.ValleyCut.{AtValley}
 use Rattle.bk_play.specs.Skeleton.{GiveWay, IsStoredSkeleton, Shows, SkeletonLists, exchange_of, first_touched, open_sides_of_record, record_of}
 use Rattle.bk_play.specs.Skeleton.{signs_of, sizes_after}
@@ -81,7 +82,7 @@ pub touches : (most : ℕ) (w : Word) (m : Move) (ends sizes : List ℕ) (signs 
     → IsLegalMove (outline_of w) m → order_of w + m.count ≤ most
     → Touches most w m ends sizes signs closed (record_of (sizes_of (outline_of w)) (outline_of w).signs m from)
 touches most w m ends sizes signs closed from kept s legal room = record {
-  first = omega (arith, first_is (outline_of w) c.shaped m from v f, closed_is (outline_of w) c.shaped m from v f, squares);
+  first = omega (arith, record_says_squares_before_the_valley (outline_of w) c.shaped m from v f, closed_is (outline_of w) c.shaped m from v f, squares);
   gives = record {
     sizes_within =
         omega (arith, start_is (outline_of w) c.shaped m from v f, sides_are (outline_of w) c.shaped m from v f, many_segments (outline_of w) v, long);
@@ -97,12 +98,12 @@ touches most w m ends sizes signs closed from kept s legal room = record {
   };
   beside = omega (
     arith,
-    left_is (outline_of w) c.shaped m from v f,
+    record_says_squares_at_the_left (outline_of w) c.shaped m from v f,
     closed_is (outline_of w) c.shaped m from v f,
-    right_is (outline_of w) c.shaped m from v f,
+    record_says_squares_at_the_right (outline_of w) c.shaped m from v f,
     squares,
   );
-  few_signs = few_signs (outline_of w) m legal;
+  few_signs = at_most_one_sign_more_than_squares (outline_of w) m legal;
 }
   where
     c : Counted w ends sizes signs closed
@@ -145,8 +146,8 @@ touches most w m ends sizes signs closed from kept s legal room = record {
     )
 
 -- the lists after a move of this record
-abbrev pub lists_after : SkeletonLists → Move → MoveRecord → SkeletonLists
-lists_after lists m noted = record {
+abbrev pub skeleton_lists_after_a_move : SkeletonLists → Move → MoveRecord → SkeletonLists
+skeleton_lists_after_a_move lists m noted = record {
   ends = splice lists.ends noted.first (noted.first + noted.closed) (numbers_from (length lists.ends + length lists.closed + 1) m.count);
   sizes = splice lists.sizes (first_touched noted) (first_touched noted + (open_sides_of_record noted + 1)) (sizes_after noted m.signs);
   signs = splice lists.signs (first_touched noted) (first_touched noted + open_sides_of_record noted) (filter parts m.signs);
@@ -158,10 +159,10 @@ lists_after lists m noted = record {
 -- after a legal move the lists with the move store the word with it
 pub stored_move : (w : Word) (m : Move) (lists : SkeletonLists) (noted : MoveRecord)
     → IsStoredSkeleton w lists → IsLegalMove (outline_of w) m → order_of w + m.count ≤ 200
-    → noted ≡ record_of lists.sizes lists.signs m (length lists.played) → IsStoredSkeleton (w ++ m ∷ []) (lists_after lists m noted)
+    → noted ≡ record_of lists.sizes lists.signs m (length lists.played) → IsStoredSkeleton (w ++ m ∷ []) (skeleton_lists_after_a_move lists m noted)
 stored_move w m lists noted s legal room e = record {
   kept = record { legal = legal-snoc start w m (s.kept).legal legal; few = omega (arith, order_one w m, room) };
-  shows = subst (λ (o : Outline). ShowsIn o (lists_after lists m noted)) (sym (after-snoc start w m)) shown;
+  shows = subst (λ (o : Outline). ShowsIn o (skeleton_lists_after_a_move lists m noted)) (sym (after-snoc start w m)) shown;
   records_are = (λ i. s.records_are i ++ record_is i ∷ []) ∙ sym (records-snoc start 0 w m);
   played_are = (λ i. s.played_are i ++ m.signs) ∙ sym (signs-snoc w m);
 }
@@ -178,10 +179,10 @@ stored_move w m lists noted s legal room e = record {
     number : length lists.ends + length lists.closed + 1 ≡ length (outline_of w).hung + 1
     number = omega (arith, c.all, c.hung)
 
-    shown : ShowsIn (after_move (outline_of w) m) (lists_after lists m noted)
-    shown = subst (λ (t : MoveRecord). ShowsIn (after_move (outline_of w) m) (lists_after lists m t)) (sym record_was)
+    shown : ShowsIn (after_move (outline_of w) m) (skeleton_lists_after_a_move lists m noted)
+    shown = subst (λ (t : MoveRecord). ShowsIn (after_move (outline_of w) m) (skeleton_lists_after_a_move lists m t)) (sym record_was)
         (subst (λ (n : ℕ). let t : MoveRecord = record_of (sizes_of (outline_of w)) (outline_of w).signs m (length lists.played) in
-        let after : SkeletonLists = lists_after lists m t in
+        let after : SkeletonLists = skeleton_lists_after_a_move lists m t in
         Shows (after_move (outline_of w) m) (splice lists.ends t.first (t.first + t.closed) (numbers_from n m.count)) after.sizes after.signs after.closed)
         (sym number)
         (shows_move (outline_of w) c.shaped m legal (length lists.played) lists.ends lists.sizes lists.signs lists.closed s.shows))

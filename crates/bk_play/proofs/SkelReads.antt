@@ -10,7 +10,7 @@ use Rattle.bk_word.specs.Word.{Word, order_of}
 use Rattle.bk_word.specs.declared.Sign.{Sign}
 use Rattle.bk_play.proofs.EndNodes.{CutAt, cut_at, here_is}
 use Rattle.bk_play.proofs.SkelFacts.{Counted, counted}
-use Rattle.bk_word.proofs.PlayLaws.{few_signs}
+use Rattle.bk_word.proofs.PlayLaws.{at_most_one_sign_more_than_squares}
 use Rattle.bk_play.specs.Skeleton.{IsStoredSkeleton, SkeletonLists, Shows, signs_of, records_from}
 use Rattle.bk_play.specs.declared.records.MoveRecord.{MoveRecord}
 
@@ -55,7 +55,7 @@ record_spans o from [] legal few i d h = absurd (omega arith)
 record_spans o from (m ∷ w) legal few zero d h = record {
   order = omega arith;
   within = omega (arith, length-append m.signs (signs_of w));
-  few = omega (arith, few_signs o m legal.0, order_more m w);
+  few = omega (arith, at_most_one_sign_more_than_squares o m legal.0, order_more m w);
 }
 record_spans o from (m ∷ w) legal few (suc i) d h = let r =
     record_spans (after_move o m) (from + length m.signs) w legal.1 (omega (arith, order_more m w)) i d (omega arith) in record {

@@ -7,7 +7,7 @@ use Rattle.bk_word.specs.Play.{numbers_from, outline_of, parts}
 use Rattle.bk_word.specs.Word.{Move, Word, order_of}
 use Rattle.bk_word.specs.declared.Sign.{Sign}
 use Rattle.bk_play.proofs.Playing.{Playing, moves_shown, playing_within, stored_played, stored_shown}
-use Rattle.bk_play.proofs.SkelFacts.{lists_after}
+use Rattle.bk_play.proofs.SkelFacts.{skeleton_lists_after_a_move}
 use Rattle.bk_play.specs.Skeleton.{IsStoredSkeleton, SkeletonLists, first_touched, moves_stored, open_sides_of_record, sizes_after, record_of}
 use Rattle.bk_play.specs.Skeleton.{with_parted}
 use Rattle.bk_play.specs.SmallSkeleton.{IsStoredSmall, StandsAt}
@@ -23,7 +23,7 @@ pub played_lists : {most : ℕ} {w : Word} {m : Move} {lists : SkeletonLists} {n
     → new_closed ≡ lists.closed ++ slice_range lists.ends noted.first (noted.first + noted.closed)
     → new_records ≡ lists.records ++ noted ∷ [] → new_played ≡ lists.played ++ m.signs
     → record { ends = new_ends; sizes = new_sizes; signs = new_signs; closed = new_closed; records = new_records; played = new_played }
-    ≡ lists_after lists m noted
+    ≡ skeleton_lists_after_a_move lists m noted
 played_lists {lists = lists} {noted = noted} p own e f g h j k = λ i. record {
   ends = (e ∙ (λ i. splice lists.ends noted.first (noted.first + noted.closed)
       (numbers_from (length lists.ends + length lists.closed + 1) ((p.record_is) i).count))) i;
@@ -36,7 +36,7 @@ played_lists {lists = lists} {noted = noted} p own e f g h j k = λ i. record {
 
 -- the lists store few squares, with the move too
 pub small_played : {w : Word} {m : Move} {lists : SkeletonLists} {noted : MoveRecord} {new : SkeletonLists} {place first new_place new_first : ℕ}
-    → IsStoredSmall w lists place first → Playing 16 w m lists noted → new ≡ lists_after lists m noted
+    → IsStoredSmall w lists place first → Playing 16 w m lists noted → new ≡ skeleton_lists_after_a_move lists m noted
     → StandsAt new.sizes new.signs new_place new_first → IsStoredSmall (moves_stored new.records new.played) new new_place new_first
 small_played {w = w} {m = m} {new = new} s p n v = record {
   valley = v;

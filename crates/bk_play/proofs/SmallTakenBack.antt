@@ -10,7 +10,7 @@ use Rattle.bk_word.specs.Play.{outline_of}
 use Rattle.bk_word.specs.Word.{Move, Word, order_of}
 use Rattle.bk_word.specs.declared.Sign.{Sign}
 use Rattle.bk_play.proofs.Playing.{moves_shown, stored_shown}
-use Rattle.bk_play.proofs.StoredMoves.{Ends, last_move, signs-snoc, records-snoc, records_many}
+use Rattle.bk_play.proofs.StoredMoves.{Ends, nonempty_word_has_a_last_move, records-snoc, records_many, signs-snoc}
 use Rattle.bk_play.specs.Skeleton.{IsStoredSkeleton, SkeletonLists, moves_stored, signs_of, records_from}
 use Rattle.bk_play.specs.SmallSkeleton.{IsOutlineOf, IsStoredSmall}
 use Rattle.bk_play.specs.declared.small.SmallOutline.{SmallOutline}
@@ -57,7 +57,7 @@ pub small_back : {w : Word} {lists : SkeletonLists} {before : SmallOutline} {new
     → IsStoredSmall w lists place first → 0 < length w → IsOutlineOf (take (length w - 1) w) before
     → new ≡ lists_cut before lists.closed lists.records lists.played
     → IsStoredSkeleton (take (length w - 1) w) new
-small_back {w} {lists} {before} s some b n = subst (IsStoredSkeleton (take (length w - 1) w)) (sym n) (back (last_move w some))
+small_back {w} {lists} {before} s some b n = subst (IsStoredSkeleton (take (length w - 1) w)) (sym n) (back (nonempty_word_has_a_last_move w some))
   where
     back : Ends w → IsStoredSkeleton (take (length w - 1) w) (lists_cut before lists.closed lists.records lists.played)
     back r = subst (λ (v : Word). IsStoredSkeleton v (lists_cut before lists.closed lists.records lists.played)) (sym front_is) (record {
@@ -83,7 +83,7 @@ small_back {w} {lists} {before} s some b n = subst (IsStoredSkeleton (take (leng
 
 -- fewer squares hang before the last move
 pub fewer_before : (w : Word) → 0 < length w → order_of (take (length w - 1) w) ≤ order_of w
-fewer_before w some = fewer (last_move w some)
+fewer_before w some = fewer (nonempty_word_has_a_last_move w some)
   where
     fewer : Ends w → order_of (take (length w - 1) w) ≤ order_of w
     fewer r = omega (

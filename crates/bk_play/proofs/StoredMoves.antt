@@ -9,7 +9,7 @@ use Rattle.bk_word.specs.Word.{Move, Word, order_of}
 use Rattle.bk_word.specs.declared.Sign.{Sign}
 use Rattle.bk_play.specs.Skeleton.{moves_stored, signs_of, record_of, records_from}
 use Rattle.bk_play.specs.declared.records.MoveRecord.{MoveRecord}
-use Rattle.bk_word.proofs.PlayLaws.{few_signs}
+use Rattle.bk_word.proofs.PlayLaws.{at_most_one_sign_more_than_squares}
 
 -- the signs of a word are those of its first move and then the others
 pub signs-cons : (n : Move) (w : Word) → signs_of (n ∷ w) ≡ n.signs ++ signs_of w
@@ -61,7 +61,7 @@ signs_many o [] legal = omega arith
 signs_many o (m ∷ w) legal = omega (
   arith,
   (legal.0).some,
-  few_signs o m legal.0,
+  at_most_one_sign_more_than_squares o m legal.0,
   order_more m w,
   signs_many (after_move o m) w legal.1,
   length-append m.signs (signs_of w),
@@ -75,7 +75,8 @@ pub record Ends (w : Word) : Type 0 where
   pub whole : w ≡ front ++ last ∷ []
 
 -- a word that isn't empty has a last move
-pub last_move : (w : Word) → 0 < length w → Ends w
-last_move [] some = absurd (omega arith)
-last_move (m ∷ []) some = record { front = []; last = m; whole = refl }
-last_move (m ∷ n ∷ w) some = let r = last_move (n ∷ w) (omega arith) in record { front = m ∷ r.front; last = r.last; whole = ap (λ (l : Word). m ∷ l) r.whole }
+pub nonempty_word_has_a_last_move : (w : Word) → 0 < length w → Ends w
+nonempty_word_has_a_last_move [] some = absurd (omega arith)
+nonempty_word_has_a_last_move (m ∷ []) some = record { front = []; last = m; whole = refl }
+nonempty_word_has_a_last_move (m ∷ n ∷ w) some = let r = nonempty_word_has_a_last_move (n ∷ w)
+    (omega arith) in record { front = m ∷ r.front; last = r.last; whole = ap (λ (l : Word). m ∷ l) r.whole }

@@ -9,7 +9,7 @@ use Rattle.bk_word.specs.Word.{Move, Word, order_of}
 use Rattle.bk_play.proofs.PlayedFlat.{shows_back}
 use Rattle.bk_play.proofs.SkelFacts.{ShowsIn}
 use Rattle.bk_word_net.proofs.Outlines.Shape.{Shaped, shaped_moves, shaped_start}
-use Rattle.bk_play.proofs.StoredMoves.{Ends, last_move, signs-snoc, records-snoc}
+use Rattle.bk_play.proofs.StoredMoves.{Ends, nonempty_word_has_a_last_move, records-snoc, signs-snoc}
 use Rattle.bk_word.proofs.PlayLaws.{after-snoc, legal-last, legal_front}
 use Rattle.bk_play.specs.Skeleton.{exchange_back_of, GiveWay, IsStoredSkeleton, SkeletonLists, first_touched, moves_stored, signs_before, signs_of}
 use Rattle.bk_play.specs.Skeleton.{sizes_before, record_of}
@@ -43,7 +43,7 @@ pub record TakesBack (w : Word) (lists : SkeletonLists) (rest : List MoveRecord)
 -- the last move taken back
 pub takes_back : (w : Word) (lists : SkeletonLists) (rest : List MoveRecord) (noted : MoveRecord)
     → IsStoredSkeleton w lists → lists.records ≡ rest ++ noted ∷ [] → 0 < length w → TakesBack w lists rest noted
-takes_back w lists rest noted s cut some = back (last_move w some)
+takes_back w lists rest noted s cut some = back (nonempty_word_has_a_last_move w some)
   where
     back : Ends w → TakesBack w lists rest noted
     back r = record {

@@ -16,11 +16,11 @@ abbrev pub no_record : MoveRecord
 no_record = record { place = 0; first = 0; left = 0; closed = 0; right = 0; count = 0; parted = 0; from = 0; to = 0 }
 
 -- wires from one node lead to other nodes that are there
-pub wire_at : (nodes node : ℕ) (ends : List ℕ) (i : ℕ) → i < length ends → AreWires nodes (map (λ e. (node, e)) ends)
+pub wires_from_a_node_lead_to_other_nodes : (nodes node : ℕ) (ends : List ℕ) (i : ℕ) → i < length ends → AreWires nodes (map (λ e. (node, e)) ends)
     → (get_or ends i 0 < nodes) × (node ≡ get_or ends i 0 → ⊥)
-wire_at nodes node [] i h all = absurd (omega arith)
-wire_at nodes node (e ∷ ends) zero h all = ((all.0).1, (all.0).2)
-wire_at nodes node (e ∷ ends) (suc i) h all = wire_at nodes node ends i (omega arith) all.1
+wires_from_a_node_lead_to_other_nodes nodes node [] i h all = absurd (omega arith)
+wires_from_a_node_lead_to_other_nodes nodes node (e ∷ ends) zero h all = ((all.0).1, (all.0).2)
+wires_from_a_node_lead_to_other_nodes nodes node (e ∷ ends) (suc i) h all = wires_from_a_node_lead_to_other_nodes nodes node ends i (omega arith) all.1
 
 wires_front : (nodes : ℕ) (front back : List (ℕ × ℕ)) → AreWires nodes (front ++ back) → AreWires nodes front
 wires_front nodes [] back all = tt
@@ -68,11 +68,12 @@ wires_here nodes most all had records rest own node count d h good same whole e 
     (wires_back most had (move_wires_from node (hung_and_closed (drop node records)) rest) (subst (AreWires most) whole good)))))
 
 -- the wires so far with those from one node, and the wires from the nodes behind it, are all
-pub wires_more : (all had new : List (ℕ × ℕ)) (records : List MoveRecord) (rest own behind : List ℕ) (node count : ℕ) (d : MoveRecord) → node < length records
+pub wires_with_those_from_one_node_more : (all had new : List (ℕ × ℕ)) (records : List MoveRecord) (rest own behind : List ℕ) (node count : ℕ) (d : MoveRecord)
+    → node < length records
     → all ≡ had ++ move_wires_from node (hung_and_closed (drop node records)) rest → count ≡ (get_or records node d).count → own ≡ take count rest
     → behind ≡ drop count rest → new ≡ had ++ map (λ e. (node, e)) own
     → all ≡ new ++ move_wires_from (node + 1) (hung_and_closed (drop (node + 1) records)) behind
-wires_more all had new records rest own behind node count d h whole e f g put =
+wires_with_those_from_one_node_more all had new records rest own behind node count d h whole e f g put =
     whole ∙ ap (λ (l : List (ℕ × ℕ)). had ++ l) (next_wires records rest node d h)
     ∙ sym (append_assoc had (map (λ e. (node, e)) (take (get_or records node d).count rest))
     (move_wires_from (node + 1) (hung_and_closed (drop (node + 1) records)) (drop (get_or records node d).count rest)))

@@ -50,8 +50,8 @@ impl MoveRecord {
     }
 }
 
-// The record of a move, of so many squares and with these signs, where the open segments have these sizes and signs,
-// and so many signs of earlier moves are kept.
+// The record of a move of `count` squares with these signs, where the open segments have these sizes and signs, and
+// `from` signs of earlier moves are kept.
 pub(crate) fn record_for(
     sizes: &[u8],
     signs: &[Sign],
@@ -72,9 +72,9 @@ pub(crate) fn record_for(
     noted
 }
 
-// The record of a move but for how many of its signs stay between two segments, where so many open segments stand at
-// the left of the leftmost valley, and these have so many squares. Behind so many signs of all moves stand the move's
-// own, which are so many.
+// The record of a move but for how many of its signs stay between two segments. The valley is given by its place among
+// the open segments and by how many squares those at its left have; the move's own signs by how many signs of earlier
+// moves are kept, and how many the move has.
 pub(crate) fn record_at_valley(
     sizes: &[u8],
     signs: &[Sign],

@@ -20,8 +20,8 @@ first_feed bytes k found = record {
 }
 
 -- where no byte is the line feed there is none
-pub no_feed : (bytes : List ℕ) → IsFirstByte (is_byte 10) bytes None → HasNoFeed bytes
-no_feed bytes found = λ k below. false-of_not_true _ (found k (omega arith) below)
+pub no_feed_where_no_first_is_found : (bytes : List ℕ) → IsFirstByte (is_byte 10) bytes None → HasNoFeed bytes
+no_feed_where_no_first_is_found bytes found = λ k below. false-of_not_true _ (found k (omega arith) below)
 
 -- of the lines of a block some are entered: `kept` is the front of the open line, `number` its number, and `rest` is still to
 -- be read
@@ -42,10 +42,10 @@ module _ {State : Type 0} (rules : Entering State) (start : State) (from : ℕ) 
       ∙ sym (append_assoc done ((kept ++ take k rest) ∷ []) (closed_lines [] (drop (k + 1) rest)))
 
   -- the line up to the next line feed is entered
-  pub read_more : (s l : State) (kept rest now_kept now_rest : List ℕ) (k m n : ℕ) (a b c : Option (List ℕ)) (p q : Bool)
+  pub block_read_to_the_next_feed : (s l : State) (kept rest now_kept now_rest : List ℕ) (k m n : ℕ) (a b c : Option (List ℕ)) (p q : Bool)
       → IsReadTo rules start from begun block kept rest m a b p s → IsFirstFeed rest k → now_kept ≡ [] → now_rest ≡ drop (k + 1) rest → n ≡ m + 1
       → AreAllEntered (entering_from rules s m) l ((kept ++ take k rest) ∷ []) q b c → IsReadTo rules start from begun block now_kept now_rest n a c (p || q) l
-  read_more s l kept rest now_kept now_rest k m n a b c p q state first none later next here =
+  block_read_to_the_next_feed s l kept rest now_kept now_rest k m n a b c p q state first none later next here =
       subst (λ (x : List ℕ). IsReadTo rules start from begun block x now_rest n a c (p || q) l) (sym none)
       (subst (λ (x : List ℕ). IsReadTo rules start from begun block [] x n a c (p || q) l) (sym later)
       (record {
@@ -72,9 +72,10 @@ module _ {State : Type 0} (rules : Entering State) (start : State) (from : ℕ) 
       (sym (all_done kept rest state.done state.lines none)) state.entered
 
   -- where no line feed is left in a block, all its lines are counted
-  pub count_all : (s : State) (kept rest : List ℕ) (n : ℕ) (a b : Option (List ℕ)) (p : Bool) → IsReadTo rules start from begun block kept rest n a b p s
+  pub all_lines_counted_with_no_feed_left : (s : State) (kept rest : List ℕ) (n : ℕ) (a b : Option (List ℕ)) (p : Bool)
+      → IsReadTo rules start from begun block kept rest n a b p s
       → HasNoFeed rest → n ≡ from + length (closed_lines begun block)
-  count_all s kept rest n a b p state none =
+  all_lines_counted_with_no_feed_left s kept rest n a b p state none =
       state.count ∙ ap (λ (l : List (List ℕ)). from + length l) (sym (all_done kept rest state.done state.lines none))
 
   -- what is left of a block with no line feed is the open line

@@ -58,8 +58,8 @@ module _ (replies : Replies) where
 
 module _ (replies : Replies) (streams : Streams) (input : List ℕ) (tells : streams.left ≡ Some input) where
   -- memory was wanting at a line of the input
-  pub wanting_line : IsStoppedAt (answers_of replies).short streams → HasWanting replies (lines_of input)
-  wanting_line h =
+  pub memory_wanting_at_a_line_of_the_input : IsStoppedAt (answers_of replies).short streams → HasWanting replies (lines_of input)
+  memory_wanting_at_a_line_of_the_input h =
       let s = h.written in
       let front = read_front input streams.left streams.left_after tells h.input h.lines h.taken h.read in
       let here : Contains h.lines s.line =

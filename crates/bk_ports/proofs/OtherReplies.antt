@@ -49,8 +49,8 @@ module _ (replies others : Replies) (within : AreWithin replies others) where
   }
 
   -- a run that ends by some replies ends by others that each of them is one of
-  pub ends_within : (streams : Streams) (ended : Ended) → EndsWith (answers_of replies) streams ended → EndsWith (answers_of others) streams ended
-  ends_within =
+  pub ends_by_any_wider_replies : (streams : Streams) (ended : Ended) → EndsWith (answers_of replies) streams ended → EndsWith (answers_of others) streams ended
+  ends_by_any_wider_replies =
       ends_as (answers_of replies) (answers_of others)
       (record {
         stops = record { lines = λ lines p a b. answered lines a b p; begun = begun; begun_behind = λ lines a b none. absurd none; short = short };

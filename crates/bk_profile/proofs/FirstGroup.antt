@@ -1,7 +1,9 @@
 -- A first group, laid under its sum as the width.
 use Rattle.std.specs.List.{AllByRecursion}
-use Rattle.std.proofs.Common.{List, [], append-nil, ap, arith, get_or, length, refl, subst, sum, ℕ, ◌<◌, ◌∙◌, ◌∷◌, ◌≡◌, ◌≤◌}
+use Rattle.std.proofs.Common.{List, [], append-nil, ap, arith, get_or, length, refl, subst, suc, sum, zero, ℕ, ◌<◌, ◌∙◌, ◌∷◌, ◌≡◌, ◌≤◌}
 use Rattle.std.proofs.lemmas.List.Elements.{All-from_recursion}
+use Rattle.bk_laws.proofs.HasAtLaws.{has_at-one}
+use Rattle.bk_laws.specs.HasAt.{HasAt}
 use Rattle.bk_tiling.specs.KeptTiling.{IsSide}
 use Rattle.bk_tiling.specs.SquareGroups.{laid_group}
 use Rattle.bk_tiling.specs.declared.Segment.{Segment}
@@ -51,18 +53,21 @@ one_is_lowest w = record {
   places = record {
     some = omega arith;
     within = omega arith;
-    level = λ k d a b. ap (λ n. (get_or (whole_run w) n d).level) (zero_of k b);
-    least = λ k d a. omega (arith, ap (λ n. (get_or (whole_run w) n d).level) (zero_of k a));
-    left = λ k d a. absurd (omega arith);
-    right = λ d a. absurd (omega arith);
+    run = record { width = w; level = 0 };
+    run_is = refl;
+    level = λ k r has _ b. only k r has b;
+    least = λ k r has b. omega (arith, only k r has b);
+    left = λ k r has b. absurd (omega (arith, b));
+    right = λ r has b. absurd (omega (arith, b));
   };
   x = refl;
   end = omega arith;
-  level = λ d. refl;
+  level = refl;
 }
   where
-    zero_of : (k : ℕ) → k < 1 → k ≡ 0
-    zero_of k b = omega arith
+    only : (k : ℕ) (r : OutlineRun) → HasAt (whole_run w) k r → k < 1 → r.level ≡ 0
+    only zero r has b = ap (λ (r : OutlineRun). r.level) (has_at-one (whole_run w) 0 r (record { width = w; level = 0 }) has refl)
+    only (suc k) r has b = absurd (omega (arith, b))
 
 -- a first group and the runs under it are stored under its sum
 pub stored_first : (sides : List ℕ) → 0 < length sides → length sides ≤ 200 → AllByRecursion IsSide sides

@@ -5,6 +5,7 @@ use Rattle.std.proofs.Common.{◌∙◌, ◌∷◌, ◌≡◌, ◌≤◌}
 use Rattle.std.proofs.lemmas.List.{get_or-drop, get_or-take, length-append, length-drop, length-map, length-take-le, take-append-drop}
 use Rattle.std.proofs.lemmas.List.Elements.{All-append}
 use Rattle.std.proofs.lemmas.List.Sums.{sum_by-append, sum_by-cons}
+use Rattle.bk_laws.proofs.HasAtLaws.{has_at-read}
 use Rattle.bk_laws.proofs.Totals.{sum_is_total, total}
 use Rattle.bk_tiling.proofs.FilledGroup.{depth_beside, depth_under}
 use Rattle.bk_tiling.proofs.Group.{length_group}
@@ -87,7 +88,7 @@ all_lower n m runs le all k d l = omega (arith, le, all k d l)
 
 module _ (w : ℕ) (laid : List Square) (runs : List OutlineRun) (a b : ℕ) (gap : Segment) (sides : List ℕ) (outline : AreOutlineRuns w laid runs)
     (lowest : IsLowest runs (length runs) a b)
-    (at : gap.x ≡ run_start runs a) (end : gap.x + gap.width ≡ run_start runs b) (level : (d : OutlineRun) → gap.level ≡ (get_or runs a d).level)
+    (at : gap.x ≡ run_start runs a) (end : gap.x + gap.width ≡ run_start runs b) (level : gap.level ≡ (lowest.run).level)
     (is : IsGap w laid gap) (fits : sum sides ≡ gap.width)
     (good : AllByRecursion IsSide sides) where
   abbrev new : List Square
@@ -98,6 +99,9 @@ module _ (w : ℕ) (laid : List Square) (runs : List OutlineRun) (a b : ℕ) (ga
 
   first : a < length runs
   first = omega (arith, lowest.some, lowest.within)
+
+  same_level : (get_or runs a no_run).level ≡ (lowest.run).level
+  same_level = ap (λ (r : OutlineRun). r.level) (has_at-read runs a lowest.run no_run lowest.run_is)
 
   wide : total sides ≡ gap.width
   wide = sym (sum_is_total sides) ∙ fits
@@ -162,7 +166,7 @@ module _ (w : ℕ) (laid : List Square) (runs : List OutlineRun) (a b : ℕ) (ga
         (all_take (λ (r : OutlineRun). r.level ≤ length new * 999_999_999_999_999) runs a (omega (arith, first))
         (all_lower (length laid * 999_999_999_999_999) (length new * 999_999_999_999_999) runs most outline.low))
         (under_low gap.level sides (length new * 999_999_999_999_999) good
-        (omega (arith, level no_run, outline.low a no_run first, ap (λ n. n * 999_999_999_999_999) longer, some))))
+        (omega (arith, level, same_level, outline.low a no_run first, ap (λ n. n * 999_999_999_999_999) longer, some))))
         (all_drop (λ (r : OutlineRun). r.level ≤ length new * 999_999_999_999_999) runs b
         (all_lower (length laid * 999_999_999_999_999) (length new * 999_999_999_999_999) runs most outline.low));
   }

@@ -2,6 +2,7 @@ pub mod GapTest
 pub mod GapExamples
 pub mod CodeLaying
 pub mod RunStarts
+pub mod FindingLowest
 pub mod Hanging
 pub mod Storing
 pub mod LaidGroups

@@ -4,6 +4,7 @@ use Rattle.std.proofs.Common.{List, [], ap, arith, drop, get_or, length, suc, sy
 use Rattle.std.proofs.lemmas.Bool.{cases_lt}
 use Rattle.std.proofs.lemmas.List.{take-take, take_all}
 use Rattle.std.proofs.lemmas.List.Sums.{sum_by-cons, sum_by-take-drop, sum_by-take-le, sum_by_more}
+use Rattle.bk_laws.proofs.HasAtLaws.{has_at-read, has_at-within}
 use Rattle.bk_laws.proofs.ListParts.{take-drop_swap}
 use Rattle.bk_tiling.specs.Column.{depth}
 use Rattle.bk_tiling.specs.declared.Segment.{Segment}
@@ -105,8 +106,8 @@ run_over_column x (r ∷ runs) c l h =
 
 -- the leftmost runs of least level that touch are the gap
 pub gap_from_runs : (w : ℕ) (laid : List Square) (runs : List OutlineRun) (a b : ℕ) (gap : Segment) → AreOutlineRuns w laid runs
-    → IsLowest runs (length runs) a b
-    → gap.x ≡ run_start runs a → gap.x + gap.width ≡ run_start runs b → ((d : OutlineRun) → gap.level ≡ (get_or runs a d).level) → IsGap w laid gap
+    → (lowest : IsLowest runs (length runs) a b)
+    → gap.x ≡ run_start runs a → gap.x + gap.width ≡ run_start runs b → gap.level ≡ (lowest.run).level → IsGap w laid gap
 gap_from_runs w laid runs a b gap outline lowest x end level = record {
   flat = record {
     some = omega (arith, x, end, start_le runs (a + 1) b (omega (arith, lowest.some)), start_more runs a no_run first, outline.some a no_run first);
@@ -114,23 +115,23 @@ gap_from_runs w laid runs a b gap outline lowest x end level = record {
     level = λ c l r.
         let at : Lies 0 runs c = over c (omega (arith, end, start_below runs b)) in
         level_at w laid runs at.place no_run c outline at.below (omega (arith, at.from)) (omega (arith, at.to))
-        ∙ lowest.level at.place no_run (not_left c at l) (not_right c at r) ∙ sym (level no_run);
+        ∙ lowest.level at.place (get_or runs at.place no_run) (has_at-within runs at.place no_run at.below) (not_left c at l) (not_right c at r) ∙ sym level;
   };
   least = λ c l.
       let at : Lies 0 runs c = over c (omega (arith, outline.whole)) in
       omega (
         arith,
         level_at w laid runs at.place no_run c outline at.below (omega (arith, at.from)) (omega (arith, at.to)),
-        lowest.least at.place no_run at.below,
-        level no_run,
+        lowest.least at.place (get_or runs at.place no_run) (has_at-within runs at.place no_run at.below) at.below,
+        level,
       );
   leftmost = λ c l.
       let at : Lies 0 runs c = over c (omega (arith, x, start_below runs a)) in
       omega (
         arith,
         level_at w laid runs at.place no_run c outline at.below (omega (arith, at.from)) (omega (arith, at.to)),
-        lowest.left at.place no_run (before_first c at l),
-        level no_run,
+        lowest.left at.place (get_or runs at.place no_run) (has_at-within runs at.place no_run at.below) (before_first c at l),
+        level,
       );
   ends = λ l.
       let more : b < length runs =
@@ -140,8 +141,8 @@ gap_from_runs w laid runs a b gap outline lowest x end level = record {
         arith,
         level_at w laid runs b no_run (gap.x + gap.width) outline more (omega (arith, end))
             (omega (arith, end, start_more runs b no_run more, outline.some b no_run more)),
-        lowest.right no_run more,
-        level no_run,
+        lowest.right (get_or runs b no_run) (has_at-within runs b no_run more) more,
+        level,
       );
 }
   where
@@ -184,7 +185,8 @@ least_depth w laid runs a b outline lowest = record {
       omega (
         arith,
         level_at w laid runs at.place no_run c outline at.below (omega (arith, at.from)) (omega (arith, at.to)),
-        lowest.least at.place no_run at.below,
+        lowest.least at.place (get_or runs at.place no_run) (has_at-within runs at.place no_run at.below) at.below,
+        ap (λ (r : OutlineRun). r.level) (has_at-read runs a lowest.run no_run lowest.run_is),
       );
 }
   where

@@ -1,7 +1,8 @@
 -- A profile before and after a group is laid into the gap of its outline.
 use Rattle.std.specs.List.{All, AllByRecursion, HoldsAt}
-use Rattle.std.proofs.Common.{List, [], arith, drop, get_or, length, subst, sym, take, ℕ, ◌*◌, ◌++◌, ◌+◌, ◌<◌, ◌∷◌, ◌≡◌, ◌≤◌}
+use Rattle.std.proofs.Common.{List, [], ap, arith, drop, get_or, length, subst, sym, take, ℕ, ◌*◌, ◌++◌, ◌+◌, ◌<◌, ◌∷◌, ◌≡◌, ◌≤◌}
 use Rattle.std.proofs.lemmas.List.{length-append}
+use Rattle.bk_laws.proofs.HasAtLaws.{has_at-read}
 use Rattle.bk_laws.proofs.Totals.{sum_is_total, total}
 use Rattle.bk_tiling.proofs.FilledGroup.{filled_group}
 use Rattle.bk_tiling.proofs.Group.{length_group}
@@ -49,7 +50,8 @@ module _ (p : Laid) (runs read : List OutlineRun) (lowest : LowestRuns) (stored 
   pub level_small : lowest.segment.level ≤ 200 * 999_999_999_999_999
   level_small = omega (
     arith,
-    lowest_stored.level no_run,
+    lowest_stored.level,
+    ap (λ (r : OutlineRun). r.level) (has_at-read runs lowest.first lowest_stored.places.run no_run lowest_stored.places.run_is),
     (stored.outline).low lowest.first no_run (omega (arith, lowest_stored.places.some, lowest_stored.places.within)),
     (stored.profile).few,
   )

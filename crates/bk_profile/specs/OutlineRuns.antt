@@ -1,7 +1,8 @@
 -- How the outline of laid squares is kept: level runs of columns side by side, from column 0 on.
 -- Example (GapExamples): the group 18, 15 at the top leaves two runs under it, and the second begins in column 18.
 use Rattle.std.specs.List.{All}
-use Rattle.std.specs.Prelude.{List, [], length, map, slice_index_or, sum_by, take, ℕ, ⊤, ◌*◌, ◌+◌, ◌<◌, ◌∷◌, ◌≡◌, ◌≤◌}
+use Rattle.std.specs.Prelude.{List, [], length, map, sum_by, take, ℕ, ⊤, ◌*◌, ◌+◌, ◌<◌, ◌∷◌, ◌≡◌, ◌≤◌}
+use Rattle.bk_laws.specs.HasAt.{HasAt}
 use Rattle.bk_tiling.specs.Column.{depth}
 use Rattle.bk_tiling.specs.declared.Square.{Square}
 use Rattle.bk_profile.specs.declared.runs.LowestRuns.{LowestRuns}
@@ -30,22 +31,24 @@ pub record AreOutlineRuns (width : ℕ) (laid : List Square) (runs : List Outlin
   pub few : length runs ≤ length laid + 1
   pub low : All (λ r. r.level ≤ length laid * LONGEST_SIDE) runs
 
--- among the first n runs those from place a up to b are the leftmost ones of least level that touch
+-- among the first n runs those from place a up to b are the leftmost ones of least level that touch, and `run` is the
+-- one at place a
 pub record IsLowest (runs : List OutlineRun) (n a b : ℕ) : Type 0 where
   pub some : a < b
   pub within : b ≤ n
-  pub level : (k : ℕ) (d : OutlineRun) → a ≤ k → k < b
-      → (slice_index_or runs k d).level ≡ (slice_index_or runs a d).level
-  pub least : (k : ℕ) (d : OutlineRun) → k < n → (slice_index_or runs a d).level ≤ (slice_index_or runs k d).level
-  pub left : (k : ℕ) (d : OutlineRun) → k < a → (slice_index_or runs a d).level < (slice_index_or runs k d).level
-  pub right : (d : OutlineRun) → b < n → (slice_index_or runs a d).level < (slice_index_or runs b d).level
+  pub run : OutlineRun
+  pub run_is : HasAt runs a run
+  pub level : (k : ℕ) (r : OutlineRun) → HasAt runs k r → a ≤ k → k < b → r.level ≡ run.level
+  pub least : (k : ℕ) (r : OutlineRun) → HasAt runs k r → k < n → run.level ≤ r.level
+  pub left : (k : ℕ) (r : OutlineRun) → HasAt runs k r → k < a → run.level < r.level
+  pub right : (r : OutlineRun) → HasAt runs b r → b < n → run.level < r.level
 
 -- the leftmost runs of least level that touch, and the segment that they make
 pub record AreLowestRuns (runs : List OutlineRun) (lowest : LowestRuns) : Type 0 where
   pub places : IsLowest runs (length runs) lowest.first lowest.end
   pub x : lowest.segment.x ≡ run_start runs lowest.first
   pub end : lowest.segment.x + lowest.segment.width ≡ run_start runs lowest.end
-  pub level : (d : OutlineRun) → lowest.segment.level ≡ (slice_index_or runs lowest.first d).level
+  pub level : lowest.segment.level ≡ places.run.level
 
 -- the run that a square of this side leaves under it
 abbrev pub run_under_side : ℕ → ℕ → OutlineRun

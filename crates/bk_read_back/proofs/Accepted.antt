@@ -4,7 +4,7 @@ use Rattle.std.specs.Prelude.{Bool, List, [], false, flat_map, length, ℕ, ◌+
 use Rattle.std.proofs.Common.{ap, append_assoc, arith, refl, subst, sym, ◌∙◌}
 use Rattle.std.proofs.lemmas.List.{append-nil}
 use Rattle.bk_tiling.specs.Tiling.{Tiling}
-use Rattle.bk_text.proofs.LinesRead.{one_meaning}
+use Rattle.bk_text.proofs.LinesRead.{line_stands_for_one_thing}
 use Rattle.bk_text.specs.CodeLine.{Line, Skip}
 use Rattle.bk_word.specs.declared.Class.{Class}
 use Rattle.bk_catalogue.proofs.TreeOfWords.WordCounts.{few_entries}
@@ -47,7 +47,7 @@ accepted bytes t read pieces refused (answers u _ has _ (line, c, e)) = record {
 }
   where
     own : IsStatedBy (item_of t) u
-    own = subst (λ (i : Line). IsStatedBy i u) (one_meaning bytes has.item (item_of t) has.is_item.meaning read.item.meaning) has.stated
+    own = subst (λ (i : Line). IsStatedBy i u) (line_stands_for_one_thing bytes has.item (item_of t) has.is_item.meaning read.item.meaning) has.stated
 
 -- a short line is kept whole
 -- the replies to a last line

@@ -11,7 +11,7 @@ use Rattle.bk_code.proofs.FlatList.{a_flat_list_fixes_a_tiling}
 use Rattle.bk_code.specs.Code.{code_of, flat}
 use Rattle.bk_text.proofs.Spelling.{short_kept}
 use Rattle.bk_text.specs.CodeText.{code_text, size_text}
-use Rattle.bk_word.proofs.PlayLaws.{few_signs}
+use Rattle.bk_word.proofs.PlayLaws.{at_most_one_sign_more_than_squares}
 use Rattle.bk_word.proofs.StoredBytes.{order_more}
 use Rattle.bk_word.proofs.WordPieces.{short_text}
 use Rattle.bk_word.specs.KeptWord.{CanStand, IsKeptWord}
@@ -32,7 +32,7 @@ use Rattle.bk_read_back.specs.ReadBack.{AListedEntryIsRead, IsReadAs, item_of}
 
 -- the word of a small tiling can be kept
 can_stand : (o : Outline) (m : Move) → IsLegalMove o m → CanStand m
-can_stand o m legal = record { some = legal.some; least = omega (arith, legal.signs); most = few_signs o m legal }
+can_stand o m legal = record { some = legal.some; least = omega (arith, legal.signs); most = at_most_one_sign_more_than_squares o m legal }
 
 all_stand : (o : Outline) (w : Word) → AreLegalFrom o w → AllByRecursion CanStand w
 all_stand o [] legal = tt

@@ -14,7 +14,7 @@ use Rattle.bk_report.specs.declared.listing_lines.Last.TheVariants.{End, Limit, 
 use Rattle.bk_ports.proofs.Cuts.{HasNoFeed, closed-append, closed-none, open-append, open-none}
 use Rattle.bk_ports.specs.Lines.{closed_lines, line_at_end, lines_of, open_line}
 use Rattle.bk_answer.specs.Item.{HasItem}
-use Rattle.bk_read_back.proofs.PrintedBytes.{IsPrinted, decimal_printed, joined_printed, no_feed}
+use Rattle.bk_read_back.proofs.PrintedBytes.{IsPrinted, decimal_printed, joined_printed, printed_bytes_have_no_feed}
 
 -- the lines behind a line and its line feed
 pub first_line : (text rest : List ℕ) → IsPrinted text → lines_of (text ++ 10 ∷ rest) ≡ text ∷ lines_of rest
@@ -23,7 +23,7 @@ first_line text rest printed =
     ∙ ap (λ (l : List ℕ). text ∷ (closed_lines [] rest ++ line_at_end l)) opened
   where
     free : HasNoFeed text
-    free = no_feed text printed
+    free = printed_bytes_have_no_feed text printed
 
     begun : open_line [] text ≡ text
     begun = open-none [] text free

@@ -82,7 +82,7 @@ pub word_printed : (w : Word) → AllByRecursion (λ m. m.count ≤ 200) w → I
 word_printed w all = joined_printed 46 (omega arith) (map move_text w) (moves_printed w all)
 
 -- printed bytes have no line feed
-pub no_feed : (bytes : List ℕ) → IsPrinted bytes → HasNoFeed bytes
-no_feed [] all k within = absurd (omega (arith, within))
-no_feed (b ∷ bytes) all zero within = eq_ten-not_above b all.0
-no_feed (b ∷ bytes) all (suc k) within = no_feed bytes all.1 k (omega (arith, within))
+pub printed_bytes_have_no_feed : (bytes : List ℕ) → IsPrinted bytes → HasNoFeed bytes
+printed_bytes_have_no_feed [] all k within = absurd (omega (arith, within))
+printed_bytes_have_no_feed (b ∷ bytes) all zero within = eq_ten-not_above b all.0
+printed_bytes_have_no_feed (b ∷ bytes) all (suc k) within = printed_bytes_have_no_feed bytes all.1 k (omega (arith, within))

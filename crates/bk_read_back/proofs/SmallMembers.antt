@@ -1,6 +1,6 @@
 -- A member of at most 16 squares is small: its sides are the primitive flow of its Smith diagram, which is a small net.
 use Rattle.std.specs.List.{AllByRecursion}
-use Rattle.std.specs.Prelude.{List, [], length, map, nat_abs, pos, ℕ, ℤ, ◌-ℤ◌, ◌<◌, ◌^◌, ◌∷◌, ◌≡◌, ◌≤◌}
+use Rattle.std.specs.Prelude.{List, [], length, map, nat_abs, pos, ℕ, ℤ, ◌-ℤ◌, ◌<◌, ◌∷◌, ◌≡◌, ◌≤◌}
 use Rattle.std.proofs.Common.{ap, arith, subst, sym, ◌∙◌}
 use Rattle.std.proofs.Math.Nat.{eq-one_of_dvd-one}
 use Rattle.std.proofs.lemmas.List.Elements.{recursion_from_All}
@@ -17,6 +17,7 @@ use Rattle.bk_net.specs.Diagram.{smith_diagram}
 use Rattle.bk_net.specs.Flow.{IsPrimitive, IsPrimitiveFlow, potential}
 use Rattle.bk_net.specs.SmithFlow.{smith_flow}
 use Rattle.bk_flow.proofs.NarrowNets.{small_nets_have_small_flows}
+use Rattle.bk_flow.specs.declared.TheConstants.{LARGEST_SMALL_CURRENT}
 use Rattle.bk_read_back.specs.Small.{IsSmallTiling, MembersAreSmall}
 use Prim.Native.Nat.{◌∣◌}
 
@@ -26,11 +27,12 @@ divides_sides : (d : ℕ) (squares : List Square) → AllByRecursion (λ c. d �
 divides_sides d [] all = tt
 divides_sides d (q ∷ squares) all = (all.0, divides_sides d squares all.1)
 
-small_sides : (squares : List Square) → AllByRecursion (λ c. nat_abs c ≤ 2 ^ 34) (map (λ q. pos q.s) squares) → AllByRecursion (λ q. q.s ≤ 2 ^ 34) squares
+small_sides : (squares : List Square) → AllByRecursion (λ c. nat_abs c ≤ LARGEST_SMALL_CURRENT) (map (λ q. pos q.s) squares)
+    → AllByRecursion (λ q. q.s ≤ LARGEST_SMALL_CURRENT) squares
 small_sides [] all = tt
 small_sides (q ∷ squares) all = (all.0, small_sides squares all.1)
 
-kept_sides : (squares : List Square) → AllByRecursion (λ q. 0 < q.s) squares → AllByRecursion (λ q. q.s ≤ 2 ^ 34) squares
+kept_sides : (squares : List Square) → AllByRecursion (λ q. 0 < q.s) squares → AllByRecursion (λ q. q.s ≤ LARGEST_SMALL_CURRENT) squares
     → AllByRecursion (λ q. IsSide q.s) squares
 kept_sides [] some small = tt
 kept_sides (q ∷ squares) some small = ((some.0, omega (arith, small.0)), kept_sides squares some.1 small.1)
@@ -58,17 +60,17 @@ module _ (t : Tiling) (tiling : IsTiling t) (own : IsCanonical t) (few : length 
     primitive_sides t (own_one t tiling own) (pos t.width) (smith_flow t).potentials,
   )
 
-  bounds : AllByRecursion (λ c. nat_abs c ≤ 2 ^ 34) (pos t.width ∷ map (λ q. pos q.s) t.squares)
-  bounds = recursion_from_All (λ (c : ℤ). nat_abs c ≤ 2 ^ 34) (pos t.width ∷ map (λ q. pos q.s) t.squares)
+  bounds : AllByRecursion (λ c. nat_abs c ≤ LARGEST_SMALL_CURRENT) (pos t.width ∷ map (λ q. pos q.s) t.squares)
+  bounds = recursion_from_All (λ (c : ℤ). nat_abs c ≤ LARGEST_SMALL_CURRENT) (pos t.width ∷ map (λ q. pos q.s) t.squares)
       (small_nets_have_small_flows (smith_diagram t) (pos t.width) (map (λ q. pos q.s) t.squares) (sides_are_the_one_flow t tiling).0
       (sides_are_the_one_flow t tiling).1 (omega (arith, as_many_wires t tiling, few)) flow)
 
   -- the sides and the size of such a tiling are small numbers
   pub small_tiling : IsSmallTiling t
   small_tiling =
-      let sides : AllByRecursion (λ q. q.s ≤ 2 ^ 34) t.squares = small_sides t.squares bounds.1 in
-      let width : t.width ≤ 2 ^ 34 = bounds.0 in
-      let height : t.height ≤ 2 ^ 34 = omega (arith, width, own.lying) in
+      let sides : AllByRecursion (λ q. q.s ≤ LARGEST_SMALL_CURRENT) t.squares = small_sides t.squares bounds.1 in
+      let width : t.width ≤ LARGEST_SMALL_CURRENT = bounds.0 in
+      let height : t.height ≤ LARGEST_SMALL_CURRENT = omega (arith, width, own.lying) in
       record {
         width = width;
         height = height;

@@ -12,7 +12,7 @@ use Rattle.bk_simple.proofs.Repeats.{IsTwice, twice_from_count}
 use Rattle.bk_simple.specs.Border.{is_inside}
 use Rattle.bk_simple.specs.Simple.{IsPart, bottom_right, top_left}
 use Rattle.bk_simple.specs.CornerSquares.{IsBetween}
-use Rattle.bk_simple.proofs.UncutParts.{inside_means, one_over, side_at, within_at}
+use Rattle.bk_simple.proofs.UncutParts.{inside_means, no_two_squares_over_a_cell, square_at_a_place_has_a_side, within_at}
 use Rattle.bk_simple.proofs.PartCorners.{covers_first}
 use Rattle.bk_simple.proofs.Parts.{between_corners, bottom_right_below, count_of_part, no_square_across_part, top_left_below}
 
@@ -40,9 +40,9 @@ module _ (t : Tiling) (r : Rectangle) (tiling : IsTiling t) (part : IsPart t r) 
       inside = true_from_ne_false (is_inside r q) (λ cut. no_square_across_part t r tiling part (bottom_right t r) none
           (bottom_right_below t r tiling part) cut (record {
             left = omega (arith, corners.right, corners.wide);
-            right = omega (arith, corners.right, side_at t tiling (bottom_right t r) none (bottom_right_below t r tiling part));
+            right = omega (arith, corners.right, square_at_a_place_has_a_side t tiling (bottom_right t r) none (bottom_right_below t r tiling part));
             top = omega (arith, corners.bottom, corners.high);
-            bottom = omega (arith, corners.bottom, side_at t tiling (bottom_right t r) none (bottom_right_below t r tiling part));
+            bottom = omega (arith, corners.bottom, square_at_a_place_has_a_side t tiling (bottom_right t r) none (bottom_right_below t r tiling part));
           }))
 
       not_before : comes_before q p ≡ true → ⊥
@@ -83,7 +83,7 @@ module _ (t : Tiling) (r : Rectangle) (tiling : IsTiling t) (part : IsPart t r) 
           within = inside_means r (at k) inside
 
           side : 0 < (at k).s
-          side = side_at t tiling k none below
+          side = square_at_a_place_has_a_side t tiling k none below
 
           own : covers (at k).x (at k).y (at k) ≡ true
           own = covers_first (at k) (at k).x (at k).y side refl refl
@@ -96,9 +96,9 @@ module _ (t : Tiling) (r : Rectangle) (tiling : IsTiling t) (part : IsPart t r) 
           bounds = within_at t tiling k none below
 
           two : (k < top_left t r) ⊎ (top_left t r ≤ k) → ⊥
-          two (inl before) = one_over t tiling (at k).x (at k).y k (top_left t r) none (omega (arith, bounds.right, side))
+          two (inl before) = no_two_squares_over_a_cell t tiling (at k).x (at k).y k (top_left t r) none (omega (arith, bounds.right, side))
               (omega (arith, bounds.bottom, side)) before (top_left_below t r tiling part) own over
-          two (inr behind) = one_over t tiling (at k).x (at k).y (top_left t r) k none (omega (arith, bounds.right, side))
+          two (inr behind) = no_two_squares_over_a_cell t tiling (at k).x (at k).y (top_left t r) k none (omega (arith, bounds.right, side))
               (omega (arith, bounds.bottom, side)) (omega (arith, behind, other)) below over own
 
       cases : (top_left t r ≡ bottom_right t r) ⊎ (top_left t r ≡ bottom_right t r → ⊥) → top_left t r < bottom_right t r

@@ -8,16 +8,17 @@ use Rattle.bk_laws.proofs.ListItems.{get_or-zero_or_any_default}
 use Rattle.bk_tiling.specs.declared.Square.{Square}
 
 -- among the first n numbers no two are equal
-abbrev pub AreApartTo : List ℕ → ℕ → Type 0
-AreApartTo numbers n = (i j : ℕ) → i < j → j < n → get_or numbers i 0 ≢ get_or numbers j 0
+abbrev pub AreNumbersApartTo : List ℕ → ℕ → Type 0
+AreNumbersApartTo numbers n = (i j : ℕ) → i < j → j < n → get_or numbers i 0 ≢ get_or numbers j 0
 
 -- the remainders of the first n numbers are marked
 abbrev pub AreMarkedTo : List Bool → List ℕ → ℕ → Type 0
 AreMarkedTo met numbers n = (k : ℕ) → k < n → get_or met (get_or numbers k 0 % 256) false ≡ true
 
 -- one number more is apart from those before it
-pub apart_more : (numbers : List ℕ) (n : ℕ) → AreApartTo numbers n → ((k : ℕ) → k < n → get_or numbers k 0 ≢ get_or numbers n 0) → AreApartTo numbers (n + 1)
-apart_more numbers n apart new i j up low same = cases (cases_eq j n)
+pub apart_with_one_number_more : (numbers : List ℕ) (n : ℕ) → AreNumbersApartTo numbers n → ((k : ℕ) → k < n → get_or numbers k 0 ≢ get_or numbers n 0)
+    → AreNumbersApartTo numbers (n + 1)
+apart_with_one_number_more numbers n apart new i j up low same = cases (cases_eq j n)
   where
     cases : (j ≡ n) ⊎ (j ≡ n → ⊥) → ⊥
     cases (inl e) = new i (omega (arith, e)) (same ∙ ap (λ (k : ℕ). get_or numbers k 0) e)
@@ -47,8 +48,8 @@ marked_more met numbers n many marked k low = cases (cases_eq (get_or numbers k 
     cases (inr e) = get_or-set_other met (get_or numbers n 0 % 256) (get_or numbers k 0 % 256) true false e ∙ marked k (earlier e)
 
 -- numbers that are apart up to the last one all differ
-pub apart_all : (numbers : List ℕ) (n : ℕ) → length numbers ≤ n → AreApartTo numbers n → AllPairs ◌≢◌ numbers
-apart_all numbers n all apart i j d up low same =
+pub all_numbers_apart_differ : (numbers : List ℕ) (n : ℕ) → length numbers ≤ n → AreNumbersApartTo numbers n → AllPairs ◌≢◌ numbers
+all_numbers_apart_differ numbers n all apart i j d up low same =
     apart i j up (omega (arith, low, all)) (get_or-zero_or_any_default numbers i d (omega arith) ∙ same ∙ sym (get_or-zero_or_any_default numbers j d low))
 
 -- the sides of squares differ where their list has no two that are equal

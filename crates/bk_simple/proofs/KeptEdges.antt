@@ -6,13 +6,13 @@ use Rattle.bk_tiling.specs.KeptTiling.{IsKept}
 use Rattle.bk_tiling.specs.Sharing.{EdgesFit}
 use Rattle.bk_tiling.specs.Tiling.{Tiling}
 use Rattle.bk_tiling.specs.declared.Square.{Square}
-use Rattle.bk_simple.proofs.UncutParts.{side_at, within_at}
+use Rattle.bk_simple.proofs.UncutParts.{square_at_a_place_has_a_side, within_at}
 
 -- the edges of the squares of a kept tiling fit
 pub edges_of_kept_fit : (t : Tiling) → IsKept t → All EdgesFit t.squares
 edges_of_kept_fit t kept k d few =
     let w = within_at t kept.tiling k d few in
-    (side_at t kept.tiling k d few, omega (arith, w.right, kept.width_fits), omega (arith, w.bottom, kept.height_fits))
+    (square_at_a_place_has_a_side t kept.tiling k d few, omega (arith, w.right, kept.width_fits), omega (arith, w.bottom, kept.height_fits))
 
 -- the place in memory of a square of a kept tiling fits
 pub place_in_memory_fits : (t : Tiling) → IsKept t → (k : ℕ) → k < length t.squares → Fits w64 (k * 24)

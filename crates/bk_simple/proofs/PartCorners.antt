@@ -9,7 +9,7 @@ use Rattle.bk_tiling.specs.Tiling.{IsTiling, IsWithin, Rectangle, Tiling, covers
 use Rattle.bk_tiling.specs.declared.Square.{Square}
 use Rattle.bk_simple.specs.Simple.{bottom_right, top_left}
 use Rattle.bk_simple.specs.CornerSquares.{IsBetween}
-use Rattle.bk_simple.proofs.UncutParts.{one_over, side_at, within_at}
+use Rattle.bk_simple.proofs.UncutParts.{no_two_squares_over_a_cell, square_at_a_place_has_a_side, within_at}
 
 -- a square covers the cells at its corners
 pub covers_first : (q : Square) (x y : ℕ) → 0 < q.s → x ≡ q.x → y ≡ q.y → covers x y q ≡ true
@@ -45,13 +45,13 @@ module _ (t : Tiling) (tiling : IsTiling t) where
       here = within_at t tiling i d few
 
       also : 0 < (get_or t.squares i d).s
-      also = side_at t tiling i d few
+      also = square_at_a_place_has_a_side t tiling i d few
 
       earlier : (k : ℕ) → k < i → ((get_or t.squares k d).x == r.x) && ((get_or t.squares k d).y == r.y) ≡ true → ⊥
       earlier k below e =
           let same = both_equal-from_test (get_or t.squares k d).x r.x (get_or t.squares k d).y r.y e in
-          one_over t tiling r.x r.y k i d (omega (arith, here.right, h.left, also)) (omega (arith, here.bottom, h.top, also)) below few
-          (covers_first (get_or t.squares k d) r.x r.y (side_at t tiling k d (omega arith)) (sym same.0) (sym same.1))
+          no_two_squares_over_a_cell t tiling r.x r.y k i d (omega (arith, here.right, h.left, also)) (omega (arith, here.bottom, h.top, also)) below few
+          (covers_first (get_or t.squares k d) r.x r.y (square_at_a_place_has_a_side t tiling k d (omega arith)) (sym same.0) (sym same.1))
           (covers_first (get_or t.squares i d) r.x r.y also h.left h.top)
 
   -- the square at whose bottom right corner a rectangle ends is the one at its bottom right
@@ -66,7 +66,7 @@ module _ (t : Tiling) (tiling : IsTiling t) where
       here = within_at t tiling j d few
 
       also : 0 < (get_or t.squares j d).s
-      also = side_at t tiling j d few
+      also = square_at_a_place_has_a_side t tiling j d few
 
       earlier : (k : ℕ) → k < j
           → ((get_or t.squares k d).x + (get_or t.squares k d).s == r.x + r.width) && ((get_or t.squares k d).y + (get_or t.squares k
@@ -75,7 +75,8 @@ module _ (t : Tiling) (tiling : IsTiling t) where
           let same =
           both_equal-from_test ((get_or t.squares k d).x + (get_or t.squares k d).s) (r.x + r.width) ((get_or t.squares k d).y + (get_or t.squares k d).s)
           (r.y + r.height) e in
-          one_over t tiling (r.x + r.width - 1) (r.y + r.height - 1) k j d (omega (arith, here.right, h.right, also))
+          no_two_squares_over_a_cell t tiling (r.x + r.width - 1) (r.y + r.height - 1) k j d (omega (arith, here.right, h.right, also))
           (omega (arith, here.bottom, h.bottom, also)) below few
-          (covers_last (get_or t.squares k d) (r.x + r.width) (r.y + r.height) (side_at t tiling k d (omega arith)) (sym same.0) (sym same.1))
+          (covers_last (get_or t.squares k d) (r.x + r.width) (r.y + r.height) (square_at_a_place_has_a_side t tiling k d (omega arith)) (sym same.0)
+          (sym same.1))
           (covers_last (get_or t.squares j d) (r.x + r.width) (r.y + r.height) also h.right h.bottom)

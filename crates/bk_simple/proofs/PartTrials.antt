@@ -11,7 +11,7 @@ use Rattle.bk_simple.specs.CornerSquares.{IsBetween, IsFirstPartFrom, IsHeldBetw
 use Rattle.bk_simple.specs.Reach.{NoneHigher, NoneWider}
 use Rattle.bk_simple.proofs.Parts.{between_corners, bottom_right_below, count_of_part, no_square_across_part, top_left_below, uncut_part}
 use Rattle.bk_simple.proofs.PartCorners.{between-one, bottom_right_at, top_left_at}
-use Rattle.bk_simple.proofs.UncutParts.{inside_means, part_from_count, side_at, within_at}
+use Rattle.bk_simple.proofs.UncutParts.{inside_means, part_from_count, square_at_a_place_has_a_side, within_at}
 use Rattle.bk_simple.proofs.CornerOrder.{corners_apart}
 
 -- what the trial of one pair of squares shows
@@ -43,7 +43,7 @@ module _ (t : Tiling) (tiling : IsTiling t) (i j : ℕ) (d : Square) where
 
       holds_first : IsWithin r (get_or t.squares i d)
       holds_first =
-          let side = side_at t tiling i d first in
+          let side = square_at_a_place_has_a_side t tiling i d first in
           inside_means r (get_or t.squares i d) (true_from_ne_false (is_inside r (get_or t.squares i d))
           (λ cut. no_square_across_part t r tiling p.part i d first cut (record {
             left = omega (arith, c.left, side);
@@ -54,7 +54,7 @@ module _ (t : Tiling) (tiling : IsTiling t) (i j : ℕ) (d : Square) where
 
       holds_last : IsWithin r (get_or t.squares j d)
       holds_last =
-          let side = side_at t tiling j d last in
+          let side = square_at_a_place_has_a_side t tiling j d last in
           inside_means r (get_or t.squares j d) (true_from_ne_false (is_inside r (get_or t.squares j d))
           (λ cut. no_square_across_part t r tiling p.part j d last cut (record {
             left = omega (arith, c.right, c.wide);
@@ -64,10 +64,11 @@ module _ (t : Tiling) (tiling : IsTiling t) (i j : ℕ) (d : Square) where
           })))
 
   -- where no rectangle that holds both squares lies between them, no part has them at its corners
-  pub none_between : (right bottom : ℕ) → NoneWider t.squares (get_or t.squares i d) t.width right → NoneHigher t.squares (get_or t.squares i d) t.height bottom
+  pub no_part_with_corners_where_none_is_between : (right bottom : ℕ) → NoneWider t.squares (get_or t.squares i d) t.width right
+      → NoneHigher t.squares (get_or t.squares i d) t.height bottom
       → i < length t.squares → j < length t.squares
       → ((r : Rectangle) → ¬ (IsHeldBetween (get_or t.squares i d) (get_or t.squares j d) (right, bottom) r)) → (r : Rectangle) → ¬ (IsPartAt t i j r)
-  none_between right bottom wider higher first last nowhere r p = nowhere r (held_at right bottom wider higher r p first last)
+  no_part_with_corners_where_none_is_between right bottom wider higher first last nowhere r p = nowhere r (held_at right bottom wider higher r p first last)
 
   module _ (tried : Rectangle) (h : IsBetween (get_or t.squares i d) (get_or t.squares j d) tried) where
     tried_part : (r : Rectangle) → IsPartAt t i j r → IsPart t tried
@@ -123,8 +124,9 @@ module _ (t : Tiling) (i : ℕ) where
   }
 
   -- where none ends at all, none begins with square i
-  pub none_from : IsTiling t → NoneBelow (order t) → (r : Rectangle) → IsPart t r → top_left t r ≢ i
-  none_from tiling below r part first = let low : order t ≤ bottom_right t r = below r part first in omega (arith, bottom_right_below t r tiling part)
+  pub no_part_begins_where_none_ends : IsTiling t → NoneBelow (order t) → (r : Rectangle) → IsPart t r → top_left t r ≢ i
+  no_part_begins_where_none_ends tiling below r part first = let low : order t ≤ bottom_right t r = below r part first in
+      omega (arith, bottom_right_below t r tiling part)
 
 module _ (t : Tiling) where
   -- no part begins before square i

@@ -16,7 +16,7 @@ use Rattle.bk_simple.proofs.SimpleTest.{first_corner, has_cell, last_corner, sam
 use Rattle.bk_simple.specs.Border.{IsUncut, is_inside, is_outside}
 use Rattle.bk_simple.specs.Simple.{IsPart, bottom_right, top_left}
 use Rattle.bk_simple.specs.CornerSquares.{IsBetween}
-use Rattle.bk_simple.proofs.UncutParts.{Meets, inside_from, meets_from, side_at, within_at}
+use Rattle.bk_simple.proofs.UncutParts.{Meets, inside_from, meets_where_not_outside, square_at_a_place_has_a_side, within_at}
 
 module _ (t : Tiling) (r : Rectangle) (tiling : IsTiling t) (part : IsPart t r) where
   abbrev none : Square
@@ -76,7 +76,7 @@ module _ (t : Tiling) (r : Rectangle) (tiling : IsTiling t) (part : IsPart t r) 
   no_square_across_part k d few cut m =
       let q : Square = get_or t.squares k d in
       let w : IsWithin (whole t) q = within_at t tiling k d few in
-      let some : 0 < q.s = side_at t tiling k d few in
+      let some : 0 < q.s = square_at_a_place_has_a_side t tiling k d few in
       let cell = has_cell t r tiling part in
       let over : covers (max q.x r.x) (max q.y r.y) q ≡ true =
       covers_from (max q.x r.x) (max q.y r.y) q (omega arith) (omega (arith, m.left)) (omega arith) (omega (arith, m.top)) in
@@ -102,4 +102,4 @@ module _ (t : Tiling) (r : Rectangle) (tiling : IsTiling t) (part : IsPart t r) 
           → is_inside r (get_or t.squares k d) || is_outside r (get_or t.squares k d) ≡ true
       each k d few (inl h) other = or_left _ _ h
       each k d few (inr h) (inl o) = or_right _ _ o
-      each k d few (inr h) (inr o) = absurd (no_square_across_part k d few h (meets_from r (get_or t.squares k d) o))
+      each k d few (inr h) (inr o) = absurd (no_square_across_part k d few h (meets_where_not_outside r (get_or t.squares k d) o))

@@ -14,7 +14,8 @@ use Rattle.bk_simple.specs.LargeParts.{HasNoLargePart}
 use Rattle.bk_simple.proofs.CornerOrder.{corners_apart}
 use Rattle.bk_simple.proofs.PartCorners.{covers_first}
 use Rattle.bk_simple.proofs.Parts.{between_corners, bottom_right_below, no_square_across_part, top_left_below, uncut_part}
-use Rattle.bk_simple.proofs.UncutParts.{IsAt, Meets, inside_from, inside_means, one_over, outside_means, part_from_count, side_at, square_over, within_at}
+use Rattle.bk_simple.proofs.UncutParts.{IsAt, Meets, inside_from, inside_means, no_two_squares_over_a_cell, outside_means, part_from_count}
+use Rattle.bk_simple.proofs.UncutParts.{square_at_a_place_has_a_side, square_over, within_at}
 
 -- not all are counted where one isn't
 pub counts_not_all : (p : Square → Bool) (squares : List Square) (k : ℕ) (d : Square) → k < length squares → p (get_or squares k d) ≡ false
@@ -86,7 +87,7 @@ module _ (t : Tiling) (tiling : IsTiling t) where
       let c = between_corners t r tiling part none in
       let b = part_is_bounded r part in
       let few = top_left_below t r tiling part in
-      let s = side_at t tiling (top_left t r) none few in
+      let s = square_at_a_place_has_a_side t tiling (top_left t r) none few in
       record {
         below = few;
         left = c.left;
@@ -170,8 +171,8 @@ module _ (t : Tiling) (tiling : IsTiling t) where
   same_cell c j k l wide high few low apart one other = cases (cases_lt k l)
     where
       cases : (k < l) ⊎ (l ≤ k) → ⊥
-      cases (inl h) = one_over t tiling c j k l none wide high h low one other
-      cases (inr h) = one_over t tiling c j l k none wide high (omega (arith, h, apart)) few other one
+      cases (inl h) = no_two_squares_over_a_cell t tiling c j k l none wide high h low one other
+      cases (inr h) = no_two_squares_over_a_cell t tiling c j l k none wide high (omega (arith, h, apart)) few other one
 
   -- the sides of two squares of a perfect tiling differ
   sides_differ : IsPerfect t → (k l : ℕ) → k < length t.squares → l < length t.squares → (k ≡ l → ⊥) → (at k).s ≡ (at l).s → ⊥
@@ -194,7 +195,7 @@ module _ (t : Tiling) (tiling : IsTiling t) where
     -- another square of the part shares no cell with the first
     apart_from : (k : ℕ) → k < length t.squares → (k ≡ top_left t r → ⊥) → IsWithin r (at k) → (at k).x < p.x + p.s → (at k).y < p.y + p.s → ⊥
     apart_from k few other w left high =
-        let side = side_at t tiling k none few in
+        let side = square_at_a_place_has_a_side t tiling k none few in
         same_cell (at k).x (at k).y k (top_left t r) (omega (arith, w.right, side, b.right)) (omega (arith, w.bottom, side, b.bottom)) few own.below other
         (covers_from (at k).x (at k).y (at k) (omega arith) (omega (arith, side)) (omega arith) (omega (arith, side)))
         (covers_from (at k).x (at k).y p (omega (arith, own.left, w.left)) left (omega (arith, own.top, w.top)) high)
@@ -205,7 +206,7 @@ module _ (t : Tiling) (tiling : IsTiling t) where
         let last : ℕ = bottom_right t r in
         let low : last < length t.squares = bottom_right_below t r tiling part in
         let c = between_corners t r tiling part none in
-        let side = side_at t tiling last none low in
+        let side = square_at_a_place_has_a_side t tiling last none low in
         let w : IsWithin r (at last) = lies_within r part last low (record {
           left = omega (arith, c.right, c.wide);
           right = omega (arith, c.right, side);
@@ -268,7 +269,7 @@ module _ (t : Tiling) (tiling : IsTiling t) where
         right = w.right;
         top = elim (cases_lt (at k).y (r.y + p.s)) [
           | inl h ↦ absurd (apart_from k few other w
-              (omega (arith, w.right, side_at t tiling k none few, own.left, wide)) (omega (arith, h, own.top)))
+              (omega (arith, w.right, square_at_a_place_has_a_side t tiling k none few, own.left, wide)) (omega (arith, h, own.top)))
           | inr h ↦ h
         ];
         bottom = omega (arith, w.bottom, high);
@@ -300,7 +301,7 @@ module _ (t : Tiling) (tiling : IsTiling t) where
       others = λ k few other w. inside_from beside (at k) (record {
         left = elim (cases_lt (at k).x (r.x + p.s)) [
           | inl h ↦ absurd (apart_from k few other w
-              (omega (arith, h, own.left)) (omega (arith, w.bottom, side_at t tiling k none few, own.top, high)))
+              (omega (arith, h, own.left)) (omega (arith, w.bottom, square_at_a_place_has_a_side t tiling k none few, own.top, high)))
           | inr h ↦ h
         ];
         right = omega (arith, w.right, wide);

@@ -8,7 +8,7 @@ use Rattle.bk_tiling.proofs.Places.{later_place}
 use Rattle.bk_tiling.specs.declared.Square.{Square}
 use Rattle.bk_simple.proofs.Parts.{between_corners, bottom_right_below, uncut_part}
 use Rattle.bk_simple.proofs.PartTrials.{NoneBelow}
-use Rattle.bk_simple.proofs.UncutParts.{side_at, within_at}
+use Rattle.bk_simple.proofs.UncutParts.{square_at_a_place_has_a_side, within_at}
 use Rattle.bk_simple.specs.CornerSquares.{IsBetween}
 use Rattle.bk_simple.specs.Simple.{IsPart, bottom_right, top_left}
 use Rattle.bk_simple.specs.Reach.{NoneHigher, NoneWider}
@@ -39,8 +39,9 @@ module _ (t : Tiling) (tiling : IsTiling t) (i : ℕ) (d : Square) (right bottom
 
   -- no part begins with square i where none ends before a square that begins at the level of the lower end, or below it: a later one
   -- ends still lower
-  pub none_behind : (j : ℕ) → NoneBelow t i j → j < length t.squares → bottom ≤ (at j).y → (r : Rectangle) → IsPart t r → top_left t r ≢ i
-  none_behind j below few low r part first = from (cases_eq (bottom_right t r) j)
+  pub no_part_begins_where_squares_are_too_low : (j : ℕ) → NoneBelow t i j → j < length t.squares → bottom ≤ (at j).y → (r : Rectangle) → IsPart t r
+      → top_left t r ≢ i
+  no_part_begins_where_squares_are_too_low j below few low r part first = from (cases_eq (bottom_right t r) j)
     where
       far : Reaches r
       far = reaches r part first
@@ -52,7 +53,7 @@ module _ (t : Tiling) (tiling : IsTiling t) (i : ℕ) (d : Square) (right bottom
       under = bottom_right_below t r tiling part
 
       side : 0 < (at (bottom_right t r)).s
-      side = side_at t tiling (bottom_right t r) d under
+      side = square_at_a_place_has_a_side t tiling (bottom_right t r) d under
 
       no_lower : (at j).y ≤ (at (bottom_right t r)).y → ⊥
       no_lower h = omega (arith, low, far.down, c.bottom, side)

@@ -14,7 +14,7 @@ use Rattle.bk_tiling.specs.Tiling.{IsOneOf, IsTiling, IsWithin, Rectangle, Tilin
 use Rattle.bk_tiling.specs.declared.Square.{Square}
 use Rattle.bk_simple.specs.Border.{is_inside, is_outside}
 use Rattle.bk_simple.specs.Reach.{NoneHigher, NoneWider}
-use Rattle.bk_simple.proofs.UncutParts.{inside_means, one_over, outside_means, side_at, within_at}
+use Rattle.bk_simple.proofs.UncutParts.{inside_means, no_two_squares_over_a_cell, outside_means, square_at_a_place_has_a_side, within_at}
 
 -- the squares from place i up to k stand side by side, and end at a column
 pub record IsRunTo (squares : List Square) (i : ℕ) (d : Square) (k end : ℕ) : Type 0 where
@@ -71,8 +71,8 @@ module _ (t : Tiling) (tiling : IsTiling t) (i : ℕ) (d : Square) where
       cases (inr e) = sides (cases_lt k l)
         where
           sides : (k < l) ⊎ (l ≤ k) → k ≡ l
-          sides (inl h) = absurd (one_over t tiling c j k l d wide high h also one other)
-          sides (inr h) = absurd (one_over t tiling c j l k d wide high (omega (arith, h, e)) few other one)
+          sides (inl h) = absurd (no_two_squares_over_a_cell t tiling c j k l d wide high h also one other)
+          sides (inr h) = absurd (no_two_squares_over_a_cell t tiling c j l k d wide high (omega (arith, h, e)) few other one)
 
   -- behind the last square of a run that ends before the width stands one level with it that begins where the run ends, unless a
   -- higher one hangs there
@@ -87,7 +87,7 @@ module _ (t : Tiling) (tiling : IsTiling t) (i : ℕ) (d : Square) where
       bounds = within_at t tiling m d few
 
       side : 0 < (at (k - 1)).s
-      side = side_at t tiling (k - 1) d (omega (arith, run.some, run.within))
+      side = square_at_a_place_has_a_side t tiling (k - 1) d (omega (arith, run.some, run.within))
 
       column : (at m).x ≡ end
       column = from (cases_lt (at m).x end)
@@ -125,7 +125,7 @@ module _ (t : Tiling) (tiling : IsTiling t) (i : ℕ) (d : Square) where
           let level_k : (at k).y ≡ (at i).y = omega (arith, level, run.level) in
           let after : (at (k - 1)).x < (at k).x = grind (arith, nat_tests, first, level_k, run.level) in
           let before : (at k).x < (at m).x = grind (arith, nat_tests, second, level_k, level) in
-          let own : 0 < (at k).s = side_at t tiling k d few_k in
+          let own : 0 < (at k).s = square_at_a_place_has_a_side t tiling k d few_k in
           let same : k ≡ k - 1 = same_place (at k).x (at i).y k (k - 1) (omega (arith, before, bounds.right))
           (omega (arith, bounds.bottom, o.bottom)) few_k (omega (arith, few_k))
           (covers_from (at k).x (at i).y (at k) (omega arith) (omega arith) (omega arith) (omega arith))
@@ -150,7 +150,7 @@ module _ (t : Tiling) (tiling : IsTiling t) (i : ℕ) (d : Square) where
       first = within_at t tiling i d (omega (arith, run.some, run.within))
 
       side : 0 < (at i).s
-      side = side_at t tiling i d (omega (arith, run.some, run.within))
+      side = square_at_a_place_has_a_side t tiling i d (omega (arith, run.some, run.within))
 
       cases : (end < r.x + r.width) ⊎ (r.x + r.width ≤ end) → r.x + r.width ≤ end
       cases (inr h) = h
@@ -177,7 +177,7 @@ module _ (t : Tiling) (tiling : IsTiling t) (i : ℕ) (d : Square) where
       cases (or_cases _ _ (AllPass-from_list_all (λ q. is_inside r q || is_outside r q) t.squares uncut k d few))
     where
       side : 0 < (at k).s
-      side = side_at t tiling k d few
+      side = square_at_a_place_has_a_side t tiling k d few
 
       lower : (at i).y ≤ (at k).y
       lower = before_level (at i) (at k) (later_place t.squares tiling.ordered i k d behind few)

@@ -16,7 +16,8 @@ use Rattle.bk_simple.specs.CornerSquares.{IsBetween}
 use Rattle.bk_simple.specs.Simple.{IsPart, bottom_right, top_left}
 use Rattle.bk_simple.proofs.Parts.{between_corners, bottom_right_below, count_of_part, no_square_across_part, top_left_below}
 use Rattle.bk_simple.proofs.Seams.{IsRunTo}
-use Rattle.bk_simple.proofs.UncutParts.{IsAt, Meets, inside_from, inside_means, one_over, side_at, square_over, within_at}
+use Rattle.bk_simple.proofs.UncutParts.{IsAt, Meets, inside_from, inside_means, no_two_squares_over_a_cell, square_at_a_place_has_a_side, square_over}
+use Rattle.bk_simple.proofs.UncutParts.{within_at}
 
 -- all are counted where each is
 counts_all : (p : Square → Bool) (squares : List Square) (d : Square) → ((k : ℕ) → k < length squares → p (get_or squares k d) ≡ true)
@@ -46,11 +47,11 @@ module _ (t : Tiling) (tiling : IsTiling t) (d : Square) where
       w = within_at t tiling k d few
 
       side : 0 < (at k).s
-      side = side_at t tiling k d few
+      side = square_at_a_place_has_a_side t tiling k d few
 
       cases : ((at k).y < end_of m) ⊎ (end_of m ≤ (at k).y) → end_of m ≤ (at k).y
       cases (inr h) = h
-      cases (inl h) = absurd (one_over t tiling c (at k).y m k d (omega (arith, w.right)) (omega (arith, w.bottom, side)) before few
+      cases (inl h) = absurd (no_two_squares_over_a_cell t tiling c (at k).y m k d (omega (arith, w.right)) (omega (arith, w.bottom, side)) before few
           (covers_from c (at k).y (at m) ml mr low h) (covers_from c (at k).y (at k) kl kr (omega arith) (omega (arith, side))))
 
   -- a part that begins with square i and ends at a column
@@ -211,8 +212,8 @@ module _ (t : Tiling) (tiling : IsTiling t) (d : Square) where
         cases (inl e) = omega (arith, ap end_of e)
         cases (inr e) =
             let inside : m < length t.squares = omega (arith, few, below) in
-            let own = side_at t tiling m d inside in
-            let other = side_at t tiling last d few in
+            let own = square_at_a_place_has_a_side t tiling m d inside in
+            let other = square_at_a_place_has_a_side t tiling last d few in
             absurd (omega (
               arith,
               other,
@@ -227,7 +228,7 @@ module _ (t : Tiling) (tiling : IsTiling t) (d : Square) where
     first_in : (p : Rectangle) → IsUnder i right p → IsWithin p (at i)
     first_in p u =
         let here : IsPlaced i right p u = placed i right p u in
-        let s = side_at t tiling i d here.below in
+        let s = square_at_a_place_has_a_side t tiling i d here.below in
         lies i right p u i here.below (record {
           left = omega (arith, here.left, s);
           right = omega (arith, here.left, here.wide);
@@ -238,7 +239,7 @@ module _ (t : Tiling) (tiling : IsTiling t) (d : Square) where
     last_in : (p : Rectangle) → IsUnder i right p → IsWithin p (at last)
     last_in p u =
         let here : IsPlaced i right p u = placed i right p u in
-        let s = side_at t tiling last d few in
+        let s = square_at_a_place_has_a_side t tiling last d few in
         lies i right p u last few (record {
           left = omega (arith, ends, u.ends, here.wide);
           right = omega (arith, ends, u.ends, s);
@@ -291,7 +292,7 @@ module _ (t : Tiling) (tiling : IsTiling t) (d : Square) where
       here = placed i right p u
 
       side : 0 < (at k).s
-      side = side_at t tiling k d few
+      side = square_at_a_place_has_a_side t tiling k d few
 
       high : (at k).y < p.y + p.height
       high = next_high i right k l r walk few p u
@@ -316,7 +317,7 @@ module _ (t : Tiling) (tiling : IsTiling t) (d : Square) where
 
   module _ (i right k l r m n : ℕ) (walk : IsWalk i right k l r) (few : k < length t.squares) (next : AreNext i right k l r m n) where
     side : 0 < (at k).s
-    side = side_at t tiling k d few
+    side = square_at_a_place_has_a_side t tiling k d few
 
     -- the one at the left stands no higher than the first square
     pub left_low : (at i).y ≤ m
@@ -390,7 +391,7 @@ module _ (t : Tiling) (tiling : IsTiling t) (d : Square) where
               arith,
               next.left here,
               column_order (at i).x j k (omega (arith, e, below)) few (omega (arith, same))
-                  (omega (arith, same, side_at t tiling j d inside)) (omega (arith, here)) (omega (arith, here, side)),
+                  (omega (arith, same, square_at_a_place_has_a_side t tiling j d inside)) (omega (arith, here)) (omega (arith, here, side)),
             )
         lefts j from inside same (inr e) (inr here) below = omega (arith, next.not_left here, walk.left j from (omega (arith, e, below)) inside same)
 
@@ -403,7 +404,8 @@ module _ (t : Tiling) (tiling : IsTiling t) (d : Square) where
               arith,
               next.right here,
               column_order (right - 1) j k (omega (arith, e, below)) few
-                  (omega (arith, same, side_at t tiling j d inside)) (omega (arith, same, side_at t tiling j d inside)) (omega (arith, here, side))
+                  (omega (arith, same, square_at_a_place_has_a_side t tiling j d inside))
+                  (omega (arith, same, square_at_a_place_has_a_side t tiling j d inside)) (omega (arith, here, side))
                   (omega (arith, here, side)),
             )
         rights j from inside same (inr e) (inr here) below = omega (arith, next.not_right here, walk.right j from (omega (arith, e, below)) inside same)
@@ -419,7 +421,7 @@ module _ (t : Tiling) (tiling : IsTiling t) (d : Square) where
         all_in : (j : ℕ) → j < length t.squares → is_inside p (at j) ≡ true
         all_in j low =
             let w : IsWithin (whole t) (at j) = within_at t tiling j d low in
-            let s = side_at t tiling j d low in
+            let s = square_at_a_place_has_a_side t tiling j d low in
             inside_from p (at j) (record {
               left = omega (arith, wide, u.ends, here.last, here.left, here.wide);
               right = omega (arith, wide, u.ends, here.last, here.left, here.wide, w.right);

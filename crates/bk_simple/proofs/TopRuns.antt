@@ -11,7 +11,7 @@ use Rattle.bk_simple.specs.Simple.{IsPart, bottom_right, top_left}
 use Rattle.bk_simple.proofs.Parts.{between_corners, bottom_right_below, uncut_part}
 use Rattle.bk_simple.proofs.Seams.{IsRunTo, none_wider}
 use Rattle.bk_simple.proofs.SideWalks.{IsPlaced, IsUnder, lies, placed}
-use Rattle.bk_simple.proofs.UncutParts.{side_at, within_at}
+use Rattle.bk_simple.proofs.UncutParts.{square_at_a_place_has_a_side, within_at}
 
 module _ (t : Tiling) (tiling : IsTiling t) (i : ℕ) (d : Square) where
   abbrev square : ℕ → Square
@@ -29,7 +29,7 @@ module _ (t : Tiling) (tiling : IsTiling t) (i : ℕ) (d : Square) where
       here = placed t tiling d i (p.x + p.width) p u
 
       s : 0 < (square k).s
-      s = side_at t tiling k d few
+      s = square_at_a_place_has_a_side t tiling k d few
 
       w : IsWithin p (square k)
       w = lies t tiling d i (p.x + p.width) p u k few (record {
@@ -46,9 +46,9 @@ module _ (t : Tiling) (tiling : IsTiling t) (i : ℕ) (d : Square) where
       grind (arith, nat_tests, before, level)
 
   -- the run of the squares from place i to a later one at its level
-  pub run_of : (last : ℕ) → i < last → last < length t.squares → (square last).y ≡ (square i).y
+  pub squares_at_a_level_are_a_run : (last : ℕ) → i < last → last < length t.squares → (square last).y ≡ (square i).y
       → IsRunTo t.squares i d (last + 1) ((square last).x + (square last).s)
-  run_of last later few level =
+  squares_at_a_level_are_a_run last later few level =
       let e : last + 1 - 1 ≡ last = omega arith in
       let right : (square i).x ≤ (square last).x = begins_right last later few level in
       record { some = omega (arith, later); within = omega (arith, few); level = rw e level; right = rw e right; ends = rw e refl }

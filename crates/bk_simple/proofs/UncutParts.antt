@@ -55,8 +55,8 @@ pub record Meets (r : Rectangle) (q : Square) : Type 0 where
   pub bottom : q.y < r.y + r.height
 
 -- a square that isn't found outside of a rectangle meets it
-pub meets_from : (r : Rectangle) (q : Square) → is_outside r q ≡ false → Meets r q
-meets_from r q e =
+pub meets_where_not_outside : (r : Rectangle) (q : Square) → is_outside r q ≡ false → Meets r q
+meets_where_not_outside r q e =
     let parts = or_parts _ _ e in
     let across = or_parts _ _ parts.0 in
     let along = or_parts _ _ parts.1 in
@@ -68,13 +68,13 @@ module _ (t : Tiling) (tiling : IsTiling t) where
   within_at k d few = All-from_recursion (IsWithin (whole t)) t.squares tiling.tiles.within k d few
 
   -- the square at a place of a tiling has a side
-  pub side_at : (k : ℕ) (d : Square) → k < length t.squares → 0 < (get_or t.squares k d).s
-  side_at k d few = All-from_recursion (λ q. 0 < q.s) t.squares tiling.tiles.sides k d few
+  pub square_at_a_place_has_a_side : (k : ℕ) (d : Square) → k < length t.squares → 0 < (get_or t.squares k d).s
+  square_at_a_place_has_a_side k d few = All-from_recursion (λ q. 0 < q.s) t.squares tiling.tiles.sides k d few
 
   -- a square over a cell stands at one place
-  pub one_over : (i j k l : ℕ) (d : Square) → i < t.width → j < t.height → k < l → l < length t.squares
+  pub no_two_squares_over_a_cell : (i j k l : ℕ) (d : Square) → i < t.width → j < t.height → k < l → l < length t.squares
       → covers i j (get_or t.squares k d) ≡ true → covers i j (get_or t.squares l d) ≡ true → ⊥
-  one_over i j k l d wide high before few over also =
+  no_two_squares_over_a_cell i j k l d wide high before few over also =
       omega (arith, count_two (covers i j) t.squares k l d before few over also, cell_once t tiling i j wide high)
 
   -- the square over a cell
@@ -101,7 +101,7 @@ module _ (t : Tiling) (tiling : IsTiling t) where
     not_all = omega (arith, not_all, length-filter (is_inside r) t.squares);
     tiled = record {
       some = omega (arith, several, length-filter (is_inside r) t.squares);
-      sides = all-filter (λ q. 0 < q.s) (is_inside r) t.squares (recursion_from_All _ t.squares (λ k d few picked. side_at k d few));
+      sides = all-filter (λ q. 0 < q.s) (is_inside r) t.squares (recursion_from_All _ t.squares (λ k d few picked. square_at_a_place_has_a_side k d few));
       within = all-filter (IsWithin r) (is_inside r) t.squares (recursion_from_All _ t.squares (λ k d few picked. inside_means r _ picked));
       once = λ i j left wide top high. count_by-filter_same (is_inside r) (covers i j) t.squares
           (recursion_from_All _ t.squares (λ k d few over. picked i j left wide top high k d few over))

@@ -7,7 +7,7 @@ use Rattle.bk_tiling.specs.declared.Square.{Square}
 use Rattle.bk_word.proofs.WordExamples.{staircase}
 use Rattle.bk_word.specs.Play.{outline_of}
 use Rattle.bk_word.specs.declared.Sign.TheVariants.{Even}
-use Rattle.bk_lay.proofs.WordTest.{by_tests, passes_as_valley}
+use Rattle.bk_lay.proofs.WordTest.{passes_as_valley, passes_as_valley_by_tests}
 use Rattle.bk_word_net.specs.LaidOutline.{FillsValley, StandsOver, back_of, bottom_at, front_of, square_at}
 use Rattle.bk_skel.specs.PartlyLaid.{columns_of}
 
@@ -42,7 +42,7 @@ gap_4 = inl (record { x = 7; y = 3; s = 1 }, (3, refl, refl), refl, refl, refl)
 -- a square of the side 1 fills it, and its bottom is even with that of square 3; one of the side 2 is too wide
 fills_it : FillsValley 8 laid (record { count = 1; signs = Even ∷ [] }) (1 ∷ []) gap
 fills_it = record {
-  found = passes_as_valley _ _ _ (by_tests _ _ _ refl refl refl refl refl refl);
+  found = passes_as_valley _ _ _ (passes_as_valley_by_tests _ _ _ refl refl refl refl refl refl);
   count = refl;
   some = omega arith;
   positive = (omega arith, tt);

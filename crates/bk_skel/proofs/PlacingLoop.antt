@@ -18,7 +18,7 @@ use Rattle.bk_word_net.proofs.TilingWords.MovesOfTiling.{AgreesAt, agrees_start}
 use Rattle.bk_word_net.proofs.TilingWords.TilingOfMoves.{LaidMoves}
 use Rattle.bk_word_net.specs.LaidTiling.{IsLaidWith}
 use Rattle.bk_skel.specs.PartlyLaid.{IsPartlyLaid}
-use Rattle.bk_skel.proofs.SideCuts.{sum_bounds}
+use Rattle.bk_skel.proofs.SideCuts.{how_small_and_large_sides_sum}
 
 -- the width: what the sides of the first move sum to
 abbrev pub first_width : Word → List ℕ → ℕ
@@ -64,7 +64,7 @@ module _ (given : List ℕ) (all_sides : AllByRecursion IsSide given) (few : len
       long = length-take-le m.count given fits
 
       bounds : (length (take m.count given) ≤ sum (take m.count given)) × (sum (take m.count given) ≤ 999_999_999_999_999 * length (take m.count given))
-      bounds = sum_bounds (take m.count given) (all-take IsSide m.count given all_sides)
+      bounds = how_small_and_large_sides_sum (take m.count given) (all-take IsSide m.count given all_sides)
 
       wide : 0 < sum (take m.count given)
       wide = omega (arith, bounds.0, long, some)

@@ -9,7 +9,7 @@ use Rattle.bk_word.proofs.WordExamples.{two, word_65x47}
 use Rattle.bk_word.specs.Word.{Word}
 use Rattle.bk_word.specs.declared.Sign.TheVariants.{Even, Under}
 use Rattle.bk_lay.proofs.WordExamples.{the_word_65x47}
-use Rattle.bk_lay.proofs.WordTest.{by_tests, passes_as_valley}
+use Rattle.bk_lay.proofs.WordTest.{passes_as_valley, passes_as_valley_by_tests}
 use Rattle.bk_word_net.specs.LaidTiling.{IsLaidWith}
 use Rattle.bk_skel.specs.RealisedIn.{tiling_found}
 use Rattle.bk_skel.specs.SolveRefusal.{IsFirstIllegal, IsSolveFault}
@@ -31,17 +31,17 @@ laid-65x47 = record {
   levels = 0 ∷ 17 ∷ 25 ∷ 23 ∷ 28 ∷ 47 ∷ [];
   along = (
     segment 0 65 0,
-    passes_as_valley _ _ _ (by_tests _ _ _ refl refl refl refl refl refl),
+    passes_as_valley _ _ _ (passes_as_valley_by_tests _ _ _ refl refl refl refl refl refl),
     (
       segment 25 17 17,
-      passes_as_valley _ _ _ (by_tests _ _ _ refl refl refl refl refl refl),
+      passes_as_valley _ _ _ (passes_as_valley_by_tests _ _ _ refl refl refl refl refl refl),
       (
         segment 0 25 25,
-        passes_as_valley _ _ _ (by_tests _ _ _ refl refl refl refl refl refl),
+        passes_as_valley _ _ _ (passes_as_valley_by_tests _ _ _ refl refl refl refl refl refl),
         (
           segment 36 29 23,
-          passes_as_valley _ _ _ (by_tests _ _ _ refl refl refl refl refl refl),
-          (segment 22 19 28, passes_as_valley _ _ _ (by_tests _ _ _ refl refl refl refl refl refl), (refl, refl)),
+          passes_as_valley _ _ _ (passes_as_valley_by_tests _ _ _ refl refl refl refl refl refl),
+          (segment 22 19 28, passes_as_valley _ _ _ (passes_as_valley_by_tests _ _ _ refl refl refl refl refl refl), (refl, refl)),
         ),
       ),
     ),

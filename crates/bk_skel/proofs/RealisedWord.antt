@@ -19,12 +19,12 @@ use Rattle.bk_word_net.specs.WordNet.{net_of_word}
 
 module _ (w : Word) (net : Net) (is : net ≡ net_of_word w) where
   -- the net of a word of at most 16 squares has at most 16 wires
-  pub net_few : order_of w ≤ 16 → length net.wires ≤ 16
-  net_few few = omega (arith, ap (λ (n : Net). length n.wires) is, wires_many w, few)
+  pub net_of_few_squares_has_few_wires : order_of w ≤ 16 → length net.wires ≤ 16
+  net_of_few_squares_has_few_wires few = omega (arith, ap (λ (n : Net). length n.wires) is, wires_many w, few)
 
   -- each node of the net of a complete word is joined to the last
-  pub net_joined : IsComplete w → HasNoLoose net
-  net_joined complete = subst HasNoLoose (sym is) (a_word_net_has_no_loose w complete).1
+  pub complete_net_has_no_loose_node : IsComplete w → HasNoLoose net
+  complete_net_has_no_loose_node complete = subst HasNoLoose (sym is) (a_word_net_has_no_loose w complete).1
 
   -- a word whose net is wide is a wide word
   pub wide_net : IsWide net → IsWideWord w
@@ -72,7 +72,7 @@ module _ (skel w : Word) (same : skel ≡ w) (complete : IsComplete skel) (net :
   loose_fault node e = from (subst (λ (f : FlowFault). IsRefusedFor f net) e refused)
     where
       from : IsRefusedFor (Loose node) net → ⊥
-      from r = (r.0).1 (net_joined skel net is complete node (r.0).0)
+      from r = (r.0).1 (complete_net_has_no_loose_node skel net is complete node (r.0).0)
 
 -- a complete word whose net has too large a current is wide
 pub large_word : (skel w : Word) → skel ≡ w → IsComplete skel → HasLargeCurrent (net_of_word skel) → IsComplete w × IsWideWord w

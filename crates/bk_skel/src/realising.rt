@@ -63,9 +63,9 @@ pub fn flow_of(skel: &Skel) -> NarrowFlow
     narrow_flow(&skel.net())
 }
 
-/// What `realise_small` answers, from the flow that `flow_of` gives: the primitive tiling of the word, or `None` where
-/// no tiling has it.
-pub fn realise_by(skel: &Skel, flow: &NarrowFlow) -> Option<Tiling>
+// What `realise_small` answers, from the flow that `flow_of` gives: the primitive tiling of the word, or `None` where
+// no tiling has it.
+fn realise_by(skel: &Skel, flow: &NarrowFlow) -> Option<Tiling>
     requires closed { IsComplete skel.now }
     requires flow { IsPrimitiveFlow (net_of_word skel.now) flow.now.total flow.now.currents }
     ensures { IsRealised skel.now result }
@@ -78,9 +78,9 @@ pub fn realise_by(skel: &Skel, flow: &NarrowFlow) -> Option<Tiling>
     }
 }
 
-/// What `realise_by` answers, in room that is there, for the laying and for the tiling. `Found` comes exactly where
-/// there is a tiling, which stands in `tiling` then; with `Nothing` that is left as it is or not. What stands in
-/// `laying`, before or after, says nothing.
+/// The primitive tiling of the word, from the flow that `flow_of` gives, in room that is there, for the laying and for
+/// the tiling. `Found` comes exactly where there is a tiling, which stands in `tiling` then; with `Nothing` that is
+/// left as it is or not. What stands in `laying`, before or after, says nothing.
 pub fn realise_by_in(
     skel: &Skel,
     flow: &NarrowFlow,

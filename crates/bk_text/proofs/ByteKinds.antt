@@ -22,23 +22,23 @@ close_byte Square = 93
 close_byte Round = 41
 
 -- what a byte of each kind is
-abbrev pub Means : ByteKind → ℕ → Type 0
-Means Blank b = IsBlank b
-Means Zero b = b ≡ 48
-Means (Digit d) b = (0 < d) × (d < 10) × (b ≡ 48 + d)
-Means Comma b = b ≡ 44
-Means Cross b = b ≡ 120
-Means (Open bracket) b = b ≡ open_byte bracket
-Means (Close bracket) b = b ≡ close_byte bracket
-Means Semicolon b = b ≡ 59
-Means Other b = Unit {0}
+abbrev pub HasLineKind : ByteKind → ℕ → Type 0
+HasLineKind Blank b = IsBlank b
+HasLineKind Zero b = b ≡ 48
+HasLineKind (Digit d) b = (0 < d) × (d < 10) × (b ≡ 48 + d)
+HasLineKind Comma b = b ≡ 44
+HasLineKind Cross b = b ≡ 120
+HasLineKind (Open bracket) b = b ≡ open_byte bracket
+HasLineKind (Close bracket) b = b ≡ close_byte bracket
+HasLineKind Semicolon b = b ≡ 59
+HasLineKind Other b = Unit {0}
 
-either : (test : Bool) (one two : ByteKind) (b : ℕ) → (test ≡ true → Means one b) → Means two b → Means (if test then one else two) b
+either : (test : Bool) (one two : ByteKind) (b : ℕ) → (test ≡ true → HasLineKind one b) → HasLineKind two b → HasLineKind (if test then one else two) b
 either true one two b yes' no' = yes' refl
 either false one two b yes' no' = no'
 
 -- each byte is what its kind says
-pub line_kind_of-means : (b : ℕ) → Means (line_kind_of b) b
+pub line_kind_of-means : (b : ℕ) → HasLineKind (line_kind_of b) b
 line_kind_of-means b =
     either (b == 48) Zero _ b (λ h. eqb-true b 48 h) (
     either (nat_le 49 b && nat_le b 57) (Digit (b - 48)) _ b (λ h. digit_byte-positive b h) (

@@ -16,8 +16,8 @@ use Rattle.bk_text.specs.declared.reader.ByteKind.TheVariants.{Blank, Close, Com
 use Rattle.bk_text.specs.declared.reader.Place.{Place}
 use Rattle.bk_text.specs.declared.reader.Place.TheVariants.{BeforeGroup, BeforeHeight, BeforeSide, BehindColumn, BehindFirst, BehindGroup}
 use Rattle.bk_text.specs.declared.reader.Place.TheVariants.{BehindSecond, BehindSide, BehindThird, Comment as InComment, Number as InNumber, Start}
-use Rattle.bk_text.proofs.ByteKinds.{Means}
-use Rattle.bk_text.proofs.KeepingAll.{Lists, and_side, line_of, lists_after, no_lists}
+use Rattle.bk_text.proofs.ByteKinds.{HasLineKind}
+use Rattle.bk_text.proofs.KeepingAll.{Lists, and_side, line_by_its_ending, lists_behind_a_byte, no_lists}
 use Rattle.bk_text.proofs.FrontBytes.{most-ends_in_nine}
 
 abbrev FitsField : Field → Lists → Type 0
@@ -63,8 +63,8 @@ grown f v d t small h = when (nat_le v (most f / 10)) (λ e. leb-true v (most f 
     when false below = tt
     when true below = let few = below refl in (omega (arith, h.0), tenth (most f) (most-ends_in_nine f) few, h.2)
 
-number_fits : (f : Field) (v : ℕ) (k : ByteKind) (t : Lists) (b : ℕ) → Means k b → (0 < v) × (v ≤ most f) × FitsField f t
-    → FitsNext (next_line_place (InNumber f v) k) (lists_after (InNumber f v) k t)
+number_fits : (f : Field) (v : ℕ) (k : ByteKind) (t : Lists) (b : ℕ) → HasLineKind k b → (0 < v) × (v ≤ most f) × FitsField f t
+    → FitsNext (next_line_place (InNumber f v) k) (lists_behind_a_byte (InNumber f v) k t)
 number_fits First v Zero t b m h = grown First v 0 t (omega arith) h
 number_fits (Second o) v Zero t b m h = grown (Second o) v 0 t (omega arith) h
 number_fits (Height o w) v Zero t b m h = grown (Height o w) v 0 t (omega arith) h
@@ -93,7 +93,7 @@ number_fits (SideOf g Round) v (Close Square) t b m h = tt
 number_fits f v k t b m h = tt
 
 -- lists that go with a place go with the next one behind a byte
-pub fits_after : (p : Place) (k : ByteKind) (t : Lists) (b : ℕ) → Means k b → Fits p t → FitsNext (next_line_place p k) (lists_after p k t)
+pub fits_after : (p : Place) (k : ByteKind) (t : Lists) (b : ℕ) → HasLineKind k b → Fits p t → FitsNext (next_line_place p k) (lists_behind_a_byte p k t)
 fits_after (InNumber f v) k t b m h = number_fits f v k t b m h
 fits_after Start Blank t b m h = h
 fits_after Start (Digit d) t b m h = (m.0, omega (arith, m.1), h)
@@ -154,10 +154,10 @@ read_count t = length (flat t.groups) + length t.sides
 
 -- at the end of a line all sides that were read are its sides
 pub sides_of_line-read_count : (p : Place) (ending : Ending) (t : Lists) → Fits p t → line_ending_at p ≡ Some ending
-    → length (sides_of_line (line_of ending (and_side (last_side p) t))) ≡ read_count (and_side (last_side p) t)
+    → length (sides_of_line (line_by_its_ending ending (and_side (last_side p) t))) ≡ read_count (and_side (last_side p) t)
 sides_of_line-read_count p ending t h e = by_ending ending (and_side (last_side p) t) (fits_ending p ending t h e)
   where
-    by_ending : (e : Ending) (u : Lists) → FitsEnding e u → length (sides_of_line (line_of e u)) ≡ read_count u
+    by_ending : (e : Ending) (u : Lists) → FitsEnding e u → length (sides_of_line (line_by_its_ending e u)) ≡ read_count u
     by_ending Empty u fits = let none : read_count u ≡ 0 = ap read_count fits in omega arith
     by_ending (Coded g) u fits = let none : length u.sides ≡ 0 = ap (λ (z : List ℕ). length z) fits in omega arith
     by_ending (Row r) u fits = let none : length (flat u.groups) ≡ 0 = ap (λ z. length (flat z)) fits in omega arith

@@ -19,8 +19,8 @@ use Rattle.bk_grammar.proofs.FirstByte.{blank_first, comment_first, gap_first, n
 use Rattle.bk_grammar.proofs.NumbersRead.{Longer, number_read}
 use Rattle.bk_text.specs.declared.reader.ByteKind.{ByteKind}
 use Rattle.bk_text.specs.declared.reader.Place.{Place}
-use Rattle.bk_text.proofs.ByteKinds.{Means, close_byte}
-use Rattle.bk_text.proofs.KeepingAll.{Lists, and_side, lists_after}
+use Rattle.bk_text.proofs.ByteKinds.{HasLineKind, close_byte}
+use Rattle.bk_text.proofs.KeepingAll.{Lists, and_side, lists_behind_a_byte}
 use Rattle.bk_text.proofs.Rests.{CodeRest, Columns, ColumnsAfterBlanks, GroupsRest, MoreSides, Rest, RestAfter, SidesRest, item, onto, row}
 use Rattle.bk_text.proofs.FrontParts.{close_first, columns_blank, comma_first, first_blank, first_gap, group_comma, groups_blank, groups_open, line_blank}
 use Rattle.bk_text.proofs.FrontParts.{more_blank, line-of_first_number, sides_rest-behind_bracket, side_first, sides_rest_blank}
@@ -66,11 +66,11 @@ onto_group t [] = refl
 onto_group t (g ∷ gs) = append_assoc t.groups (t.sides ∷ []) (g ∷ gs)
 
 -- a number that has just begun: its first digit, and what completes the line
-first_side : (most' greatest b d n : ℕ) (ds : List ℕ) → greatest < 10 ^ most' → 9 ≤ greatest → Means (Digit d) b → Longer greatest d n ds
+first_side : (most' greatest b d n : ℕ) (ds : List ℕ) → greatest < 10 ^ most' → 9 ≤ greatest → HasLineKind (Digit d) b → Longer greatest d n ds
     → Number most' n (b ∷ ds)
 first_side most' greatest b d n ds bound large m longer' = number_read most' greatest b d n ds bound (omega (arith, m.1)) m.0 m.1 m.2 longer'
 
-columns_first : (r : Table) (d b : ℕ) (t : Lists) (l : Line) (bs : List ℕ) → Means (Digit d) b → Rest (InNumber (Column r) d) t l bs
+columns_first : (r : Table) (d b : ℕ) (t : Lists) (l : Line) (bs : List ℕ) → HasLineKind (Digit d) b → Rest (InNumber (Column r) d) t l bs
     → (m : ℕ) × (ns : List ℕ) × ColumnsAfterBlanks (m ∷ ns) (b ∷ bs) × (l ≡ row r (t.sides ++ m ∷ ns))
 columns_first r d b t l bs m (n, ds, x, e, longer', (ns, rest, is)) = (
   n,
@@ -81,8 +81,8 @@ columns_first r d b t l bs m (n, ds, x, e, longer', (ns, rest, is)) = (
 )
 
 -- a byte, and what completes a line from the place behind it, complete a line
-behind_number : (field : Field) (v : ℕ) (k : ByteKind) (t : Lists) (l : Line) (b : ℕ) (bs : List ℕ) → Means k b
-    → RestAfter (next_line_place (InNumber field v) k) (lists_after (InNumber field v) k t) l bs → Rest (InNumber field v) t l (b ∷ bs)
+behind_number : (field : Field) (v : ℕ) (k : ByteKind) (t : Lists) (l : Line) (b : ℕ) (bs : List ℕ) → HasLineKind k b
+    → RestAfter (next_line_place (InNumber field v) k) (lists_behind_a_byte (InNumber field v) k t) l bs → Rest (InNumber field v) t l (b ∷ bs)
 behind_number First v Zero t l b bs m h = grown First v 0 b t l bs (omega arith) m h
 behind_number (Second o) v Zero t l b bs m h = grown (Second o) v 0 b t l bs (omega arith) m h
 behind_number (Height o w) v Zero t l b bs m h = grown (Height o w) v 0 b t l bs (omega arith) m h
@@ -158,7 +158,8 @@ behind_number (SideOf g Round) v (Close Square) t l b bs m h = absurd h
 behind_number field v k t l b bs m h = absurd h
 
 -- a byte of any kind in front of what completes the line from the place behind it
-pub behind_byte : (p : Place) (k : ByteKind) (t : Lists) (l : Line) (b : ℕ) (bs : List ℕ) → Means k b → RestAfter (next_line_place p k) (lists_after p k t) l bs
+pub behind_byte : (p : Place) (k : ByteKind) (t : Lists) (l : Line) (b : ℕ) (bs : List ℕ) → HasLineKind k b
+    → RestAfter (next_line_place p k) (lists_behind_a_byte p k t) l bs
     → Rest p t l (b ∷ bs)
 behind_byte (InNumber field v) k t l b bs m h = behind_number field v k t l b bs m h
 behind_byte Start Blank t l b bs m (whole, h, is) = (whole, line_blank whole b bs m h, is)

@@ -47,9 +47,9 @@ front_side bracket bytes side digits closed spelled some within ends = record {
 }
 
 -- one side further in a group
-pub group_within : (bracket : Bracket) (bytes : List ℕ) (taken side len : ℕ) (closed : Bool) → taken ≤ length bytes
+pub front_side_ends_within_the_bytes : (bracket : Bracket) (bytes : List ℕ) (taken side len : ℕ) (closed : Bool) → taken ≤ length bytes
     → IsFrontSide bracket (from taken bytes) side len closed → taken + len ≤ length bytes
-group_within bracket bytes taken side len closed within front =
+front_side_ends_within_the_bytes bracket bytes taken side len closed within front =
     let front' : IsFrontSide bracket (drop taken bytes) side len closed =
     subst (λ (z : List ℕ). IsFrontSide bracket z side len closed) (from_is_drop taken bytes) front in
     omega (arith, within, front'.within, length-drop taken bytes)

@@ -14,9 +14,9 @@ use Rattle.bk_text.specs.declared.reader.ByteKind.TheVariants.{Open}
 use Rattle.bk_text.specs.declared.reader.Place.{Place}
 use Rattle.bk_text.specs.declared.reader.Place.TheVariants.{BeforeGroup, BeforeSide, BehindGroup, BehindSide, Number as InNumber}
 use Rattle.bk_text.proofs.ByteKinds.{close_byte, open_byte}
-use Rattle.bk_text.proofs.KeepingAll.{Lists, and_side, lists_after, no_lists, line_read_from}
+use Rattle.bk_text.proofs.KeepingAll.{Lists, and_side, line_read_from, lists_behind_a_byte, no_lists}
 use Rattle.bk_text.proofs.Rests.{item}
-use Rattle.bk_text.proofs.NumbersRead.{Ends_at, Skips_blanks, behind_reads, blanks_reads, end_read, number_reads, read_next}
+use Rattle.bk_text.proofs.NumbersRead.{Ends_at, Skips_blanks, behind_reads, blanks_reads, end_read, line_read_of_a_further_byte, number_reads}
 
 -- the sides of a group
 closed : (g : Header) (c : Bracket) (n : ℕ) (t : Lists) (y : List ℕ)
@@ -57,7 +57,7 @@ sides_read g c (n ∷ m ∷ ns) t text y r =
 
 -- groups, from a place at which one may begin
 abbrev pub Opens : Place → Header → Lists → Type 0
-Opens p g t = (c : Bracket) → (next_line_place p (Open c) ≡ Some (BeforeSide g c)) × (lists_after p (Open c) t ≡ t)
+Opens p g t = (c : Bracket) → (next_line_place p (Open c) ≡ Some (BeforeSide g c)) × (lists_behind_a_byte p (Open c) t ≡ t)
 
 -- groups, and no open one
 abbrev pub whole_groups : List (List ℕ) → Lists
@@ -73,7 +73,7 @@ bracket_reads : (c : Bracket) (p : Place) (g : Header) (ns : List ℕ) (gs : Lis
 bracket_reads c p g ns gs text one two y opens begins sides ends =
     let k = opens c in
     ap (λ z. line_read_from z p (whole_groups gs)) begins
-    ∙ read_next p (BeforeSide g c) (Open c) (whole_groups gs) (whole_groups gs) (open_byte c) one (kind_open c) k.0 k.1
+    ∙ line_read_of_a_further_byte p (BeforeSide g c) (Open c) (whole_groups gs) (whole_groups gs) (open_byte c) one (kind_open c) k.0 k.1
     ∙ sides_read g c ns (whole_groups gs) one y (subst (Reads (Sides ns) one) ends sides)
 
 group_reads : (p : Place) (g : Header) (ns : List ℕ) (gs : List (List ℕ)) (text y : List ℕ) → Opens p g (whole_groups gs) → Reads (Group ns) text y
@@ -132,7 +132,7 @@ groups_head (ns ∷ ms ∷ code) text (f, x, e, (a, y, e', group, rest), end) =
 
 -- a code behind a number and blanks
 same_open : (p q : Place) (text : List ℕ) → ((c : Bracket) → next_line_place p (Open c) ≡ next_line_place q (Open c))
-    → ((c : Bracket) → lists_after p (Open c) no_lists ≡ lists_after q (Open c) no_lists)
+    → ((c : Bracket) → lists_behind_a_byte p (Open c) no_lists ≡ lists_behind_a_byte q (Open c) no_lists)
     → Heads (λ b. (b ≡ 91) ⊎ (b ≡ 40)) text → line_read_from text p no_lists ≡ line_read_from text q no_lists
 same_open p q [] next lists h = absurd h
 same_open p q (b ∷ text) next lists h = elim h [
@@ -142,15 +142,15 @@ same_open p q (b ∷ text) next lists h = elim h [
   where
     both : (c : Bracket) → line_read_from (open_byte c ∷ text) p no_lists ≡ line_read_from (open_byte c ∷ text) q no_lists
     both Square = ap (λ u. option_and_then (λ r. line_read_from text r u) (next_line_place p (Open Square))) (lists Square)
-        ∙ ap (option_and_then (λ r. line_read_from text r (lists_after q (Open Square) no_lists))) (next Square)
+        ∙ ap (option_and_then (λ r. line_read_from text r (lists_behind_a_byte q (Open Square) no_lists))) (next Square)
     both Round = ap (λ u. option_and_then (λ r. line_read_from text r u) (next_line_place p (Open Round))) (lists Round)
-        ∙ ap (option_and_then (λ r. line_read_from text r (lists_after q (Open Round) no_lists))) (next Round)
+        ∙ ap (option_and_then (λ r. line_read_from text r (lists_behind_a_byte q (Open Round) no_lists))) (next Round)
 
 -- a code behind a number and blanks is read as its groups
 pub code_behind : (p q : Place) (g : Header) (code : List (List ℕ)) (text : List ℕ) → Ends_at p q no_lists no_lists → Skips_blanks q no_lists
     → Opens q g no_lists
     → ((c : Bracket) → next_line_place p (Open c) ≡ next_line_place q (Open c))
-    → ((c : Bracket) → lists_after p (Open c) no_lists ≡ lists_after q (Open c) no_lists)
+    → ((c : Bracket) → lists_behind_a_byte p (Open c) no_lists ≡ lists_behind_a_byte q (Open c) no_lists)
     → (Blanks then Groups code then LineEnd) text → line_read_from text p no_lists ≡ Some (item g code)
 code_behind p q g code text ends skips opens next lists (a, x, e, blanks, rest) =
     behind_reads p q no_lists no_lists text x ends skips (same_open p q x next lists (groups_head code x rest)) (a, blanks, e) ∙ code_read q g code x opens rest

@@ -27,21 +27,21 @@ and_group false t = t
 and_group true t = record { groups = t.groups ++ t.sides ∷ []; sides = [] }
 
 -- behind a further byte
-abbrev pub lists_after : Place → ByteKind → Lists → Lists
-lists_after p k t = and_group (closes_group p k) (and_side (ended_side p k) t)
+abbrev pub lists_behind_a_byte : Place → ByteKind → Lists → Lists
+lists_behind_a_byte p k t = and_group (closes_group p k) (and_side (ended_side p k) t)
 
 -- what a line stands for
-abbrev pub line_of : Ending → Lists → Line
-line_of Empty t = Skip
-line_of (Coded h) t = Item h.order h.size t.groups
-line_of (Row r) t = Flat r.order r.width r.height t.sides
+abbrev pub line_by_its_ending : Ending → Lists → Line
+line_by_its_ending Empty t = Skip
+line_by_its_ending (Coded h) t = Item h.order h.size t.groups
+line_by_its_ending (Row r) t = Flat r.order r.width r.height t.sides
 
 -- the line that ends here, where one may
-abbrev pub line_at : Option Ending → Lists → Option Line
-line_at None t = None
-line_at (Some e) t = Some (line_of e t)
+abbrev pub line_where_one_may_end : Option Ending → Lists → Option Line
+line_where_one_may_end None t = None
+line_where_one_may_end (Some e) t = Some (line_by_its_ending e t)
 
 -- what is read from a place on
 abbrev pub line_read_from : List ℕ → Place → Lists → Option Line
-line_read_from [] p t = line_at (line_ending_at p) (and_side (last_side p) t)
-line_read_from (b ∷ bs) p t = option_and_then (λ q. line_read_from bs q (lists_after p (line_kind_of b) t)) (next_line_place p (line_kind_of b))
+line_read_from [] p t = line_where_one_may_end (line_ending_at p) (and_side (last_side p) t)
+line_read_from (b ∷ bs) p t = option_and_then (λ q. line_read_from bs q (lists_behind_a_byte p (line_kind_of b) t)) (next_line_place p (line_kind_of b))

@@ -13,7 +13,7 @@ use Rattle.bk_text.specs.declared.reader.Bracket.TheVariants.{Square}
 use Rattle.bk_text.specs.declared.reader.Field.TheVariants.{Height, Side, Third}
 use Rattle.bk_text.specs.declared.reader.Place.TheVariants.{BeforeGroup, BeforeSide, BehindGroup, BehindSide, Number, Start}
 use Rattle.bk_text.proofs.KeepingAll.{no_lists}
-use Rattle.bk_text.proofs.Stopping.{stops_at, stops_at_end}
+use Rattle.bk_text.proofs.Stopping.{no_line_where_bytes_end_early, no_line_where_no_place_is_next}
 use Rattle.bk_text.proofs.WhatWasRead.{read_is_line}
 
 skip-comment : IsLine Skip (codes " ; text")
@@ -47,32 +47,36 @@ spelled-size = refl
 
 -- where bytes leave the grammar
 at-two_commas : IsNoLine (codes "[18,,15]") 4
-at-two_commas = stops_at (codes "[18,,15]") 4 (BeforeSide no_header Square) (record { groups = []; sides = 18 ∷ [] }) (lit< tt) (λ x. refl) refl
+at-two_commas = no_line_where_no_place_is_next (codes "[18,,15]") 4 (BeforeSide no_header Square) (record { groups = []; sides = 18 ∷ [] }) (lit< tt)
+    (λ x. refl) refl
 
 at-empty_group : IsNoLine (codes "[]") 1
-at-empty_group = stops_at (codes "[]") 1 (BeforeSide no_header Square) no_lists (lit< tt) (λ x. refl) refl
+at-empty_group = no_line_where_no_place_is_next (codes "[]") 1 (BeforeSide no_header Square) no_lists (lit< tt) (λ x. refl) refl
 
 at-size_alone : IsNoLine (codes "33x32") 5
-at-size_alone = stops_at_end (codes "33x32") (Number (Height None 33) 32) no_lists (λ x. refl) refl
+at-size_alone = no_line_where_bytes_end_early (codes "33x32") (Number (Height None 33) 32) no_lists (λ x. refl) refl
 
 at-open_group : IsNoLine (codes "[18 ;") 4
-at-open_group = stops_at (codes "[18 ;") 4 (BehindSide no_header Square) (record { groups = []; sides = 18 ∷ [] }) (lit< tt) (λ x. refl) refl
+at-open_group = no_line_where_no_place_is_next (codes "[18 ;") 4 (BehindSide no_header Square) (record { groups = []; sides = 18 ∷ [] }) (lit< tt)
+    (λ x. refl) refl
 
 at-other_bracket : IsNoLine (codes "[18)") 3
-at-other_bracket = stops_at (codes "[18)") 3 (Number (Side no_header Square) 18) no_lists (lit< tt) (λ x. refl) refl
+at-other_bracket = no_line_where_no_place_is_next (codes "[18)") 3 (Number (Side no_header Square) 18) no_lists (lit< tt) (λ x. refl) refl
 
 at-zero : IsNoLine (codes "0x5 [1]") 0
-at-zero = stops_at (codes "0x5 [1]") 0 Start no_lists (lit< tt) (λ x. refl) refl
+at-zero = no_line_where_no_place_is_next (codes "0x5 [1]") 0 Start no_lists (lit< tt) (λ x. refl) refl
 
 at-two_commas_between : IsNoLine (codes "[1],,[1]") 4
-at-two_commas_between = stops_at (codes "[1],,[1]") 4 (BeforeGroup no_header) (record { groups = (1 ∷ []) ∷ []; sides = [] }) (lit< tt) (λ x. refl) refl
+at-two_commas_between = no_line_where_no_place_is_next (codes "[1],,[1]") 4 (BeforeGroup no_header) (record { groups = (1 ∷ []) ∷ []; sides = [] }) (lit< tt)
+    (λ x. refl) refl
 
 at-long_side : IsNoLine (codes "[1234567890123456]") 16
-at-long_side = stops_at (codes "[1234567890123456]") 16 (Number (Side no_header Square) 123456789012345) no_lists (lit< tt) (λ x. refl) refl
+at-long_side = no_line_where_no_place_is_next (codes "[1234567890123456]") 16 (Number (Side no_header Square) 123456789012345) no_lists (lit< tt)
+    (λ x. refl) refl
 
 -- a table row needs a side, and its sides are numbers
 at-table : IsNoLine (codes "9 33 32") 7
-at-table = stops_at_end (codes "9 33 32") (Number (Third 9 33) 32) no_lists (λ x. refl) refl
+at-table = no_line_where_bytes_end_early (codes "9 33 32") (Number (Third 9 33) 32) no_lists (λ x. refl) refl
 
 -- what is read of that table row is in range, and an item without groups is not
 in_range-table : IsInRange (Flat 3 3 2 (2 ∷ 1 ∷ 1 ∷ []))

@@ -49,7 +49,7 @@ range_is (Ok e) g bs line few = line_range (line_gathered e g) bs line few
 range_is (Err fault) g bs line few = tt
 
 -- a line is refused for its many sides exactly where it has them
-pub fault_is : (r : Result Ending TextFault) (many : Bool) (bs : List ℕ) → IfErr r (λ fault. fault ≡ Many) → OnErr r (many ≡ true)
+pub told_many_sides_are_the_fault : (r : Result Ending TextFault) (many : Bool) (bs : List ℕ) → IfErr r (λ fault. fault ≡ Many) → OnErr r (many ≡ true)
     → (many ≡ true → IsTextFaultOf Many bs) → IfErr r (λ fault. IsTextFaultOf fault bs)
-fault_is (Ok e) many bs is full line = tt
-fault_is (Err fault) many bs is full line = subst (λ (z : TextFault). IsTextFaultOf z bs) (sym is) (line full)
+told_many_sides_are_the_fault (Ok e) many bs is full line = tt
+told_many_sides_are_the_fault (Err fault) many bs is full line = subst (λ (z : TextFault). IsTextFaultOf z bs) (sym is) (line full)

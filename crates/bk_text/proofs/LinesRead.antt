@@ -13,22 +13,22 @@ use Rattle.bk_text.specs.declared.reader.Place.{Place}
 use Rattle.bk_text.specs.declared.reader.Place.TheVariants.{BeforeGroup, BeforeHeight, BehindColumn, BehindFirst, BehindSecond, BehindThird}
 use Rattle.bk_text.specs.declared.reader.Place.TheVariants.{Number as InNumber, Start}
 use Rattle.bk_text.specs.declared.reader.Table.{Table}
-use Rattle.bk_text.proofs.KeepingAll.{Lists, and_side, lists_after, no_lists, line_read_from}
+use Rattle.bk_text.proofs.KeepingAll.{Lists, and_side, line_read_from, lists_behind_a_byte, no_lists}
 use Rattle.bk_text.proofs.Rests.{row}
-use Rattle.bk_text.proofs.NumbersRead.{Begins_number, Ends_at, Skips_blanks, behind_reads, blanks_reads, end_read, ends_here, gap_reads, number_reads}
-use Rattle.bk_text.proofs.NumbersRead.{read_next}
+use Rattle.bk_text.proofs.NumbersRead.{Begins_number, Ends_at, Skips_blanks, behind_reads, blanks_reads, end_read, ends_here, gap_reads}
+use Rattle.bk_text.proofs.NumbersRead.{line_read_of_a_further_byte, number_reads}
 use Rattle.bk_text.proofs.GroupsRead.{code_behind, code_read}
 
 -- a size
 size_reads : (p : Place) (f : Field) (order : Option ℕ) (w h : ℕ) (text x : List ℕ) → 10 ^ 18 ≤ most f + 1 → Begins_number p f no_lists
-    → next_line_place (InNumber f w) Cross ≡ Some (BeforeHeight order w) → lists_after (InNumber f w) Cross no_lists ≡ no_lists
+    → next_line_place (InNumber f w) Cross ≡ Some (BeforeHeight order w) → lists_behind_a_byte (InNumber f w) Cross no_lists ≡ no_lists
     → Reads (Size (w, h)) text x → line_read_from text p no_lists ≡ line_read_from x (InNumber (Height order w) h) no_lists
 size_reads p f order w h text x bound begins next lists r =
     let a = reads_parts (Number 18 w) (Is (codes "x") then Number 18 h) text x r in
     let b = reads_parts (Is (codes "x")) (Number 18 h) a.0 x a.2 in
     number_reads 18 w p f no_lists text a.0 bound begins a.1
     ∙ ap (λ z. line_read_from z (InNumber f w) no_lists) (byte_is 120 a.0 b.0 b.1)
-    ∙ read_next (InNumber f w) (BeforeHeight order w) Cross no_lists no_lists 120 b.0 refl next lists
+    ∙ line_read_of_a_further_byte (InNumber f w) (BeforeHeight order w) Cross no_lists no_lists 120 b.0 refl next lists
     ∙ number_reads 18 h (BeforeHeight order w) (Height order w) no_lists b.0 x (omega arith) (λ d. (refl, refl)) b.2
 
 -- a table row
@@ -101,5 +101,5 @@ line_is_read (Flat n w h ns) bs
     (refl, refl) (refl, refl) (λ d. (refl, refl)) (s, sides, e6) end
 
 -- a line stands for one thing only
-pub one_meaning : (bytes : List ℕ) (l m : Line) → IsLine l bytes → IsLine m bytes → l ≡ m
-one_meaning bytes l m one two = let same : Some l ≡ Some m = sym (line_is_read l bytes one) ∙ line_is_read m bytes two in cc
+pub line_stands_for_one_thing : (bytes : List ℕ) (l m : Line) → IsLine l bytes → IsLine m bytes → l ≡ m
+line_stands_for_one_thing bytes l m one two = let same : Some l ≡ Some m = sym (line_is_read l bytes one) ∙ line_is_read m bytes two in cc

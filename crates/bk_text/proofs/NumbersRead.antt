@@ -21,14 +21,15 @@ use Rattle.bk_text.specs.declared.reader.ByteKind.{ByteKind}
 use Rattle.bk_text.specs.declared.reader.ByteKind.TheVariants.{Blank, Digit, Semicolon, Zero}
 use Rattle.bk_text.specs.declared.reader.Place.{Place}
 use Rattle.bk_text.specs.declared.reader.Place.TheVariants.{Comment as InComment, Number as InNumber}
-use Rattle.bk_text.proofs.KeepingAll.{Lists, line_of, lists_after, line_read_from}
+use Rattle.bk_text.proofs.KeepingAll.{Lists, line_by_its_ending, line_read_from, lists_behind_a_byte}
 
 -- a further byte of a known kind
-pub read_next : (p q : Place) (k : ByteKind) (t u : Lists) (b : ℕ) (bs : List ℕ) → line_kind_of b ≡ k → next_line_place p k ≡ Some q → lists_after p k t ≡ u
+pub line_read_of_a_further_byte : (p q : Place) (k : ByteKind) (t u : Lists) (b : ℕ) (bs : List ℕ) → line_kind_of b ≡ k → next_line_place p k ≡ Some q
+    → lists_behind_a_byte p k t ≡ u
     → line_read_from (b ∷ bs) p t ≡ line_read_from bs q u
-read_next p q k t u b bs kind next lists =
-    ap (λ k. option_and_then (λ q. line_read_from bs q (lists_after p k t)) (next_line_place p k)) kind
-    ∙ ap (option_and_then (λ q. line_read_from bs q (lists_after p k t))) next
+line_read_of_a_further_byte p q k t u b bs kind next lists =
+    ap (λ k. option_and_then (λ q. line_read_from bs q (lists_behind_a_byte p k t)) (next_line_place p k)) kind
+    ∙ ap (option_and_then (λ q. line_read_from bs q (lists_behind_a_byte p k t))) next
     ∙ ap (line_read_from bs q) lists
 
 kind_blank : (b : ℕ) → IsBlank b → line_kind_of b ≡ Blank
@@ -47,7 +48,7 @@ kind_digit b small other =
     cond-false _ _ _ not_zero ∙ cond-true _ _ _ is_digit ∙ ap Digit own
 
 -- digits of a number
-zero_keeps : (f : Field) (v : ℕ) (t : Lists) → lists_after (InNumber f v) Zero t ≡ t
+zero_keeps : (f : Field) (v : ℕ) (t : Lists) → lists_behind_a_byte (InNumber f v) Zero t ≡ t
 zero_keeps First v t = refl
 zero_keeps (Second o) v t = refl
 zero_keeps (Height o w) v t = refl
@@ -55,7 +56,7 @@ zero_keeps (Third o w) v t = refl
 zero_keeps (Column r) v t = refl
 zero_keeps (SideOf g c) v t = refl
 
-digit_keeps : (f : Field) (v d : ℕ) (t : Lists) → lists_after (InNumber f v) (Digit d) t ≡ t
+digit_keeps : (f : Field) (v d : ℕ) (t : Lists) → lists_behind_a_byte (InNumber f v) (Digit d) t ≡ t
 digit_keeps First v d t = refl
 digit_keeps (Second o) v d t = refl
 digit_keeps (Height o w) v d t = refl
@@ -80,9 +81,10 @@ more_digit f v b t bs small few = which (cases (b == 48) refl)
     which : (b ≡ 48) ⊎ (b ≢ 48) → line_read_from (b ∷ bs) (InNumber f v) t ≡ line_read_from bs (InNumber f (v * 10 + digit_value b)) t
     which (inl e) =
         let value : digit_value b ≡ 0 = ap digit_value e in
-        read_next (InNumber f v) (InNumber f (v * 10 + 0)) Zero t t b bs (ap line_kind_of e) (longer_fits f v 0 (omega (arith, few))) (zero_keeps f v t)
+        line_read_of_a_further_byte (InNumber f v) (InNumber f (v * 10 + 0)) Zero t t b bs (ap line_kind_of e) (longer_fits f v 0 (omega (arith, few)))
+        (zero_keeps f v t)
         ∙ ap (λ z. line_read_from bs (InNumber f (v * 10 + z)) t) (sym value)
-    which (inr e) = read_next (InNumber f v) (InNumber f (v * 10 + digit_value b)) (Digit (digit_value b)) t t b bs (kind_digit b small e)
+    which (inr e) = line_read_of_a_further_byte (InNumber f v) (InNumber f (v * 10 + digit_value b)) (Digit (digit_value b)) t t b bs (kind_digit b small e)
         (longer_fits f v (digit_value b) few) (digit_keeps f v (digit_value b) t)
 
 more_digits : (f : Field) (v : ℕ) (ds : List ℕ) (t : Lists) (x : List ℕ) → AllDigits 10 ds → digits_value_after 10 v ds ≤ most f
@@ -94,7 +96,7 @@ more_digits f v (d ∷ ds) t x digits few =
 
 -- a place at which a number may begin
 abbrev pub Begins_number : Place → Field → Lists → Type 0
-Begins_number p f t = (d : ℕ) → (next_line_place p (Digit d) ≡ Some (InNumber f d)) × (lists_after p (Digit d) t ≡ t)
+Begins_number p f t = (d : ℕ) → (next_line_place p (Digit d) ≡ Some (InNumber f d)) × (lists_behind_a_byte p (Digit d) t ≡ t)
 
 -- the text of a number leads to the place in that number
 pub number_reads : (most' n : ℕ) (p : Place) (f : Field) (t : Lists) (text x : List ℕ) → 10 ^ most' ≤ most f + 1 → Begins_number p f t
@@ -109,18 +111,18 @@ number_reads most' n p f t text x bound begins (b ∷ ds, (digits, few, first, v
     lt_pow_ten-le_greatest (most f) most' (length (b ∷ ds)) n bound few
     (subst (λ (z : ℕ). z < 10 ^ length (b ∷ ds)) value (digits_value-lt 10 (b ∷ ds) digits.1)) in
     ap (λ z. line_read_from z p t) e
-    ∙ read_next p (InNumber f (digit_value b)) (Digit (digit_value b)) t t b (ds ++ x) (kind_digit b digits.1.0 other) k.0 k.1
+    ∙ line_read_of_a_further_byte p (InNumber f (digit_value b)) (Digit (digit_value b)) t t b (ds ++ x) (kind_digit b digits.1.0 other) k.0 k.1
     ∙ more_digits f (digit_value b) ds t x digits.1.1 (omega (arith, start, below))
     ∙ ap (λ z. line_read_from x (InNumber f z) t) start
 
 -- blanks
-blank_read : (p q : Place) (t u : Lists) (b : ℕ) (bs : List ℕ) → IsBlank b → next_line_place p Blank ≡ Some q → lists_after p Blank t ≡ u
+blank_read : (p q : Place) (t u : Lists) (b : ℕ) (bs : List ℕ) → IsBlank b → next_line_place p Blank ≡ Some q → lists_behind_a_byte p Blank t ≡ u
     → line_read_from (b ∷ bs) p t ≡ line_read_from bs q u
-blank_read p q t u b bs blank next lists = read_next p q Blank t u b bs (kind_blank b blank) next lists
+blank_read p q t u b bs blank next lists = line_read_of_a_further_byte p q Blank t u b bs (kind_blank b blank) next lists
 
 -- a place at which blanks change nothing
 abbrev pub Skips_blanks : Place → Lists → Type 0
-Skips_blanks p t = (next_line_place p Blank ≡ Some p) × (lists_after p Blank t ≡ t)
+Skips_blanks p t = (next_line_place p Blank ≡ Some p) × (lists_behind_a_byte p Blank t ≡ t)
 
 skipped : (p : Place) (t : Lists) (a x : List ℕ) → Skips_blanks p t → Blanks a → line_read_from (a ++ x) p t ≡ line_read_from x p t
 skipped p t [] x skips blanks = refl
@@ -132,7 +134,7 @@ blanks_reads p t text x skips (a, blanks, e) = ap (λ z. line_read_from z p t) e
 
 -- blanks behind a number: the number ends
 abbrev pub Ends_at : Place → Place → Lists → Lists → Type 0
-Ends_at p q t u = (next_line_place p Blank ≡ Some q) × (lists_after p Blank t ≡ u)
+Ends_at p q t u = (next_line_place p Blank ≡ Some q) × (lists_behind_a_byte p Blank t ≡ u)
 
 -- some blanks behind a number lead to the place behind it
 pub gap_reads : (p q : Place) (t u : Lists) (text x : List ℕ) → Ends_at p q t u → Skips_blanks q u → Reads SomeBlanks text x
@@ -148,24 +150,24 @@ behind_reads p q t u text x ends skips same ([], h, e) = ap (λ z. line_read_fro
 behind_reads p q t u text x ends skips same (b ∷ a, h, e) = gap_reads p q t u text x ends skips (b ∷ a, (omega arith, h), e)
 
 -- the end of a line
-comment_read : (text : List ℕ) (ending : Ending) (t : Lists) → line_read_from text (InComment ending) t ≡ Some (line_of ending t)
+comment_read : (text : List ℕ) (ending : Ending) (t : Lists) → line_read_from text (InComment ending) t ≡ Some (line_by_its_ending ending t)
 comment_read [] ending t = refl
 comment_read (b ∷ bs) ending t = comment_read bs ending t
 
 -- a place at which the line may end
 pub record Ends_line (p : Place) (ending : Ending) (t u : Lists) : Type 0 where
-  pub here : line_read_from [] p t ≡ Some (line_of ending u)
+  pub here : line_read_from [] p t ≡ Some (line_by_its_ending ending u)
   pub next : next_line_place p Semicolon ≡ Some (InComment ending)
-  pub lists : lists_after p Semicolon t ≡ u
+  pub lists : lists_behind_a_byte p Semicolon t ≡ u
 
 -- where the line may end, it ends also in front of a comment
 pub ends_here : (p : Place) (ending : Ending) (t u : Lists) (x : List ℕ) → Ends_line p ending t u → (Nothing or Comment) x
-    → line_read_from x p t ≡ Some (line_of ending u)
+    → line_read_from x p t ≡ Some (line_by_its_ending ending u)
 ends_here p ending t u x ends (inl none) = ap (λ z. line_read_from z p t) none ∙ ends.here
 ends_here p ending t u x ends (inr (text, e)) = ap (λ z. line_read_from z p t) e
-    ∙ read_next p (InComment ending) Semicolon t u 59 text refl ends.next ends.lists ∙ comment_read text ending u
+    ∙ line_read_of_a_further_byte p (InComment ending) Semicolon t u 59 text refl ends.next ends.lists ∙ comment_read text ending u
 
 -- the end of a line, with blanks or a comment before it, is read as the end
 pub end_read : (p : Place) (ending : Ending) (t : Lists) (text : List ℕ) → Skips_blanks p t → Ends_line p ending t t → LineEnd text
-    → line_read_from text p t ≡ Some (line_of ending t)
+    → line_read_from text p t ≡ Some (line_by_its_ending ending t)
 end_read p ending t text skips ends (a, x, e, blanks, rest) = blanks_reads p t text x skips (a, blanks, e) ∙ ends_here p ending t t x ends rest

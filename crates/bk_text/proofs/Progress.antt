@@ -19,8 +19,8 @@ use Rattle.bk_text.specs.declared.reader.Place.{Place}
 use Rattle.bk_text.specs.declared.reader.Place.TheVariants.{BehindSide, Number as InNumber}
 use Rattle.bk_text.proofs.ByteKinds.{line_kind_of-means}
 use Rattle.bk_text.proofs.Fitting.{Fits, FitsNext, sides_of_line-read_count, ended_is_side, fits_after, last_is_side, read_count}
-use Rattle.bk_text.proofs.KeepingAll.{Lists, and_group, and_side, line_at, line_of, lists_after}
-use Rattle.bk_text.proofs.Stopping.{Leads, leads_on, read_whole, stops_at, stops_at_end}
+use Rattle.bk_text.proofs.KeepingAll.{Lists, and_group, and_side, line_by_its_ending, line_where_one_may_end, lists_behind_a_byte}
+use Rattle.bk_text.proofs.Stopping.{LeadsToLists, leads_on, line_read_where_the_bytes_end, no_line_where_bytes_end_early, no_line_where_no_place_is_next}
 use Rattle.bk_text.proofs.WhatWasRead.{read_is_line}
 
 -- all sides that were read are kept, or there are more than 200 of them
@@ -32,7 +32,7 @@ pub record Keeps (g : Gathered) (t : Lists) : Type 0 where
 -- the bytes read so far lead to this place with lists that go with it, of which so much is kept
 pub record Progress (front : List ℕ) (p : Place) (g : Gathered) : Type 0 where
   pub lists : Lists
-  pub leads : Leads front p lists
+  pub leads : LeadsToLists front p lists
   pub fits : Fits p lists
   pub keeps : Keeps g lists
 
@@ -106,8 +106,8 @@ with_room room n g =
     if room then record { groups = g.groups; sides = g.sides ++ n ∷ []; many = g.many } else record { groups = g.groups; sides = g.sides; many = true }
 
 -- a side that is kept is there
-pub side_added : (n : ℕ) (g : Gathered) → (with_gathered_side n g).many ≡ false → 0 < length (with_gathered_side n g).sides
-side_added n g few = cases (nat_lt (kept_side_count g) 200) few
+pub a_gathered_side_is_there : (n : ℕ) (g : Gathered) → (with_gathered_side n g).many ≡ false → 0 < length (with_gathered_side n g).sides
+a_gathered_side_is_there n g few = cases (nat_lt (kept_side_count g) 200) few
   where
     cases : (room : Bool) → (with_room room n g).many ≡ false → 0 < length (with_room room n g).sides
     cases true few' = omega (arith, length-append g.sides (n ∷ []))
@@ -116,18 +116,19 @@ side_added n g few = cases (nat_lt (kept_side_count g) 200) few
 -- a group that closes here has a side
 pub group_fits : (front : List ℕ) (p : Place) (g : Gathered) (k : ByteKind) → Progress front p g → closes_group p k ≡ true
     → (with_ended (ended_side p k) g).many ≡ false → 0 < length (with_ended (ended_side p k) g).sides
-group_fits front (InNumber (SideOf h c) v) g (Close d) progress closes few = side_added v g few
+group_fits front (InNumber (SideOf h c) v) g (Close d) progress closes few = a_gathered_side_is_there v g few
 group_fits front (BehindSide h c) g (Close d) progress closes few =
     subst (λ (z : List ℕ). 0 < length z) (sym (progress.keeps.sides few)) progress.fits
 group_fits front p g k progress closes few = absurd (cc)
 
 -- one byte further
-pub one_more : (front : List ℕ) (p q : Place) (g : Gathered) (b : ℕ) → Progress front p g → IsGathered g → next_line_place p (line_kind_of b) ≡ Some q
+pub progress_with_one_byte_more : (front : List ℕ) (p q : Place) (g : Gathered) (b : ℕ) → Progress front p g → IsGathered g
+    → next_line_place p (line_kind_of b) ≡ Some q
     → Progress (front ++ b ∷ []) q (gathered_after p (line_kind_of b) g)
-one_more front p q g b progress is next = record {
-  lists = lists_after p (line_kind_of b) progress.lists;
+progress_with_one_byte_more front p q g b progress is next = record {
+  lists = lists_behind_a_byte p (line_kind_of b) progress.lists;
   leads = leads_on front p q progress.lists b progress.leads next;
-  fits = subst (λ (o : Option Place). FitsNext o (lists_after p (line_kind_of b) progress.lists)) next
+  fits = subst (λ (o : Option Place). FitsNext o (lists_behind_a_byte p (line_kind_of b) progress.lists)) next
       (fits_after p (line_kind_of b) progress.lists b (line_kind_of-means b) progress.fits);
   keeps = keeps_closed (closes_group p (line_kind_of b)) (with_ended (ended_side p (line_kind_of b)) g)
       (and_side (ended_side p (line_kind_of b)) progress.lists)
@@ -135,38 +136,38 @@ one_more front p q g b progress is next = record {
 }
 
 -- one byte further, behind a place of the bytes
-pub one_further : (bs : List ℕ) (i : ℕ) (p q : Place) (g : Gathered) → i < length bs → Progress (take i bs) p g → IsGathered g
+pub progress_to_the_next_place_of_bytes : (bs : List ℕ) (i : ℕ) (p q : Place) (g : Gathered) → i < length bs → Progress (take i bs) p g → IsGathered g
     → next_line_place p (line_kind_of (get_or bs i 0)) ≡ Some q
     → Progress (take (i + 1) bs) q (gathered_after p (line_kind_of (get_or bs i 0)) g)
-one_further bs i p q g within progress is next =
+progress_to_the_next_place_of_bytes bs i p q g within progress is next =
     subst (λ (z : List ℕ). Progress z q (gathered_after p (line_kind_of (get_or bs i 0)) g)) (sym (take_more bs i 0 within))
-    (one_more (take i bs) p q g (get_or bs i 0) progress is next)
+    (progress_with_one_byte_more (take i bs) p q g (get_or bs i 0) progress is next)
 
 -- where the reader stops, the bytes leave the grammar
-pub no_next : (bs : List ℕ) (i : ℕ) (p : Place) (g : Gathered) → i < length bs → Progress (take i bs) p g
+pub no_line_where_the_reader_stops : (bs : List ℕ) (i : ℕ) (p : Place) (g : Gathered) → i < length bs → Progress (take i bs) p g
     → next_line_place p (line_kind_of (get_or bs i 0)) ≡ None → IsNoLine bs i
-no_next bs i p g within progress none = stops_at bs i p progress.lists within progress.leads none
+no_line_where_the_reader_stops bs i p g within progress none = no_line_where_no_place_is_next bs i p progress.lists within progress.leads none
 
 -- bytes that end where no line may end are no line
-pub no_ending : (bs : List ℕ) (p : Place) (g : Gathered) → Progress bs p g → line_ending_at p ≡ None → IsNoLine bs (length bs)
-no_ending bs p g progress none = stops_at_end bs p progress.lists progress.leads none
+pub no_line_where_none_may_end : (bs : List ℕ) (p : Place) (g : Gathered) → Progress bs p g → line_ending_at p ≡ None → IsNoLine bs (length bs)
+no_line_where_none_may_end bs p g progress none = no_line_where_bytes_end_early bs p progress.lists progress.leads none
 
 -- at an end the bytes are a line
 whole_line : (bs : List ℕ) (p : Place) (g : Gathered) (ending : Ending) (progress : Progress bs p g) → line_ending_at p ≡ Some ending
-    → IsLine (line_of ending (and_side (last_side p) progress.lists)) bs
+    → IsLine (line_by_its_ending ending (and_side (last_side p) progress.lists)) bs
 whole_line bs p g ending progress ends =
-    read_is_line bs (line_of ending (and_side (last_side p) progress.lists))
-    (read_whole bs p progress.lists progress.leads ∙ ap (λ e. line_at e (and_side (last_side p) progress.lists)) ends)
+    read_is_line bs (line_by_its_ending ending (and_side (last_side p) progress.lists))
+    (line_read_where_the_bytes_end bs p progress.lists progress.leads ∙ ap (λ e. line_where_one_may_end e (and_side (last_side p) progress.lists)) ends)
 
-same_line : (ending : Ending) (g : Gathered) (t : Lists) → Keeps g t → g.many ≡ false → line_of ending t ≡ line_gathered ending g
+same_line : (ending : Ending) (g : Gathered) (t : Lists) → Keeps g t → g.many ≡ false → line_by_its_ending ending t ≡ line_gathered ending g
 same_line Empty g t keeps few = refl
 same_line (Coded h) g t keeps few = ap (Item h.order h.size) (sym (keeps.groups few))
 same_line (Row r) g t keeps few = ap (Flat r.order r.width r.height) (sym (keeps.sides few))
 
 -- bytes that end where a line may end are the line that was gathered
-pub line_found : (bs : List ℕ) (p : Place) (g : Gathered) (ending : Ending) → Progress bs p g → IsGathered g → line_ending_at p ≡ Some ending
+pub gathered_line_was_read : (bs : List ℕ) (p : Place) (g : Gathered) (ending : Ending) → Progress bs p g → IsGathered g → line_ending_at p ≡ Some ending
     → (with_ended (last_side p) g).many ≡ false → IsLine (line_gathered ending (with_ended (last_side p) g)) bs
-line_found bs p g ending progress is ends few =
+gathered_line_was_read bs p g ending progress is ends few =
     subst (λ (l : Line). IsLine l bs)
     (same_line ending (with_ended (last_side p) g) (and_side (last_side p) progress.lists)
     (keeps_ended (last_side p) g progress.lists is progress.keeps) few)
@@ -177,7 +178,7 @@ pub many_found : (bs : List ℕ) (p : Place) (g : Gathered) (ending : Ending) �
     → (with_ended (last_side p) g).many ≡ true → (line : Line) × IsLine line bs × (200 < length (sides_of_line line))
 many_found bs p g ending progress is ends many =
     let keeps = keeps_ended (last_side p) g progress.lists is progress.keeps in (
-      line_of ending (and_side (last_side p) progress.lists),
+      line_by_its_ending ending (and_side (last_side p) progress.lists),
       whole_line bs p g ending progress ends,
       omega (arith, sides_of_line-read_count p ending progress.lists progress.fits ends, keeps.more many),
     )

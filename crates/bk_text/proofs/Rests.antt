@@ -13,7 +13,7 @@ use Rattle.bk_text.specs.declared.reader.Place.TheVariants.{BeforeGroup, BeforeH
 use Rattle.bk_text.specs.declared.reader.Place.TheVariants.{BehindSecond, BehindSide, BehindThird, Comment, Number as InNumber, Start}
 use Rattle.bk_text.specs.declared.reader.Table.{Table}
 use Rattle.bk_text.proofs.ByteKinds.{close_byte}
-use Rattle.bk_text.proofs.KeepingAll.{Lists, line_of}
+use Rattle.bk_text.proofs.KeepingAll.{Lists, line_by_its_ending}
 
 -- further groups, with what was read before them
 abbrev pub onto : Lists → List (List ℕ) → List (List ℕ)
@@ -108,7 +108,7 @@ Rest (BeforeGroup h) t l bs = (code : List (List ℕ)) × CodeRest code bs × (l
 Rest (BeforeSide h bracket) t l bs = (ns : List ℕ) × (gs : List (List ℕ)) × SidesRest bracket ns gs bs × (l ≡ item h (t.groups ++ (t.sides ++ ns) ∷ gs))
 Rest (BehindSide h bracket) t l bs = (ns : List ℕ) × (gs : List (List ℕ)) × MoreSidesRest bracket ns gs bs × (l ≡ item h (t.groups ++ (t.sides ++ ns) ∷ gs))
 Rest (BehindGroup h) t l bs = (gs : List (List ℕ)) × GroupsRest gs bs × (l ≡ item h (onto t gs))
-Rest (Comment ending) t l bs = l ≡ line_of ending t
+Rest (Comment ending) t l bs = l ≡ line_by_its_ending ending t
 
 -- what completes a line from the next place, where there is one
 abbrev pub RestAfter : Option Place → Lists → Line → List ℕ → Type 0

@@ -11,7 +11,7 @@ use Rattle.bk_text.specs.Onward.{SpellOn, at_number, onward}
 use Rattle.bk_text.specs.LineReading.{closes_group, ended_side, line_kind_of, next_line_place}
 use Rattle.bk_text.specs.declared.reader.ByteKind.{ByteKind}
 use Rattle.bk_text.specs.declared.reader.Place.{Place}
-use Rattle.bk_text.proofs.Progress.{Progress, flat-of_closed_group, one_more, side_fits}
+use Rattle.bk_text.proofs.Progress.{Progress, flat-of_closed_group, progress_with_one_byte_more, side_fits}
 
 -- the bytes from a place on, as they are passed
 abbrev pub from : ℕ → List ℕ → List ℕ
@@ -99,7 +99,7 @@ several_more [] front p q g h progress is e =
     (subst (λ (z : List ℕ). Progress z p g) (sym (append-nil front)) progress)
 several_more (b ∷ bs) front p q g h progress is e =
     by_next (next_line_place p (line_kind_of b)) refl e
-    (λ r next. several_more bs (front ++ b ∷ []) r q (gathered_after p (line_kind_of b) g) h (one_more front p r g b progress is next)
+    (λ r next. several_more bs (front ++ b ∷ []) r q (gathered_after p (line_kind_of b) g) h (progress_with_one_byte_more front p r g b progress is next)
     (still_gathered front p g (line_kind_of b) progress is))
   where
     by_next : (o : Option Place) → next_line_place p (line_kind_of b) ≡ o

@@ -8,18 +8,18 @@ use Rattle.bk_text.specs.declared.reader.Field.TheVariants.{Column, First, Heigh
 use Rattle.bk_text.specs.declared.reader.Place.TheVariants.{BehindColumn, BehindGroup, Comment as InComment, Number as InNumber, Start}
 use Rattle.bk_text.specs.declared.reader.Place.{Place}
 use Rattle.bk_text.proofs.ByteKinds.{line_kind_of-means}
-use Rattle.bk_text.proofs.KeepingAll.{Lists, and_side, line_at, line_of, lists_after, no_lists, line_read_from}
+use Rattle.bk_text.proofs.KeepingAll.{Lists, and_side, line_by_its_ending, line_read_from, line_where_one_may_end, lists_behind_a_byte, no_lists}
 use Rattle.bk_text.proofs.Rests.{Rest, RestAfter, item, line_onto, onto, row}
 use Rattle.bk_text.proofs.FrontBytes.{behind_byte}
 
 -- where a line may end, nothing more completes it
-at_end : (p : Place) (t : Lists) (l : Line) → line_at (line_ending_at p) (and_side (last_side p) t) ≡ Some l → Rest p t l []
+at_end : (p : Place) (t : Lists) (l : Line) → line_where_one_may_end (line_ending_at p) (and_side (last_side p) t) ≡ Some l → Rest p t l []
 at_end Start t l e = let is : Skip ≡ l = cc in (Skip, ([], [], refl, tt, inl refl), sym is)
 at_end (InNumber (Column r) v) t l e = let is : row r (t.sides ++ v ∷ []) ≡ l =
     cc in (v, [], [], refl, (tt, refl, (λ few. few)), ([], ([], [], refl, tt, inl refl), sym is))
 at_end (BehindColumn r) t l e = let is : row r t.sides ≡ l = cc in ([], ([], [], refl, tt, inl refl), sym is ∙ ap (row r) (sym (append-nil t.sides)))
 at_end (BehindGroup g) t l e = let is : item g t.groups ≡ l = cc in ([], ([], [], refl, tt, inl refl), sym is)
-at_end (InComment ending) t l e = let is : line_of ending t ≡ l = cc in sym is
+at_end (InComment ending) t l e = let is : line_by_its_ending ending t ≡ l = cc in sym is
 at_end (InNumber First v) t l e = absurd (cc)
 at_end (InNumber (Second o) v) t l e = absurd (cc)
 at_end (InNumber (Height o w) v) t l e = absurd (cc)
@@ -32,11 +32,12 @@ pub rest-of_read : (bs : List ℕ) (p : Place) (t : Lists) (l : Line) → line_r
 rest-of_read [] p t l e = at_end p t l e
 rest-of_read (b ∷ bs) p t l e =
     behind_byte p (line_kind_of b) t l b bs (line_kind_of-means b)
-    (from (next_line_place p (line_kind_of b)) (λ q k. rest-of_read bs q (lists_after p (line_kind_of b) t) l k) e)
+    (from (next_line_place p (line_kind_of b)) (λ q k. rest-of_read bs q (lists_behind_a_byte p (line_kind_of b) t) l k) e)
   where
     from : (next : Option Place)
-        → ((q : Place) → line_read_from bs q (lists_after p (line_kind_of b) t) ≡ Some l → Rest q (lists_after p (line_kind_of b) t) l bs)
-        → option_and_then (λ q. line_read_from bs q (lists_after p (line_kind_of b) t)) next ≡ Some l → RestAfter next (lists_after p (line_kind_of b) t) l bs
+        → ((q : Place) → line_read_from bs q (lists_behind_a_byte p (line_kind_of b) t) ≡ Some l → Rest q (lists_behind_a_byte p (line_kind_of b) t) l bs)
+        → option_and_then (λ q. line_read_from bs q (lists_behind_a_byte p (line_kind_of b) t)) next ≡ Some l
+        → RestAfter next (lists_behind_a_byte p (line_kind_of b) t) l bs
     from None each h = absurd (cc)
     from (Some q) each h = each q h
 

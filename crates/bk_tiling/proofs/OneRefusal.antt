@@ -8,7 +8,7 @@ use Rattle.bk_tiling.proofs.Cells.{in_all, over_from}
 use Rattle.bk_tiling.proofs.Members.{one_at}
 use Rattle.bk_tiling.proofs.OrderLaws.{in_code_order-all, in_code_order-count, in_code_order-length}
 use Rattle.bk_tiling.proofs.PuttingInOrder.{ordered}
-use Rattle.bk_tiling.proofs.Refusing.{at_most_one, counted_twice}
+use Rattle.bk_tiling.proofs.Refusing.{at_most_one, counted_twice, share_read}
 use Rattle.bk_tiling.specs.CodeOrder.{in_code_order}
 use Rattle.bk_tiling.specs.KeptTiling.{IsKept, IsSide}
 use Rattle.bk_tiling.specs.Refusal.{AreWithin, HasCells, HaveSides, IsAccepted, IsFew, IsFirstOverlap, IsFirstPlace, IsFirstUncovered, IsRefusal}
@@ -26,7 +26,7 @@ not_first : (P : Square → Type 0) (squares : List Square) (i : ℕ) → All P 
 not_first P squares i all first = first.here any_square (all i any_square first.below)
 
 no_overlap : (squares : List Square) (i j : ℕ) → ShareNoCell squares → ¬ (IsFirstOverlap squares i j)
-no_overlap squares i j apart first = apart i j any_square first.ascending first.below (first.here any_square)
+no_overlap squares i j apart first = apart i j any_square first.ascending first.below (share_read squares i j any_square first.here)
 
 module _ (width height : ℕ) (squares : List Square) where
   no_cells : HasCells width height → ¬ ((width ≡ 0) ⊎ (height ≡ 0))
@@ -116,10 +116,10 @@ one_first_overlap : (squares : List Square) (i j k l : ℕ) → IsFirstOverlap s
 one_first_overlap squares i j k l a b = cases (lt_or_gt_or_eq i k) (lt_or_gt_or_eq j l)
   where
     cases : (i < k) ⊎ (k < i) ⊎ (i ≡ k) → (j < l) ⊎ (l < j) ⊎ (j ≡ l) → (i ≡ k) × (j ≡ l)
-    cases (inl h) f = absurd (b.before i j any_square a.ascending a.below (inl h) (a.here any_square))
-    cases (inr (inl h)) f = absurd (a.before k l any_square b.ascending b.below (inl h) (b.here any_square))
-    cases (inr (inr e)) (inl h) = absurd (b.before i j any_square a.ascending a.below (inr (e, h)) (a.here any_square))
-    cases (inr (inr e)) (inr (inl h)) = absurd (a.before k l any_square b.ascending b.below (inr (sym e, h)) (b.here any_square))
+    cases (inl h) f = absurd (b.before i j a.ascending (inl h) a.here)
+    cases (inr (inl h)) f = absurd (a.before k l b.ascending (inl h) b.here)
+    cases (inr (inr e)) (inl h) = absurd (b.before i j a.ascending (inr (e, h)) a.here)
+    cases (inr (inr e)) (inr (inl h)) = absurd (a.before k l b.ascending (inr (sym e, h)) b.here)
     cases (inr (inr e)) (inr (inr f)) = (e, f)
 
 one_first_uncovered : (width height : ℕ) (squares : List Square) (x y u v : ℕ) → IsFirstUncovered width height squares x y

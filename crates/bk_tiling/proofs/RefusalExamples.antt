@@ -1,8 +1,9 @@
 -- The first overlap and the first cell that is not covered, worked out, with the rows over and at that cell.
-use Rattle.std.proofs.Common.{List, [], arith, count_by, inl, inr, length, lit<, lit≤, refl, slice_index_or, suc, zero, ℕ, ◌<◌, ◌∷◌}
+use Rattle.std.proofs.Common.{List, [], arith, count_by, inl, inr, lit<, lit≤, refl, suc, zero, ℕ, ◌<◌, ◌∷◌}
 use Rattle.bk_tiling.proofs.Cells.{over_from}
 use Rattle.bk_tiling.proofs.ExampleTilings.{square_at}
-use Rattle.bk_tiling.specs.Refusal.{IsFirstOverlap, IsFirstUncovered, IsLesserPair, SharesCell}
+use Rattle.bk_tiling.proofs.Refusing.{share_read}
+use Rattle.bk_tiling.specs.Refusal.{IsFirstOverlap, IsFirstUncovered, IsLesserPair, ShareCellAt, SharesCell}
 use Rattle.bk_tiling.specs.Row.{IsRowAt}
 use Rattle.bk_tiling.specs.Sharing.{IsFirstSharing, SharesWithNoneBefore}
 use Rattle.bk_tiling.specs.Tiling.{covers}
@@ -24,18 +25,23 @@ first_overlap : IsFirstOverlap crossing 0 2
 first_overlap = record {
   ascending = omega arith;
   below = omega arith;
-  here = λ d. record { column = 1; level = 1; in_first = refl; in_second = refl };
+  here = record {
+    first = square_at 0 0 2;
+    second = square_at 1 1 2;
+    first_is = refl;
+    second_is = refl;
+    share = record { column = 1; level = 1; in_first = refl; in_second = refl };
+  };
   before = before;
 }
   where
-    before : (a b : ℕ) (d : Square) → a < b → b < length crossing → IsLesserPair a b 0 2
-        → ¬ (SharesCell (slice_index_or crossing a d) (slice_index_or crossing b d))
-    before zero zero d up within less s = omega arith
-    before zero (suc zero) d up within less s = side_by_side s
-    before zero (suc (suc b)) d up within (inl less) s = omega arith
-    before zero (suc (suc b)) d up within (inr less) s = omega (arith, less.1)
-    before (suc a) b d up within (inl less) s = omega arith
-    before (suc a) b d up within (inr less) s = omega (arith, less.0)
+    before : (a b : ℕ) → a < b → IsLesserPair a b 0 2 → ¬ (ShareCellAt crossing a b)
+    before zero zero up less s = omega arith
+    before zero (suc zero) up less s = side_by_side (share_read crossing 0 1 (square_at 0 0 0) s)
+    before zero (suc (suc b)) up (inl less) s = omega arith
+    before zero (suc (suc b)) up (inr less) s = omega (arith, less.1)
+    before (suc a) b up (inl less) s = omega arith
+    before (suc a) b up (inr less) s = omega (arith, less.0)
 
 -- a square of side 2 and one of side 1 in a rectangle of 3 columns and 2 levels: the cell in column 2 at level 1 is free
 abbrev open_corner : List Square
@@ -71,6 +77,6 @@ first_sharing : IsFirstSharing crossing 0 2
 first_sharing = record { after = omega arith; below = omega arith; here = first_overlap.here; before = before }
   where
     before : SharesWithNoneBefore crossing 0 2
-    before zero d up within s = omega (arith, up)
-    before (suc zero) d up within s = side_by_side s
-    before (suc (suc k)) d up within s = omega (arith, within)
+    before zero up within s = omega (arith, up)
+    before (suc zero) up within s = side_by_side (share_read crossing 0 1 (square_at 0 0 0) s)
+    before (suc (suc k)) up within s = omega (arith, within)

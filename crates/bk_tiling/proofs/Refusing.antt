@@ -4,11 +4,12 @@ use Rattle.std.specs.List.Sorted.{IsPermutation, IsSortedByKey}
 use Rattle.std.specs.Ordering.{is_lt, nat_cmp, ordering_then}
 use Rattle.std.specs.Prelude.{AllPairs, slice_index_or}
 use Rattle.std.proofs.Common.{Bool, List, [], ap, arith, cond, count_by, false, inl, inr, length, max, refl, subst, suc, sym, true, zero, ℕ, ◌+◌}
-use Rattle.std.proofs.Common.{◌<◌, ◌∷◌, ◌≡◌, ◌≤◌, ◌⊎◌}
+use Rattle.std.proofs.Common.{◌<◌, ◌∷◌, ◌≡◌, ◌≤◌, ◌⊎◌, ⊎_elim}
 use Rattle.std.proofs.lemmas.Cmp.{nat_cmp_total, on_total, then_total}
 use Rattle.std.proofs.lemmas.List.Elements.{recursion_from_All}
 use Rattle.std.proofs.lemmas.List.Sorted.{All-permutation, IsPermutation-sym, ranks_by, sorted_far, sum_by-IsPermutation}
-use Rattle.std.proofs.lemmas.Bool.{both_ways, cases_Bool}
+use Rattle.std.proofs.lemmas.Bool.{both_ways, cases_Bool, cases_lt}
+use Rattle.bk_laws.proofs.HasAtLaws.{has_at-below, has_at-read, has_at-within}
 use Rattle.bk_tiling.proofs.Cells.{all_from, count-cons, covers_from, in_all, none_counted, one_counted, over_from}
 use Rattle.bk_tiling.proofs.Group.{covers_one}
 use Rattle.bk_tiling.proofs.Members.{one_at}
@@ -17,8 +18,8 @@ use Rattle.bk_tiling.proofs.PuttingInOrder.{from_order, in_order, ordered}
 use Rattle.bk_tiling.proofs.Scaling.{before_from, same_members}
 use Rattle.bk_tiling.specs.CodeOrder.{InCodeOrder, comes_before, in_code_order}
 use Rattle.bk_tiling.specs.KeptTiling.{IsSide}
-use Rattle.bk_tiling.specs.Refusal.{HaveSides, IsFirstOverlap, IsLesserPair, ShareNoCell, SharesCell}
-use Rattle.bk_tiling.specs.Sharing.{IsFirstSharing}
+use Rattle.bk_tiling.specs.Refusal.{HaveSides, IsFirstOverlap, IsLesserPair, ShareCellAt, ShareNoCell, SharesCell}
+use Rattle.bk_tiling.specs.Sharing.{IsFirstSharing, SharesWithNoneBefore}
 use Rattle.bk_tiling.specs.Tiling.{IsOneOf, covers}
 use Rattle.bk_tiling.specs.declared.Square.{Square}
 
@@ -158,14 +159,58 @@ sorted_in_order qs rs sides apart p sorted = same_members rs (in_code_order qs)
     some : (q : Square) → IsOneOf q qs → 0 < q.s
     some q h = (in_all (λ q. IsSide q.s) qs (recursion_from_All (λ q. IsSide q.s) qs sides) q h).0
 
--- the first place that shares a cell with a later one, and the first of these later ones
-pub first_overlap_from : (squares : List Square) (i j : ℕ)
-    → ((a b : ℕ) (d : Square) → a < i → a < b → b < length squares → ¬ (SharesCell (slice_index_or squares a d) (slice_index_or squares b d)))
+-- if the squares that are read at two places within a list share a cell, the list has squares there that do
+pub share_from : (squares : List Square) (i j : ℕ) (d : Square) → i < length squares → j < length squares
+    → SharesCell (slice_index_or squares i d) (slice_index_or squares j d) → ShareCellAt squares i j
+share_from squares i j d within_i within_j share = record {
+  first = slice_index_or squares i d;
+  second = slice_index_or squares j d;
+  first_is = has_at-within squares i d within_i;
+  second_is = has_at-within squares j d within_j;
+  share = share;
+}
+
+-- where a list has squares at two places that share a cell, those that are read there do
+pub share_read : (squares : List Square) (i j : ℕ) (d : Square) → ShareCellAt squares i j
+    → SharesCell (slice_index_or squares i d) (slice_index_or squares j d)
+share_read squares i j d at =
+    subst (λ (p : Square). SharesCell p (slice_index_or squares j d)) (sym (has_at-read squares i at.first d at.first_is))
+    (subst (λ (q : Square). SharesCell at.first q) (sym (has_at-read squares j at.second d at.second_is)) at.share)
+
+-- a square that shares no cell with the later ones before place j, nor with the one there, shares none with those up to it
+pub none_before-more : (squares : List Square) (i j : ℕ) (d : Square) → SharesWithNoneBefore squares i j
+    → ¬ (SharesCell (slice_index_or squares i d) (slice_index_or squares j d)) → SharesWithNoneBefore squares i (j + 1)
+none_before-more squares i j d before not k low high at =
+    ⊎_elim (λ (h : k < j). before k low h at) (λ (h : j ≤ k). not (subst (λ (n : ℕ). SharesCell (slice_index_or squares i d) (slice_index_or squares n d))
+    (same h) (share_read squares i k d at))) (cases_lt k j)
+  where
+    same : j ≤ k → k ≡ j
+    same h = omega (arith, h, high)
+
+-- if each square before place i shares no cell with a later one, the first later one that shares one with i makes the first overlap
+pub first_overlap_from : (squares : List Square) (i j : ℕ) → ((a b : ℕ) → a < i → a < b → ¬ (ShareCellAt squares a b))
     → IsFirstSharing squares i j → IsFirstOverlap squares i j
 first_overlap_from squares i j earlier first = record { ascending = first.after; below = first.below; here = first.here; before = before }
   where
-    before : (a b : ℕ) (d : Square) → a < b → b < length squares → IsLesserPair a b i j
-        → ¬ (SharesCell (slice_index_or squares a d) (slice_index_or squares b d))
-    before a b d over last (inl l) = earlier a b d l over last
-    before a b d over last (inr (e, l)) =
-        subst (λ (a : ℕ). ¬ (SharesCell (slice_index_or squares a d) (slice_index_or squares b d))) (sym e) (first.before b d (omega (arith, e)) l)
+    before : (a b : ℕ) → a < b → IsLesserPair a b i j → ¬ (ShareCellAt squares a b)
+    before a b over (inl l) = earlier a b l over
+    before a b over (inr (e, l)) = subst (λ (a : ℕ). ¬ (ShareCellAt squares a b)) (sym e) (first.before b (omega (arith, e)) l)
+
+-- if the squares before place i share no cell with later ones, nor does the one there, those up to it share none
+pub rows_more : (squares : List Square) (i : ℕ) → ((a b : ℕ) → a < i → a < b → ¬ (ShareCellAt squares a b))
+    → SharesWithNoneBefore squares i (length squares) → (a b : ℕ) → a < i + 1 → a < b → ¬ (ShareCellAt squares a b)
+rows_more squares i earlier here a b below over at =
+    ⊎_elim (λ (h : a < i). earlier a b h over at) (λ (h : i ≤ a). here b (over_i h) (has_at-below squares b at.second at.second_is)
+    (subst (λ (n : ℕ). ShareCellAt squares n b) (same h) at)) (cases_lt a i)
+  where
+    same : i ≤ a → a ≡ i
+    same h = omega (arith, h, below)
+
+    over_i : i ≤ a → i < b
+    over_i h = omega (arith, h, over)
+
+-- if no square before the end of the list shares a cell with a later one, no two share a cell
+pub none_shared : (squares : List Square) (n : ℕ) → ((a b : ℕ) → a < n → a < b → ¬ (ShareCellAt squares a b)) → length squares ≤ n
+    → ShareNoCell squares
+none_shared squares n apart past a b d up below share =
+    apart a b (omega (arith, up, below, past)) up (share_from squares a b d (omega (arith, up, below)) below share)

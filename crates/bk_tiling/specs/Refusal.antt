@@ -3,8 +3,9 @@
 -- and 2; in the rectangle 3x2 the squares (0, 0, 2), (2, 0, 1) leave the cell in column 2 at level 1 uncovered, and it
 -- is the first.
 use Rattle.std.specs.List.{AllByRecursion}
-use Rattle.std.specs.Prelude.{All, AllPairs, HoldsAt, List, count_by, length, slice_index_or, true, ℕ, ◌<◌, ◌≡◌, ◌≤◌}
+use Rattle.std.specs.Prelude.{All, AllPairs, HoldsAt, List, count_by, length, true, ℕ, ◌<◌, ◌≡◌, ◌≤◌}
 use Rattle.std.specs.Prelude.{◌⊎◌}
+use Rattle.bk_laws.specs.HasAt.{HasAt}
 use Rattle.bk_tiling.specs.KeptTiling.{IsSide}
 use Rattle.bk_tiling.specs.Tiling.{IsWithin, Rectangle, Tiles, covers}
 use Rattle.bk_tiling.specs.declared.NotTiling.TheVariants.{Empty, Many, Outside, Overlap, Side, Uncovered}
@@ -29,9 +30,13 @@ pub record SharesCell (p q : Square) : Type 0 where
   pub in_first : covers column level p ≡ true
   pub in_second : covers column level q ≡ true
 
--- the squares at places i and j share a cell, whatever stands for a square past the end
-abbrev pub ShareCellAt : List Square → ℕ → ℕ → Type 0
-ShareCellAt squares i j = (d : Square) → SharesCell (slice_index_or squares i d) (slice_index_or squares j d)
+-- the list has squares at the places i and j, and these two share a cell
+pub record ShareCellAt (squares : List Square) (i j : ℕ) : Type 0 where
+  pub first : Square
+  pub second : Square
+  pub first_is : HasAt squares i first
+  pub second_is : HasAt squares j second
+  pub share : SharesCell first second
 
 -- i is the least place of a square of which P holds
 pub record IsFirstPlace (P : Square → Type 0) (squares : List Square) (i : ℕ) : Type 0 where
@@ -48,8 +53,7 @@ pub record IsFirstOverlap (squares : List Square) (i j : ℕ) : Type 0 where
   pub ascending : i < j
   pub below : j < length squares
   pub here : ShareCellAt squares i j
-  pub before : (a b : ℕ) (d : Square) → a < b → b < length squares → IsLesserPair a b i j
-      → ¬ (SharesCell (slice_index_or squares a d) (slice_index_or squares b d))
+  pub before : (a b : ℕ) → a < b → IsLesserPair a b i j → ¬ (ShareCellAt squares a b)
 
 -- the cell in column x at level y lies in no square, and each cell above it or at its left lies in one
 pub record IsFirstUncovered (width height : ℕ) (squares : List Square) (x y : ℕ) : Type 0 where

@@ -1,8 +1,8 @@
 -- The runs of the commands that answer lines: the lines decide the status.
 use Rattle.std.proofs.Common.{ℕ, ◌≡◌, ◌⊎◌}
 use Rattle.std.specs.Prelude.{List, Some}
-use Rattle.bk_ports.proofs.Deciding.{HasOneReply, refused_none, refused_some, wanting_line}
-use Rattle.bk_ports.proofs.OtherReplies.{ends_within}
+use Rattle.bk_ports.proofs.Deciding.{HasOneReply, memory_wanting_at_a_line_of_the_input, refused_none, refused_some}
+use Rattle.bk_ports.proofs.OtherReplies.{ends_by_any_wider_replies}
 use Rattle.bk_ports.specs.Answered.{answers_of, of_fronts}
 use Rattle.bk_ports.specs.Deciding.{HasRefused}
 use Rattle.bk_ports.specs.Ending.{EndsWith}
@@ -28,7 +28,7 @@ pub replied_whole : (command : Command) (before after : Outside) (ended : Ended)
     → EndsWith (answers_of (of_fronts (record { answers = AnswersLine command; may_want = MayWant command }))) (streams_of before after) ended
     → EndsWith (answers_of (replies_of command)) (streams_of before after) ended
 replied_whole command before after ended =
-    ends_within (of_fronts (record { answers = AnswersLine command; may_want = MayWant command })) (replies_of command)
+    ends_by_any_wider_replies (of_fronts (record { answers = AnswersLine command; may_want = MayWant command })) (replies_of command)
     (record { reply = a_reply command; wants = wants_whole command }) (streams_of before after) ended
 
 module _ (command : Command) (before after : Outside) (status : ℕ) (reads : ReadsToEnd (answers_of (replies_of command)) (streams_of before after)
@@ -47,7 +47,7 @@ module _ (command : Command) (before after : Outside) (status : ℕ) (reads : Re
   decided : (status ≡ 0) ⊎ ((status ≡ 1) ⊎ (status ≡ 6)) → IsDecided command (lines_of input) status
   decided one = record {
     one_of = one;
-    wanting = λ six. wanting_line (replies_of command) (streams_of before after) input tells (at NoMemory six);
+    wanting = λ six. memory_wanting_at_a_line_of_the_input (replies_of command) (streams_of before after) input tells (at NoMemory six);
     refused = λ other. (some_line, λ some. one_of_three (HasRefused (replies_of command) (lines_of input)) status no_line some other one);
   }
 

@@ -1,6 +1,6 @@
 -- The status of a run says how it ended.
 use Rattle.std.proofs.Common.{ap, cond, false, inl, inr, subst, refl, sym, true, ℕ, ◌==◌, ◌∙◌, ◌≡◌, ◌⊎◌}
-use Rattle.std.specs.Prelude.{List, Option, Some, length, ◌<◌, ◌^◌, ◌↔◌, ◌≤◌, IsSomeAnd}
+use Rattle.std.specs.Prelude.{List, Option, Some, length, ◌<◌, ◌↔◌, ◌≤◌, IsSomeAnd}
 use Rattle.bk_ports.proofs.CountedFaults.{calm_is_done}
 use Rattle.bk_ports.proofs.TakenBytes.{TookBy, ends_took, more_come, too_many_exactly}
 use Rattle.bk_ports.specs.Deciding.{TookTooMany}
@@ -8,6 +8,7 @@ use Rattle.bk_ports.specs.Ending.{EndsWith, Output, Streams}
 use Rattle.bk_ports.specs.Faults.{CountsTell, Faults, HasNoFault, IsCalm, IsDoneOrWanting}
 use Rattle.bk_ports.specs.declared.Ended.{Ended}
 use Rattle.bk_ports.specs.declared.Ended.TheVariants.{NoMemory, NoneRefused, ReadFailed, SomeRefused, TooMany, WriteFailed}
+use Rattle.bk_ports.specs.declared.input.TheConstants.{MOST_BYTES}
 use Rattle.bk_top.specs.Outside.{Outside, faults_of, status_of}
 use Rattle.bk_top.specs.ReadsToEnd.{ReadsToEnd}
 
@@ -32,7 +33,7 @@ one_ending status a b p q = sym (named_ending a) ∙ ap named_by (sym p ∙ q) �
 module _ (streams : Streams) (input : List ℕ) (tells : streams.left ≡ Some input) (ended : Ended) (status : ℕ) (s : status ≡ status_of ended)
     (took : TookBy streams ended) where
   -- more bytes came than may be taken
-  pub more_status : (ended ≡ ReadFailed → ⊥) → (ended ≡ WriteFailed → ⊥) → 2 ^ 30 < length input → (status ≡ 7) ⊎ (status ≡ 6)
+  pub more_status : (ended ≡ ReadFailed → ⊥) → (ended ≡ WriteFailed → ⊥) → MOST_BYTES < length input → (status ≡ 7) ⊎ (status ≡ 6)
   more_status reads writes many =
       elim (more_come streams input tells many ended took reads writes) [ inl e ↦ inl (s ∙ ap status_of e) | inr e ↦ inr (s ∙ ap status_of e) ]
 
@@ -72,11 +73,11 @@ ending_at output streams faults status reads ended s =
     subst (λ (e : Ended). EndsWith output streams e) (one_ending status reads.ended ended reads.status_is s) reads.ending
 
 -- where no call fails and at most 2^30 bytes come
-pub is_calm : (before after : Outside) (input : List ℕ) → before.source.bytes ≡ Some input → length input ≤ 2 ^ 30 → HasNoFault (faults_of before after)
+pub is_calm : (before after : Outside) (input : List ℕ) → before.source.bytes ≡ Some input → length input ≤ MOST_BYTES → HasNoFault (faults_of before after)
     → IsCalm before.source.bytes (faults_of before after)
 is_calm before after input tells few none = record {
   no_fault = none;
-  within = subst (λ (l : Option (List ℕ)). IsSomeAnd l (λ bytes. length bytes ≤ 2 ^ 30)) (sym tells) few;
+  within = subst (λ (l : Option (List ℕ)). IsSomeAnd l (λ bytes. length bytes ≤ MOST_BYTES)) (sym tells) few;
 }
 
 -- the status is 1 where it is neither 0 nor 6

@@ -1,6 +1,6 @@
 -- A whole run, for each kind of what is done.
 use Rattle.std.proofs.Common.{List, ap, arith, inl, inr, map, refl, subst, sym, ℕ, ◌∙◌, ◌≡◌, ◌≤◌, ◌⊎◌}
-use Rattle.std.specs.Prelude.{Option, String, string_bytes, ◌≢◌}
+use Rattle.std.specs.Prelude.{String, string_bytes, ◌≢◌}
 use Rattle.std.specs.declared.alloc.Global.{Global}
 use Rattle.bk_ports.specs.Answered.{answers_of, of_fronts}
 use Rattle.bk_ports.specs.Ending.{EndsWith, Output, Streams}
@@ -17,13 +17,13 @@ use Rattle.bk_alike.specs.GroupsEnd.{list_output}
 use Rattle.bk_alike.specs.declared.Wanted.{Wanted}
 use Rattle.bk_verify_report.specs.VerifyRun.{report_of}
 use Rattle.bk_top.proofs.AnsweredLines.{answers_lines}
+use Rattle.bk_top.proofs.Endings.{ask_of}
 use Rattle.bk_top.proofs.ReadToEnd.{lists_lines, verifies_lines}
-use Rattle.bk_word.specs.Word.{Word}
-use Rattle.bk_word.specs.declared.Class.{Class}
 use Rattle.bk_top.specs.Outside.{Outside, Port, faults_of, status_of, streams_of}
 use Rattle.bk_top.specs.ReadsToEnd.{ReadsToEnd}
 use Rattle.bk_top.specs.Running.{Does, IsToldText, IsWholeRun, Lists, Tries}
 use Rattle.bk_top.specs.Words.{AsksErrorsOnly, AsksNoLines, ReadsNoLines, WordsAsk, WordsAskNothing, listing_asked, work_asked}
+use Rattle.bk_top.specs.declared.catalogue.AskedListing.{AskedListing}
 use Rattle.bk_top.specs.declared.work.Work.{Work}
 use Rattle.bk_top.specs.declared.work.Work.TheVariants as works
 
@@ -34,28 +34,17 @@ same words a b = one_ask (map string_bytes words) a b
 
 -- what the words ask where the work says it again
 abbrev pub IsAskedAs : List (String Global) → Work → Type 0
-IsAskedAs words (works.Listing n class from limit) = WordsAsk words (asks.List n class from limit)
+IsAskedAs words (works.Listing asked) = WordsAsk words (ask_of asked)
 IsAskedAs words (works.Verify n) = WordsAsk words (asks.Verify n)
 IsAskedAs words works.Help = WordsAsk words asks.Help
 IsAskedAs words _ = Unit {0}
 
 -- whatever is asked, the work says of it what the words ask
 asked_as : (words : List (String Global)) (ask : Ask) → WordsAsk words ask → IsAskedAs words (work_asked ask)
-asked_as words asks.Check wanted = tt
-asked_as words asks.Canon wanted = tt
-asked_as words asks.Images wanted = tt
-asked_as words asks.Net wanted = tt
-asked_as words asks.Flow wanted = tt
-asked_as words asks.Word wanted = tt
-asked_as words asks.Solve wanted = tt
-asked_as words asks.Draw wanted = tt
-asked_as words asks.Dual wanted = tt
 asked_as words (asks.List n class from limit) wanted = wanted
-asked_as words (asks.Trial seed count) wanted = tt
 asked_as words (asks.Verify n) wanted = wanted
-asked_as words asks.Alike wanted = tt
-asked_as words (asks.Pair kind) wanted = tt
 asked_as words asks.Help wanted = wanted
+asked_as words _ wanted = tt
 
 -- words that ask for this work
 pub record AskFor (words : List (String Global)) (work : Work) : Type 0 where
@@ -83,9 +72,9 @@ module _ (words : List (String Global)) (work : Work) (a : AskFor words work) wh
   work_writes other (inr helped) = other (ap work_asked (same words asks.Help a.ask helped a.asked) ∙ a.is)
 
   -- a run that does this work
-  pub run_of : (before after : Outside) (status : ℕ) → (status ≤ 7) × (status ≢ 5) → (status ≡ 2 → ⊥) → Does work before after status
+  pub whole_run_by_the_work_done : (before after : Outside) (status : ℕ) → (status ≤ 7) × (status ≢ 5) → (status ≡ 2 → ⊥) → Does work before after status
       → IsWholeRun words before after status
-  run_of before after status statuses not does = record {
+  whole_run_by_the_work_done before after status statuses not does = record {
     status_2_asks_nothing = λ e. absurd (not e);
     nothing_asked = λ nothing. absurd (nothing a.ask a.asked);
     done = λ other asked. subst (λ (x : Ask). Does (work_asked x) before after status) (same words a.ask other a.asked asked)
@@ -128,22 +117,22 @@ module _ (words : List (String Global)) (before after : Outside) (status : ℕ) 
       → CountsTell ended (faults_of before after) → status ≡ status_of ended → after.err ≡ before.err → IsWholeRun words before after status
   run_of_lines command ended a ends tell s silent =
       let known = line_status ended status s in
-      run_of words (works.Lines command) a before after status known.within known.not_two
+      whole_run_by_the_work_done words (works.Lines command) a before after status known.within known.not_two
       (answers_lines command before after ended status s ends tell, silent)
 
   -- a listing
-  pub run_of_listing : (n : ℕ) (class : Class) (from : Option Word) (limit : Option ℕ) → AskFor words (works.Listing n class from limit)
-      → Lists (listing_asked n class from limit) before.out after.out status → after.err ≡ before.err → IsWholeRun words before after status
-  run_of_listing n class from limit a lists silent =
+  pub run_of_listing : (asked : AskedListing) → AskFor words (works.Listing asked) → Lists (listing_asked asked) before.out after.out status
+      → after.err ≡ before.err → IsWholeRun words before after status
+  run_of_listing asked a lists silent =
       let known = write_status status lists.no_other in
-      run_of words (works.Listing n class from limit) a before after status known.within known.not_two (lists, silent)
+      whole_run_by_the_work_done words (works.Listing asked) a before after status known.within known.not_two (lists, silent)
 
   -- a trial
   pub run_of_trial : (seed count : ℕ) → AskFor words (works.Trial seed count) → Tries seed count before.out after.out status → after.err ≡ before.err
       → IsWholeRun words before after status
   run_of_trial seed count a tries silent =
       let known = write_status status (tried_status seed count before.out after.out status tries) in
-      run_of words (works.Trial seed count) a before after status known.within known.not_two (tries, silent)
+      whole_run_by_the_work_done words (works.Trial seed count) a before after status known.within known.not_two (tries, silent)
 
   -- groups or pairs
   pub run_of_gathering : (wanted : Wanted) → AskFor words (works.Gather wanted)
@@ -151,20 +140,21 @@ module _ (words : List (String Global)) (before after : Outside) (status : ℕ) 
       → IsWholeRun words before after status
   run_of_gathering wanted a reads silent =
       let known = read_status (list_output wanted) (streams_of before after) (faults_of before after) status reads in
-      run_of words (works.Gather wanted) a before after status known.within known.not_two (lists_lines wanted before after status reads, silent)
+      whole_run_by_the_work_done words (works.Gather wanted) a before after status known.within known.not_two
+      (lists_lines wanted before after status reads, silent)
 
   -- a list that is held against a catalogue
   pub run_of_verify : (n : ℕ) → AskFor words (works.Verify n)
       → ReadsToEnd (report_of n) (streams_of before after) (faults_of before after) status → after.err ≡ before.err → IsWholeRun words before after status
   run_of_verify n a reads silent =
       let known = read_status (report_of n) (streams_of before after) (faults_of before after) status reads in
-      run_of words (works.Verify n) a before after status known.within known.not_two (verifies_lines n before after status reads, silent)
+      whole_run_by_the_work_done words (works.Verify n) a before after status known.within known.not_two (verifies_lines n before after status reads, silent)
 
 -- the text of `help`
 pub run_of_help : (words : List (String Global)) (before after : Outside) → AskFor words works.Help → IsToldText help_text before.err after.err
     → IsWholeRun words before after 0
 run_of_help words before after a told =
-    run_of words works.Help a before after 0 (omega arith, λ e. omega (arith, e)) (λ e. omega (arith, e)) (refl, told)
+    whole_run_by_the_work_done words works.Help a before after 0 (omega arith, λ e. omega (arith, e)) (λ e. omega (arith, e)) (refl, told)
 
 -- a run whose words ask nothing has status 2 and writes the line of usage
 pub run_of_nothing : (words : List (String Global)) (before after : Outside) → WordsAskNothing words → IsToldText usage before.err after.err

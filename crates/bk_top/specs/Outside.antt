@@ -2,7 +2,7 @@
 -- lines.
 -- Example (RunExamples): a run that took more than 2^30 bytes has status 7.
 use Rattle.std.specs.Prelude.{List, Option, ℕ}
-use Rattle.bk_ports.specs.Ending.{Streams}
+use Rattle.bk_ports.specs.Ending.{Streams, streams_told}
 use Rattle.bk_ports.specs.Faults.{Faults}
 use Rattle.bk_ports.specs.declared.Ended.{Ended}
 use Rattle.bk_ports.specs.declared.Ended.TheVariants.{NoMemory, NoneRefused, ReadFailed, SomeRefused, TooMany}
@@ -30,12 +30,7 @@ outside source out err = record { source = source; out = out; err = err }
 
 -- what source and `out` tell of their bytes, before and after a run
 abbrev pub streams_of : Outside → Outside → Streams
-streams_of before after = record {
-  left = before.source.bytes;
-  left_after = after.source.bytes;
-  written = before.out.bytes;
-  written_after = after.out.bytes;
-}
+streams_of before after = streams_told before.source.bytes after.source.bytes before.out.bytes after.out.bytes
 
 -- how many calls of source and `out` have failed, before and after a run
 abbrev pub faults_of : Outside → Outside → Faults

@@ -1,13 +1,14 @@
 -- Runs that read lines to the end of their input: those of the commands that answer lines, and of `verify`, `alike` and
 -- `pair`.
 -- Example (RunExamples): of `check` and an input without bytes the status is 0, and nothing is written.
-use Rattle.std.specs.Prelude.{List, Some, length, ℕ, ◌<◌, ◌^◌, ◌≡◌, ◌≢◌, ◌≤◌, ◌⊎◌, ◌↔◌}
+use Rattle.std.specs.Prelude.{List, Some, length, ℕ, ◌<◌, ◌≡◌, ◌≢◌, ◌≤◌, ◌⊎◌, ◌↔◌}
 use Rattle.bk_ports.specs.Answered.{answers_of}
 use Rattle.bk_ports.specs.Deciding.{TookTooMany}
 use Rattle.bk_ports.specs.Ending.{EndsWith, Output, Streams}
 use Rattle.bk_ports.specs.Faults.{CountsTell, Faults, HasNoFault, IsCalm}
 use Rattle.bk_ports.specs.Lines.{lines_of}
 use Rattle.bk_ports.specs.declared.Ended.{Ended}
+use Rattle.bk_ports.specs.declared.input.TheConstants.{MOST_BYTES}
 use Rattle.bk_answer.specs.declared.command.Command.{Command}
 use Rattle.bk_alike.specs.GroupsEnd.{list_output}
 use Rattle.bk_alike.specs.Listed.{HasRefusedLine}
@@ -28,7 +29,7 @@ pub record ReadsToEnd (output : Output) (streams : Streams) (faults : Faults) (s
   -- where no call fails and at most 2^30 bytes come, all is written, or memory is wanting
   pub complete : IsCalm streams.left faults → (status ≡ 0) ⊎ ((status ≡ 1) ⊎ (status ≡ 6))
   -- where no call fails and more bytes come, the status is 7, or memory is wanting before
-  pub more : (input : List ℕ) → streams.left ≡ Some input → 2 ^ 30 < length input → HasNoFault faults
+  pub more : (input : List ℕ) → streams.left ≡ Some input → MOST_BYTES < length input → HasNoFault faults
       → (status ≡ 7) ⊎ (status ≡ 6)
   -- whatever fails, the status is 7 exactly where more than 2^30 bytes were taken
   pub exactly_7 : (input : List ℕ) → streams.left ≡ Some input → status ≡ 7
@@ -39,7 +40,7 @@ pub record ReadsToEnd (output : Output) (streams : Streams) (faults : Faults) (s
 pub record AnswersLines (command : Command) (before after : Outside) (status : ℕ) : Type 0 where
   pub reads : ReadsToEnd (answers_of (replies_of command)) (streams_of before after) (faults_of before after) status
   -- where no call fails and at most 2^30 bytes come, the lines decide
-  pub decided : (input : List ℕ) → before.source.bytes ≡ Some input → length input ≤ 2 ^ 30
+  pub decided : (input : List ℕ) → before.source.bytes ≡ Some input → length input ≤ MOST_BYTES
       → HasNoFault (faults_of before after)
       → IsDecided command (lines_of input) status
 
@@ -48,7 +49,7 @@ pub record ListsLines (wanted : Wanted) (before after : Outside) (status : ℕ) 
   pub reads : ReadsToEnd (list_output wanted) (streams_of before after) (faults_of before after) status
   -- where no call fails, at most 2^30 bytes come and memory is there, the status is 1 exactly where some line is
   -- refused
-  pub exactly_1 : (input : List ℕ) → before.source.bytes ≡ Some input → length input ≤ 2 ^ 30
+  pub exactly_1 : (input : List ℕ) → before.source.bytes ≡ Some input → length input ≤ MOST_BYTES
       → HasNoFault (faults_of before after)
       → status ≢ 6 → status ≡ 1 ↔ HasRefusedLine (lines_of input)
 
@@ -57,6 +58,6 @@ pub record Verifies (n : ℕ) (before after : Outside) (status : ℕ) : Type 0 w
   pub reads : ReadsToEnd (report_of n) (streams_of before after) (faults_of before after) status
   -- where no call fails, at most 2^30 bytes come and memory is there, the status is 1 exactly where the list and the
   -- catalogue differ
-  pub exactly_1 : (input : List ℕ) → before.source.bytes ≡ Some input → length input ≤ 2 ^ 30
+  pub exactly_1 : (input : List ℕ) → before.source.bytes ≡ Some input → length input ≤ MOST_BYTES
       → HasNoFault (faults_of before after)
       → status ≢ 6 → status ≡ 1 ↔ HasFault n (lines_of input)

@@ -1,18 +1,17 @@
 -- What the words of a command line ask, and what is done for it.
 -- Example (RunExamples): for `check` lines are answered, for `alike` they are gathered in groups.
-use Rattle.std.specs.Prelude.{List, Option, String, map, string_bytes, ℕ, ⊤, ◌⊎◌}
+use Rattle.std.specs.Prelude.{List, String, map, string_bytes, ⊤, ◌⊎◌}
 use Rattle.std.specs.declared.alloc.Global.{Global}
 use Rattle.bk_alike.specs.declared.Wanted.TheVariants.{Groups, Pairs}
 use Rattle.bk_answer.specs.declared.command.Command.TheVariants.{Memory, Plain}
 use Rattle.bk_answer.specs.declared.command.MemoryCommand.TheVariants.{Flow, Solve, Word}
 use Rattle.bk_answer.specs.declared.plain.PlainCommand.TheVariants as plain
-use Rattle.bk_word.specs.Word.{Word as Moves}
-use Rattle.bk_word.specs.declared.Class.{Class}
 use Rattle.bk_catalogue.specs.Following.{start_cursor}
 use Rattle.bk_list.specs.Listing.{Listing}
 use Rattle.bk_ask.specs.Asked.{Asks}
 use Rattle.bk_ask.specs.declared.Ask.{Ask}
 use Rattle.bk_ask.specs.declared.Ask.TheVariants as asks
+use Rattle.bk_top.specs.declared.catalogue.AskedListing.{AskedListing}
 use Rattle.bk_top.specs.declared.work.Work.{Work}
 use Rattle.bk_top.specs.declared.work.Work.TheVariants as works
 
@@ -27,7 +26,8 @@ work_asked asks.Draw = works.Lines (Plain plain.Draw)
 work_asked asks.Word = works.Lines (Memory Word)
 work_asked asks.Flow = works.Lines (Memory Flow)
 work_asked asks.Solve = works.Lines (Memory Solve)
-work_asked (asks.List order class from limit) = works.Listing order class from limit
+work_asked (asks.List order class from limit) =
+    works.Listing (record { order = order; class = class; from = from; limit = limit })
 work_asked (asks.Trial seed count) = works.Trial seed count
 work_asked (asks.Verify order) = works.Verify order
 work_asked asks.Alike = works.Gather Groups
@@ -35,13 +35,16 @@ work_asked (asks.Pair kind) = works.Gather (Pairs kind)
 work_asked asks.Help = works.Help
 
 -- the listing that is asked: of an order and a class, after a word or from the start, up to a limit
-abbrev pub listing_asked : ℕ → Class → Option Moves → Option ℕ → Listing
-listing_asked n class from limit =
-    record { catalogue = record { order = n; class = class }; cursor = start_cursor from; limit = limit }
+abbrev pub listing_asked : AskedListing → Listing
+listing_asked asked = record {
+  catalogue = record { order = asked.order; class = asked.class };
+  cursor = start_cursor asked.from;
+  limit = asked.limit;
+}
 
 -- what reads no lines
 abbrev pub ReadsNoLines : Work → Type 0
-ReadsNoLines (works.Listing order class from limit) = ⊤
+ReadsNoLines (works.Listing asked) = ⊤
 ReadsNoLines (works.Trial seed count) = ⊤
 ReadsNoLines works.Help = ⊤
 ReadsNoLines _ = ⊥

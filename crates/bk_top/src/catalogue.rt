@@ -21,7 +21,7 @@ use std::sync::ledger::{Blank, Ledger};
 
 // What is asked of a catalogue: its order and its class, the word after which a listing begins, and a limit of it.
 #[derive(Drop)]
-pub(crate) struct AskedListing {
+pub struct AskedListing {
     pub order: u8,
     pub class: Class,
     pub from: Option<Word>,
@@ -38,10 +38,9 @@ pub(crate) fn list_catalogue<M: Members, O: Sink>(
     requires least { 2 ≤ asked.order }
     requires most { asked.order ≤ LARGEST_LISTED_ORDER }
     requires few { order_of (start_cursor asked.from) ≤ LARGEST_LISTED_ORDER }
-    ensures listed { let l = listing_asked asked.order asked.class asked.from asked.limit in
-        IfOk result (λ last. WritesListing l last (O.written out.old) (O.written out.new)) }
-    ensures begun { let l = listing_asked asked.order asked.class asked.from asked.limit in OnErr result
-        (BeginsListing l (O.written out.old) (O.written out.new)) }
+    ensures listed { IfOk result
+        (λ last. WritesListing (listing_asked asked) last (O.written out.old) (O.written out.new)) }
+    ensures begun { OnErr result (BeginsListing (listing_asked asked) (O.written out.old) (O.written out.new)) }
     ensures cause { HasCause (O.faults out.old) (O.faults out.new) result }
 {
     let AskedListing {

@@ -3,10 +3,10 @@
 ghost use Rattle.std.specs.Prelude.{◌≡◌};
 ghost use Rattle.bk_top.specs.Words.{work_asked};
 
+use crate::catalogue::AskedListing;
 use bk_alike::Wanted;
 use bk_answer::{Command, MemoryCommand, PlainCommand};
 use bk_ask::Ask;
-use bk_word::{Class, Word};
 
 // What a run does.
 #[derive(Drop)]
@@ -14,21 +14,11 @@ pub enum Work {
     // It answers lines, each for itself.
     Lines(Command),
     // It lists a catalogue.
-    Listing {
-        order: u8,
-        class: Class,
-        from: Option<Word>,
-        limit: Option<u64>,
-    },
+    Listing(AskedListing),
     // It tries codes.
-    Trial {
-        seed: u64,
-        count: u32,
-    },
+    Trial { seed: u64, count: u32 },
     // It holds the lines against a catalogue.
-    Verify {
-        order: u8,
-    },
+    Verify { order: u8 },
     // It gathers the lines, and tells what it found behind them.
     Gather(Wanted),
     // It tells the text of `help`.
@@ -54,12 +44,12 @@ pub(crate) fn work_of(ask: Ask) -> Work
             class,
             from,
             limit,
-        } => Work::Listing {
+        } => Work::Listing(AskedListing {
             order,
             class,
             from,
             limit,
-        },
+        }),
         Ask::Trial { seed, count } => Work::Trial { seed, count },
         Ask::Verify { order } => Work::Verify { order },
         Ask::Alike => Work::Gather(Wanted::Groups),

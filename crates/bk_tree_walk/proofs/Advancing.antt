@@ -47,8 +47,8 @@ before_not_before u v w f g = cases (word_cmp w v) refl
     cases Greater e = follows_trans u v w f (word_total.antisymm v w ∙ ap ordering_reverse e)
 
 -- of two words not each is before the other
-pub not_both : (v w : Word) → Follows v w → Follows w v → ⊥
-not_both v w f g = not_itself v (follows_trans v w v g f)
+pub words_follow_one_way_only : (v w : Word) → Follows v w → Follows w v → ⊥
+words_follow_one_way_only v w f g = not_itself v (follows_trans v w v g f)
 
 -- words before a place, and then a word that is not before it
 ascending_to : (n : ℕ) (cursor place word : Word) → (Follows place word → ⊥) → (words : List Word)
@@ -111,7 +111,7 @@ module _ (n : ℕ) (class : Class) (place word : Word) (tree : IsTreeWord n word
       some = ((all.0).0).some;
       small = ((all.0).0).small;
       after = ((all.0).0).after;
-      within = not_both word w (before_not_before w place word (all.0).1 from);
+      within = words_follow_one_way_only word w (before_not_before w place word (all.0).1 from);
     },
     each_to words all.1,
   )

@@ -13,5 +13,6 @@ pub mod LoopSteps
 pub mod MemberEntries
 pub mod UnfitFlows
 pub mod TakingUp
--- A word's flow by hand.
+-- A word's flow by hand, and a search of order 2.
 pub mod TreeWalkExamples
+pub mod SearchExamples

@@ -6,7 +6,7 @@ use Rattle.bk_word.specs.Outline.{IsLegalMove, start}
 use Rattle.bk_word.specs.Play.{IsLegal, outline_of}
 use Rattle.bk_word.specs.Word.{Follows, Move, Word, move_cmp, order_of}
 use Rattle.bk_word.specs.declared.Class.{Class}
-use Rattle.bk_word.proofs.PlayLaws.{few_signs, legal_front}
+use Rattle.bk_word.proofs.PlayLaws.{at_most_one_sign_more_than_squares, legal_front}
 use Rattle.bk_word.proofs.StoredBytes.{order_append}
 use Rattle.bk_word.proofs.WordOrder.{follows_trans}
 use Rattle.bk_catalogue.specs.Catalogue.{Entry, IsEntry}
@@ -62,7 +62,7 @@ legal_stand n front x m most s legal few = record {
   small = s.small;
   some = legal.some;
   count = omega (arith, few, most);
-  signs = omega (arith, few_signs (outline_of front) m legal, few, most);
+  signs = omega (arith, at_most_one_sign_more_than_squares (outline_of front) m legal, few, most);
 }
 
 -- with its first moves alone it stands too

@@ -6,7 +6,7 @@ use Rattle.bk_word.specs.declared.Class.{Class}
 use Rattle.bk_catalogue.proofs.TreeOfWords.Ranks.{IsSmallMove, left_after, less_left, small_place}
 use Rattle.bk_tree_walk.proofs.SearchSteps.{fewer_at, fewer_end, fewer_met}
 use Rattle.bk_tree_walk.specs.Search.{Advances, Ends, HasPassed, IsSearchState, Meets}
-use Rattle.bk_members.specs.Walking.{PushesGrow}
+use Rattle.bk_catalogue.specs.Tree.{PushesGrow}
 
 -- from the place where the search began to the one where it stands, with so many words met on the way
 pub record Continues (n : ℕ) (class : Class) (place next : Word) (met : ℕ) : Type 0 where

@@ -10,7 +10,7 @@ use Rattle.bk_word.proofs.WordOrder.{move_itself}
 use Rattle.std.specs.declared.cmp.Ordering.TheVariants.{Equal, Less}
 use Rattle.bk_word.specs.declared.Class.{Class}
 use Rattle.bk_word.proofs.StoredBytes.{order_append, order_more}
-use Rattle.bk_word.proofs.PlayLaws.{few_signs, legal_front, legal_rest}
+use Rattle.bk_word.proofs.PlayLaws.{at_most_one_sign_more_than_squares, legal_front, legal_rest}
 use Rattle.bk_walk_cuts.proofs.CutLaws.{after_near, whole_front}
 use Rattle.bk_catalogue.proofs.TreeOfWords.Fitting.{HasShape, IsFit, fit}
 use Rattle.bk_catalogue.proofs.TreeOfWords.MoveOrder.{less_from}
@@ -65,14 +65,14 @@ pub record IsLastMove (front : Word) (m : Move) : Type 0 where
   pub signs : length m.signs ≤ 17
 
 -- the last move of legal moves is legal, and has few squares and signs
-pub last_move : (before front : Word) (m : Move) → IsLegal before → order_of before ≤ 16 → before ≡ front ++ m ∷ [] → IsLastMove front m
-last_move before front m l few e = record {
+pub last_of_legal_moves_is_legal : (before front : Word) (m : Move) → IsLegal before → order_of before ≤ 16 → before ≡ front ++ m ∷ [] → IsLastMove front m
+last_of_legal_moves_is_legal before front m l few e = record {
   legal_front = legal_front start front (m ∷ []) lawful;
   legal = legal.0;
   small =
       omega (arith, order);
   count = omega (arith, order);
-  signs = omega (arith, few_signs (outline_of front) m legal.0, order);
+  signs = omega (arith, at_most_one_sign_more_than_squares (outline_of front) m legal.0, order);
 }
   where
     lawful : IsLegal (front ++ m ∷ [])
@@ -110,7 +110,7 @@ module _ (n : ℕ) (class : Class) (front : Word) (x m : Move) (few : n ≤ 16) 
   step_climbs new next met c many none = (advances, stand)
     where
       l : IsLastMove new c.last
-      l = last_move front new c.last s.legal (omega (arith, s.small)) c.was
+      l = last_of_legal_moves_is_legal front new c.last s.legal (omega (arith, s.small)) c.was
 
       near : GrowsByAtMostOne c.last (move_after c.last)
       near = move_after_near c.last
@@ -151,7 +151,7 @@ module _ (n : ℕ) (class : Class) (front : Word) (m : Move) (few : n ≤ 16) (s
 
   -- a legal move has at most one sign more than squares
   pub step_signs : length m.signs ≤ m.count + 1
-  step_signs = few_signs (outline_of front) m legal
+  step_signs = at_most_one_sign_more_than_squares (outline_of front) m legal
 
   -- over moves that are cut
   pub step_cuts : (next : Move) (met : ℕ) → IsCut n class front m next → GrowsByAtMostOne m next → order_of front + m.count ≤ n → met ≤ 0

@@ -10,7 +10,7 @@ use Rattle.bk_word.specs.Play.{IsLegal, outline_of}
 use Rattle.bk_word.specs.Word.{Follows, Move, Word, move_cmp, order_of, word_cmp}
 use Rattle.bk_word.specs.declared.Class.{Class}
 use Rattle.bk_word.proofs.StoredBytes.{order_append, order_more}
-use Rattle.bk_tree_walk.proofs.Advancing.{before_not_before, entry_word, not_both}
+use Rattle.bk_tree_walk.proofs.Advancing.{before_not_before, entry_word, words_follow_one_way_only}
 use Rattle.bk_catalogue.proofs.TreeOfWords.Places.{LiesBetween, before_first, front_cmp, lies_between, not_before_first, word_same}
 use Rattle.bk_word.proofs.PlayLaws.{legal_rest}
 use Rattle.bk_word.proofs.FollowLaws.{not_itself}
@@ -30,8 +30,8 @@ begins_at n class cursor place none after = record {
 }
 
 -- where all of the cursor is played, the search begins with what begins with it
-pub begins_below : (n : ℕ) (class : Class) (cursor : Word) → HasPassed n class cursor (cursor ++ first_move ∷ []) 0
-begins_below n class cursor = begins_at n class cursor (cursor ++ first_move ∷ []) none
+pub none_passed_at_what_begins_with_the_cursor : (n : ℕ) (class : Class) (cursor : Word) → HasPassed n class cursor (cursor ++ first_move ∷ []) 0
+none_passed_at_what_begins_with_the_cursor n class cursor = begins_at n class cursor (cursor ++ first_move ∷ []) none
     (λ w tree from. before_not_before cursor (cursor ++ first_move ∷ []) w up from)
   where
     up : Follows (cursor ++ first_move ∷ []) cursor
@@ -39,7 +39,7 @@ begins_below n class cursor = begins_at n class cursor (cursor ++ first_move ∷
 
     none : (w : Word) → IsTreeWord n w → Follows w cursor → Follows (cursor ++ first_move ∷ []) w → ⊥
     none w tree after before = cases (lies_between cursor [] (first_move ∷ []) w
-        (λ f. not_both cursor w (sym (ap (word_cmp w) (append-nil cursor)) ∙ f) after) before)
+        (λ f. words_follow_one_way_only cursor w (sym (ap (word_cmp w) (append-nil cursor)) ∙ f) after) before)
       where
         cases : LiesBetween cursor [] (first_move ∷ []) w → ⊥
         cases b = not_itself cursor (subst (λ (v : Word). Follows v cursor) same after)
@@ -54,8 +54,9 @@ pub begins_beside : (n : ℕ) (class : Class) (front : Word) (x : Move) (rest : 
 begins_beside n class front x rest not = begins_at n class (front ++ x ∷ rest) (front ++ x ∷ []) (none rest) after
   where
     none : (rest : Word) (w : Word) → IsTreeWord n w → Follows w (front ++ x ∷ rest) → Follows (front ++ x ∷ []) w → ⊥
-    none [] w tree after before = not_both (front ++ x ∷ []) w before after
-    none (y ∷ rest) w tree after before = not_both (front ++ x ∷ y ∷ rest) w (follows_trans w (front ++ x ∷ []) (front ++ x ∷ y ∷ rest) before up) after
+    none [] w tree after before = words_follow_one_way_only (front ++ x ∷ []) w before after
+    none (y ∷ rest) w tree after before = words_follow_one_way_only (front ++ x ∷ y ∷ rest) w
+        (follows_trans w (front ++ x ∷ []) (front ++ x ∷ y ∷ rest) before up) after
       where
         up : Follows (front ++ x ∷ y ∷ rest) (front ++ x ∷ [])
         up = front_cmp front (x ∷ []) (x ∷ y ∷ rest) ∙ ap (λ z. ordering_then z (word_cmp [] (y ∷ rest))) (move_itself x)

@@ -4,7 +4,7 @@ use Rattle.bk_word.specs.Outline.{IsLegalMove, start}
 use Rattle.bk_word.specs.Play.{IsComplete, outline_of}
 use Rattle.bk_word.specs.Word.{Move, Word, order_of}
 use Rattle.bk_word.specs.declared.Class.{Class}
-use Rattle.bk_word.proofs.PlayLaws.{few_signs, legal-snoc}
+use Rattle.bk_word.proofs.PlayLaws.{at_most_one_sign_more_than_squares, legal-snoc}
 use Rattle.bk_word.proofs.StoredBytes.{order_one}
 use Rattle.bk_catalogue.specs.Cuts.{IsBarren}
 use Rattle.bk_catalogue.specs.NextMove.{first_move, move_after}
@@ -59,8 +59,8 @@ module _ (s : SearchState) (kept : IsKeptSearch s) (ready : IsReady s) where
   count_few = omega (arith, ready.few, kept.most)
 
   -- the next move of a ready search has at most 18 signs
-  pub signs_few : length s.next.signs ≤ 18
-  signs_few = omega (arith, ready.few, kept.most, few_signs (outline_of s.front) s.next ready.legal)
+  pub next_move_has_at_most_18_signs : length s.next.signs ≤ 18
+  next_move_has_at_most_18_signs = omega (arith, ready.few, kept.most, at_most_one_sign_more_than_squares (outline_of s.front) s.next ready.legal)
 
   -- where the next move of a ready search is pushed, the moves are a word of the tree
   pub stand_down : IsSearchState s.order (s.front ++ s.next ∷ []) s.next

@@ -11,10 +11,10 @@ use Rattle.bk_word.proofs.StoredBytes.{order_append, order_more}
 use Rattle.bk_word.proofs.PlayLaws.{legal-snoc, legal_rest}
 use Rattle.bk_catalogue.proofs.TreeOfWords.Ranks.{IsSmallWord, open_one, small_from}
 use Rattle.bk_tree_walk.proofs.SearchLoop.{counts_then}
-use Rattle.bk_tree_walk.proofs.Starting.{begins_below, begins_beside}
+use Rattle.bk_tree_walk.proofs.Starting.{begins_beside, none_passed_at_what_begins_with_the_cursor}
 use Rattle.bk_catalogue.specs.NextMove.{first_move}
 use Rattle.bk_tree_walk.specs.Search.{HasPassed, IsSearchState, SearchState}
-use Rattle.bk_members.specs.Walking.{PushesGrow}
+use Rattle.bk_catalogue.specs.Tree.{PushesGrow}
 use Rattle.bk_tree_walk.proofs.StateLaws.{down_from}
 
 -- as far as the cursor is taken up
@@ -87,7 +87,7 @@ pub whole_place : (n : ℕ) (class : Class) (cursor first played : Word) (x : Mo
     → HasPassed n class cursor (played ++ x ∷ []) 0
 whole_place n class cursor first played x i pushes now steps sn t h e =
     subst (λ (w : Word). HasPassed n class cursor (w ++ x ∷ []) 0) (sym (take_all i cursor h) ∙ t.begun)
-    (subst (λ (m : Move). HasPassed n class cursor (cursor ++ m ∷ []) 0) (sym e) (begins_below n class cursor))
+    (subst (λ (m : Move). HasPassed n class cursor (cursor ++ m ∷ []) 0) (sym e) (none_passed_at_what_begins_with_the_cursor n class cursor))
 
 -- a legal move at its place can stand in a word
 pub legal_stands : (word : Word) (i : ℕ) (m : Move) → IsLegal word → slice_get word i ≡ Some m → CanStand m

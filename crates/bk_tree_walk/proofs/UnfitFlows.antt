@@ -30,13 +30,13 @@ none_unfit w class total currents complete flow (inr (perfect, two)) e is same =
 -- ---- numbers that are the same
 
 -- no two of the first numbers are
-abbrev pub AreApartTo : List ℤ → ℕ → Type 0
-AreApartTo numbers n = (first second : ℕ) (number : ℤ) → first < second → second < n → slice_get numbers first ≡ Some number
+abbrev pub AreIntegersApartTo : List ℤ → ℕ → Type 0
+AreIntegersApartTo numbers n = (first second : ℕ) (number : ℤ) → first < second → second < n → slice_get numbers first ≡ Some number
     → slice_get numbers second ≡ Some number → ⊥
 
 -- no two of all numbers are the same, where no two of the first ones are
-pub apart_all : (numbers : List ℤ) (n : ℕ) → AreApartTo numbers n → length numbers ≤ n → HasTwoAlike numbers → ⊥
-apart_all numbers n apart all two =
+pub none_alike_where_all_are_apart : (numbers : List ℤ) (n : ℕ) → AreIntegersApartTo numbers n → length numbers ≤ n → HasTwoAlike numbers → ⊥
+none_alike_where_all_are_apart numbers n apart all two =
     let low = slice_get_within numbers two.second two.number two.at_second in
     apart two.first two.second two.number two.apart (omega (arith, low, all)) two.at_first two.at_second
 
@@ -53,9 +53,9 @@ alike_from numbers i number within here (k, low, same) = record {
 }
 
 -- where a number is none of those before, one more number is apart
-pub apart_more : (numbers : List ℤ) (i : ℕ) (number : ℤ) → slice_get numbers i ≡ Some number → AreApartTo numbers i
-    → (Contains (take i numbers) number → ⊥) → AreApartTo numbers (i + 1)
-apart_more numbers i number here apart none first second n low high at_first at_second = elim (cases_lt second i) [
+pub apart_with_one_integer_more : (numbers : List ℤ) (i : ℕ) (number : ℤ) → slice_get numbers i ≡ Some number → AreIntegersApartTo numbers i
+    → (Contains (take i numbers) number → ⊥) → AreIntegersApartTo numbers (i + 1)
+apart_with_one_integer_more numbers i number here apart none first second n low high at_first at_second = elim (cases_lt second i) [
   | inl h ↦ apart first second n low h at_first at_second
   | inr h ↦
       let same : second ≡ i = omega (arith, high, h) in

@@ -1,5 +1,8 @@
 -- How far a search through the tree of legal words has come. Its place is a word, which need not be legal: what is
 -- before it is passed. What it meets are the words that it pushes, and each is one step.
+-- Examples (SearchExamples): of order 2 and the class imperfect the one member has the word 2e. At the place 2e a
+-- search has met 1, 1.1 and 2a and passed no member's word; the place 2u would be too far. So it meets 2e as the fourth
+-- word. Then no square is left to hang: it takes 2e back, goes on to 2u, and finds no other member.
 use Rattle.std.specs.List.{AllByRecursion}
 use Rattle.std.specs.Prelude.{Bool, List, None, Option, Some, [], false, length, true, ℕ, ◌++◌, ◌+◌, ◌<◌, ◌^◌, ◌∷◌, ◌≡◌}
 use Rattle.std.specs.Prelude.{◌≤◌}
@@ -12,8 +15,7 @@ use Rattle.bk_catalogue.specs.NextMove.{move_after}
 use Rattle.bk_tree_walk.specs.declared.Went.{Went}
 use Rattle.bk_tree_walk.specs.declared.Went.TheVariants.{End, Met, On}
 use Rattle.bk_catalogue.specs.Following.{HasNoneAfter, HasNoneBetween}
-use Rattle.bk_catalogue.specs.Tree.{AreAscendingWords, HasAtLeast, IsInTree}
-use Rattle.bk_members.specs.Walking.{PushesGrow}
+use Rattle.bk_catalogue.specs.Tree.{AreAscendingWords, HasAtLeast, IsInTree, PushesGrow}
 
 -- a legal word of at most so many squares
 pub record IsTreeWord (n : ℕ) (w : Word) : Type 0 where

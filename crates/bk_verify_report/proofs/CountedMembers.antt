@@ -28,9 +28,9 @@ count_none n =
     record { entries = []; each = tt; counted = tt; ascending = tt; all = λ e is up. are.all e is tt up; number = refl }
 
 -- the next member is counted
-pub count_more : (n : ℕ) (cursor : Word) (e : Entry) (members : ℕ) → IsNextSuch n any cursor e → CountsMembers n (IsUpTo cursor) members
+pub members_counted_with_the_next : (n : ℕ) (cursor : Word) (e : Entry) (members : ℕ) → IsNextSuch n any cursor e → CountsMembers n (IsUpTo cursor) members
     → CountsMembers n (IsUpTo e.word) (members + 1)
-count_more n cursor e members next c =
+members_counted_with_the_next n cursor e members next c =
     let number = c.number in
     let are : AreUpTo n any e.word (c.entries ++ e ∷ []) = up_to_more n any cursor e next c.entries
     (record { each = c.each; such = all_any c.entries; up = c.counted; ascending = c.ascending; all = λ f is such up. c.all f is up })
@@ -44,9 +44,9 @@ count_more n cursor e members next c =
     }
 
 -- where no member follows the cursor, all are counted
-pub count_all : (n : ℕ) (cursor : Word) (members : ℕ) → HasNoneAfter n Perfect cursor → CountsMembers n (IsUpTo cursor) members
+pub all_members_counted_with_none_after : (n : ℕ) (cursor : Word) (members : ℕ) → HasNoneAfter n Perfect cursor → CountsMembers n (IsUpTo cursor) members
     → CountsMembers n (λ word. ⊤) members
-count_all n cursor members none c = record {
+all_members_counted_with_none_after n cursor members none c = record {
   entries = c.entries;
   each = c.each;
   counted = all_any c.entries;

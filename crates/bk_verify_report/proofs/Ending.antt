@@ -5,14 +5,14 @@ use Rattle.std.proofs.KnownBytes.{Appends-trans}
 use Rattle.std.proofs.Common.{Bool, List, [], ap, append_assoc, arith, false, inl, inr, subst, sym, true, ℕ, ◌++◌, ◌∙◌, ◌≡◌, ◌⊎◌}
 use Rattle.bk_ports.proofs.KnownSteps.{prefix_after}
 use Rattle.bk_ports.proofs.OtherOutputs.{IsStop, whole_behind}
-use Rattle.bk_ports.specs.Ending.{EndsWith, IsReadWhole, Output, Streams}
+use Rattle.bk_ports.specs.Ending.{EndsWith, IsReadWhole, Output, Streams, streams_told}
 use Rattle.bk_ports.specs.Entering.{AreAllEntered, entering_from}
 use Rattle.bk_ports.specs.Reply.{text_of}
 use Rattle.bk_ports.specs.Faults.{CountsTell, Faults}
 use Rattle.bk_ports.specs.declared.Ended.{Ended}
 use Rattle.bk_ports.specs.declared.Ended.TheVariants.{NoMemory, NoneRefused, ReadFailed, SomeRefused, TooMany, WriteFailed}
 use Rattle.bk_verify_report.proofs.BehindLines.{all_missing, first_missing}
-use Rattle.bk_verify_report.proofs.EndingAtLines.{at_first, told_of_all}
+use Rattle.bk_verify_report.proofs.EndingAtLines.{nothing_entered_before_the_first_line, told_of_all}
 use Rattle.bk_verify_report.proofs.Following.{AreFollowed, followed}
 use Rattle.bk_verify_report.specs.ListLine.{none_entered}
 use Rattle.bk_verify_report.specs.MissingLines.{ClosesReport, IsClosing, IsClosingBegun}
@@ -37,7 +37,7 @@ lines_done : (n : ℕ) (last : Verifying) (lines : List (List ℕ)) (a b : Optio
     → AreAllEntered (entering_from rules (none_entered n) 1) last lines refused a b → AreLinesDone n lines last a b
 lines_done n last lines a b refused all = record {
   text = text_of all.replies;
-  followed = followed n [] 1 lines all.replies (none_entered n) last (at_first n) all.each;
+  followed = followed n [] 1 lines all.replies (none_entered n) last (nothing_entered_before_the_first_line n) all.each;
   written = all.written;
 }
 
@@ -100,14 +100,14 @@ module _ (n : ℕ) (last : Verifying) (lines : List (List ℕ)) (a b c : Option 
 
 -- a list that was read to its end
 module _ (n : ℕ) (last : Verifying) (left left_after a b : Option (List ℕ))
-    (r : IsListRead n (record { left = left; left_after = left_after; written = a; written_after = b }) last) where
+    (r : IsListRead n (streams_told left left_after a b) last) where
   -- the order is that asked for
   pub last_order : (last.entries).order ≡ n
   last_order = ((lines_done n last _ a b r.refused (r.whole).written).followed).order
 
   -- the report of a list that was read to its end was written
   pub ends_whole : (c : Option (List ℕ)) (differs told : Bool) → told ≡ differs → ClosesReport (last.entries).order last told b c
-      → IsReadWhole (λ lines. (report_of n).whole lines differs) (record { left = left; left_after = left_after; written = a; written_after = c })
+      → IsReadWhole (λ lines. (report_of n).whole lines differs) (streams_told left left_after a c)
   ends_whole c differs told e k =
       whole_behind (λ lines. AreAllEntered (entering_from rules (none_entered n) 1) last lines r.refused) (λ lines. (report_of n).whole lines differs)
       left left_after a b c r.whole
@@ -115,9 +115,9 @@ module _ (n : ℕ) (last : Verifying) (left left_after a b : Option (List ℕ))
       (subst (λ (m : ℕ). ClosesReport m last differs b c) last_order (subst (λ (d : Bool). ClosesReport (last.entries).order last d b c) e k)))
 
   -- a write behind the lines of a list that was read to its end failed
-  pub ends_broken : (c : Option (List ℕ)) → IsClosingBegun (last.entries).order last b c
-      → IsReadWhole (report_of n).begun_behind (record { left = left; left_after = left_after; written = a; written_after = c })
-  ends_broken c k =
+  pub read_whole_where_closing_failed : (c : Option (List ℕ)) → IsClosingBegun (last.entries).order last b c
+      → IsReadWhole (report_of n).begun_behind (streams_told left left_after a c)
+  read_whole_where_closing_failed c k =
       whole_behind (λ lines. AreAllEntered (entering_from rules (none_entered n) 1) last lines r.refused) (report_of n).begun_behind
       left left_after a b c r.whole
       (λ lines entered. told_front n last lines a b c (lines_done n last lines a b r.refused entered)

@@ -23,13 +23,13 @@ use Rattle.bk_verify_report.specs.Told.{HasEntry, IsToldOf}
 use Rattle.bk_verify_report.specs.declared.entering.Verifying.{Verifying}
 
 -- what is kept where no line is entered is that at the start
-pub from_start : (n : ℕ) (s last : Verifying) (streams : Streams) (e : Ended) → s ≡ none_entered n
+pub entered_from_none_entered : (n : ℕ) (s last : Verifying) (streams : Streams) (e : Ended) → s ≡ none_entered n
     → EndsWith (entries_of (entering_from rules s 1) last) streams e → EndsWith (entries_of (entering_from rules (none_entered n) 1) last) streams e
-from_start n s last streams e is enters = subst (λ (t : Verifying). EndsWith (entries_of (entering_from rules t 1) last) streams e) is enters
+entered_from_none_entered n s last streams e is enters = subst (λ (t : Verifying). EndsWith (entries_of (entering_from rules t 1) last) streams e) is enters
 
 -- what is kept where no line is entered is that before the first line
-pub at_first : (n : ℕ) → IsAfter n [] 1 (none_entered n)
-at_first n = record { keeps = a_verifier_tells_the_truth.at_first n; order = refl; before = tt }
+pub nothing_entered_before_the_first_line : (n : ℕ) → IsAfter n [] 1 (none_entered n)
+nothing_entered_before_the_first_line n = record { keeps = a_verifier_tells_the_truth.at_first n; order = refl; before = tt }
 
 -- what is told of lines that were entered from the start
 abbrev pub told_of_all : (n : ℕ) (lines : List (List ℕ)) (text : List ℕ) (last : Verifying) (f : AreFollowed n [] 1 lines (none_entered n) text last)
@@ -40,13 +40,13 @@ module _ (n : ℕ) where
   told_lines : (last : Verifying) (lines : List (List ℕ)) (refused : Bool) (a b : Option (List ℕ))
       → AreAllEntered (entering_from rules (none_entered n) 1) last lines refused a b → TellsLines n lines a b
   told_lines last lines refused a b all =
-      let f = followed n [] 1 lines all.replies (none_entered n) last (at_first n) all.each in
+      let f = followed n [] 1 lines all.replies (none_entered n) last (nothing_entered_before_the_first_line n) all.each in
       record { tolds = f.tolds; told = told_of_all n lines _ last f; appends = subst (Appends a b) f.text_is all.written }
 
   told_first : (lines : List (List ℕ)) (a b : Option (List ℕ)) → AreBegun (CanBeEntered (entering_from rules (none_entered n) 1)) lines a b
       → TellsFirst n lines a b
   told_first lines a b begun =
-      let f = followed n [] 1 begun.begun begun.replies (none_entered n) (begun.each).0 (at_first n) (begun.each).1 in
+      let f = followed n [] 1 begun.begun begun.replies (none_entered n) (begun.each).0 (nothing_entered_before_the_first_line n) (begun.each).1 in
       record {
         begun = begun.begun;
         unseen = begun.unseen;
@@ -83,7 +83,7 @@ module _ (n : ℕ) where
   told_before : (lines : List (List ℕ)) (a b : Option (List ℕ)) → AreCutShort (MayWantBehind (entering_from rules (none_entered n) 1)) lines a b
       → TellsBefore n lines a b
   told_before lines a b w =
-      let f = followed n [] 1 w.done w.replies (none_entered n) (w.cause).0 (at_first n) (w.cause).1 in
+      let f = followed n [] 1 w.done w.replies (none_entered n) (w.cause).0 (nothing_entered_before_the_first_line n) (w.cause).1 in
       record {
         done = w.done;
         line = w.line;

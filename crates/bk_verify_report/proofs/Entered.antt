@@ -11,9 +11,13 @@ use Rattle.bk_verify_report.specs.declared.entering.Verifying.{Verifying}
 -- the line is entered so, and what was written is this
 module _ (s : Verifying) (number : ℕ) (line : List ℕ) (is_refused : Bool) (next : Verifying) (a b : Option (List ℕ)) where
   -- a line that is entered without a piece is written with nothing added
-  pub written_none : EntersLine s number line (record { pieces = []; refused = is_refused }) next → b ≡ a
+  pub line_entered_without_a_piece : EntersLine s number line (record { pieces = []; refused = is_refused }) next → b ≡ a
       → IsWritten (λ pieces refused. EntersLine s number line (record { pieces = pieces; refused = refused }) next) a b is_refused
-  written_none enters same = record { pieces = []; answer = enters; written = subst (λ (c : Option (List ℕ)). Appends a c []) (sym same) (Appends-nil a) }
+  line_entered_without_a_piece enters same = record {
+    pieces = [];
+    answer = enters;
+    written = subst (λ (c : Option (List ℕ)). Appends a c []) (sym same) (Appends-nil a);
+  }
 
   module _ (piece bytes : List ℕ) (is : bytes ≡ piece) (enters : EntersLine s number line (record { pieces = piece ∷ []; refused = is_refused }) next) where
     pub written_one : Appends a b bytes

@@ -11,7 +11,7 @@ use Rattle.bk_ports.specs.Entering.{AreEntered, entering_from}
 use Rattle.bk_ports.specs.Lines.{kept_front}
 use Rattle.bk_ports.specs.Reply.{Reply, text_of}
 use Rattle.bk_report.specs.declared.refusal.Refused.{Refused}
-use Rattle.bk_answer.proofs.OneAnswer.{cause_of, is_tiling, not_refused, skip_not_stated}
+use Rattle.bk_answer.proofs.OneAnswer.{cause_of, laid_by_an_item_is_a_tiling, not_refused, skip_not_stated}
 use Rattle.bk_answer.specs.Item.{HasItem, HasTiling}
 use Rattle.bk_answer.specs.Refusing.{IsLineRefused}
 use Rattle.bk_verify_report.proofs.Firsts.{a_verifier_tells_the_truth, truths_stay}
@@ -28,7 +28,7 @@ use Rattle.bk_verify_report.specs.declared.entering.Verifying.{Verifying}
 
 -- what is accepted is a tiling
 has_tiling : (line : List ℕ) (t : Tiling) → HasTiling line t → IsTiling t
-has_tiling line t has = is_tiling has.item t (has.stated).laid
+has_tiling line t has = laid_by_an_item_is_a_tiling has.item t (has.stated).laid
 
 -- a line without an item and a line that is refused have none
 skip_has_none : (line : List ℕ) → HasItem line Skip → (t : Tiling) → HasTiling line t → ⊥

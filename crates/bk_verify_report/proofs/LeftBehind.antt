@@ -9,7 +9,7 @@ use Rattle.bk_catalogue.specs.Following.{HasNoneAfter}
 use Rattle.bk_report.specs.ListLines.{faults, verified_line}
 use Rattle.bk_report.specs.declared.list_reports.ReportCounts.{ReportCounts}
 use Rattle.bk_report.specs.declared.listing_lines.Last.TheVariants.{End, Limit, Wide}
-use Rattle.bk_verify_report.proofs.CountedMembers.{count_all}
+use Rattle.bk_verify_report.proofs.CountedMembers.{all_members_counted_with_none_after}
 use Rattle.bk_verify_report.specs.KeptEntries.{AreKeptAfter, CountsMembers, IsUpTo, Kept}
 use Rattle.bk_verify_report.specs.Rest.{RestState}
 use Rattle.bk_verify_report.proofs.BehindLines as behind
@@ -33,7 +33,7 @@ lacking first now missing members a b listed kept none same_order reached = reco
   cursor = (now.walk).cursor;
   listed = listed;
   kept = kept;
-  all = count_all (first.walk).order (now.walk).cursor members none
+  all = all_members_counted_with_none_after (first.walk).order (now.walk).cursor members none
       (subst (λ (k : ℕ). CountsMembers k (IsUpTo (now.walk).cursor) members) same_order reached);
 }
 

@@ -9,7 +9,7 @@ use Rattle.bk_catalogue.specs.Following.{HasNoneAfter}
 use Rattle.bk_report.specs.ListLines.{missing_line}
 use Rattle.bk_verify_report.specs.KeptEntries.{AreKeptAfter, IsNextMissing, Kept}
 use Rattle.bk_verify_report.specs.Rest.{RestState}
-use Rattle.bk_verify_report.proofs.MissingListed.{listed_all, listed_more, listed_none, listing_begun}
+use Rattle.bk_verify_report.proofs.MissingListed.{listed_more, listing_begun, missing_listed_with_no_member_left, no_missing_listed_at_the_start}
 use Rattle.bk_verify_report.specs.MissingLines.{AreMissingListed, IsListingBegun, IsMissingBegun}
 
 -- a walk lists what isn't kept, from where it was first, and no write has failed
@@ -23,7 +23,7 @@ pub record IsListingOn (first now : RestState) (missing : ℕ) (a b : Option (Li
 pub listing_none : (first : RestState) (a : Option (List ℕ)) (before : ℕ) → (first.walk).cursor ≡ [] → IsListingOn first first 0 a a before before
 listing_none first a before start = record {
   listed = subst (λ (w : Word). AreMissingListed (record { order = (first.walk).order; pairs = first.pairs }) w 0 a a) (sym start)
-      (listed_none (first.walk).order first.pairs a);
+      (no_missing_listed_at_the_start (first.walk).order first.pairs a);
   order = refl;
   pairs = refl;
   faults = refl;
@@ -61,7 +61,7 @@ module _ (first now : RestState) (missing : ℕ) (a b : Option (List ℕ)) (befo
 
     -- all that isn't kept is listed
     pub listing_end : AreMissingListed (record { order = (first.walk).order; pairs = first.pairs }) then missing a b
-    listing_end = listed_all (first.walk).order first.pairs (now.walk).cursor missing a b s.listed
+    listing_end = missing_listed_with_no_member_left (first.walk).order first.pairs (now.walk).cursor missing a b s.listed
         (at_first (λ n pairs. AreKeptAfter n pairs (now.walk).cursor) kept) then none_behind
 
     -- each member after the new cursor is kept, for there is none

@@ -40,8 +40,9 @@ lines_more : (entries : List Entry) (e : Entry) → flat_map missing_line_of (en
 lines_more entries e = flat_map-append missing_line_of entries (e ∷ []) ∙ ap (λ l. flat_map missing_line_of entries ++ l) (append-nil (missing_line_of e))
 
 -- before the first one nothing is listed
-pub listed_none : (n : ℕ) (pairs : List Kept) (written : Option (List ℕ)) → AreMissingListed (record { order = n; pairs = pairs }) [] 0 written written
-listed_none n pairs written = record {
+pub no_missing_listed_at_the_start : (n : ℕ) (pairs : List Kept) (written : Option (List ℕ))
+    → AreMissingListed (record { order = n; pairs = pairs }) [] 0 written written
+no_missing_listed_at_the_start n pairs written = record {
   entries = [];
   are = up_to_none n (IsNotKept pairs);
   count = refl;
@@ -90,9 +91,9 @@ module _ (n : ℕ) (pairs : List Kept) (cursor : Word) (missing : ℕ) (a b : Op
         }
 
   -- no member is left that isn't kept, and the walk has gone to its end
-  pub listed_all : AreKeptAfter n pairs cursor → (then : Word) → HasNoneAfter n Perfect then
+  pub missing_listed_with_no_member_left : AreKeptAfter n pairs cursor → (then : Word) → HasNoneAfter n Perfect then
       → AreMissingListed (record { order = n; pairs = pairs }) then missing a b
-  listed_all kept then none =
+  missing_listed_with_no_member_left kept then none =
       let are = l.are in
       record {
         entries = l.entries;

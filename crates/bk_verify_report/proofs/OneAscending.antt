@@ -52,8 +52,8 @@ same_ascending (x ∷ xs) (y ∷ ys) p q to from =
     λ i. same i ∷ rest i
 
 -- an order has one number of members
-pub one_count : (n c d : ℕ) → CountsMembers n (λ word. ⊤) c → CountsMembers n (λ word. ⊤) d → c ≡ d
-one_count n c d p q =
+pub order_has_one_number_of_members : (n c d : ℕ) → CountsMembers n (λ word. ⊤) c → CountsMembers n (λ word. ⊤) d → c ≡ d
+order_has_one_number_of_members n c d p q =
     let same : p.entries ≡ q.entries =
     same_ascending p.entries q.entries p.ascending q.ascending (λ e in_p. q.all e (held (IsEntry n Perfect) p.entries e p.each in_p) tt)
     (λ e in_q. p.all e (held (IsEntry n Perfect) q.entries e q.each in_q) tt) in

@@ -12,11 +12,12 @@ use Rattle.bk_report.specs.ListLines.{faults, verified_line}
 use Rattle.bk_report.specs.declared.listing_lines.Last.TheVariants.{End}
 use Rattle.bk_report.specs.declared.list_reports.ReportCounts.{ReportCounts}
 use Rattle.bk_report.specs.declared.refusal.Refused.{Refused}
-use Rattle.bk_answer.proofs.OneAnswer.{cause_of, is_tiling, not_refused, one_line_cause, same_tiling, skip_not_refused, skip_not_stated}
+use Rattle.bk_answer.proofs.OneAnswer.{a_line_has_one_tiling, cause_of, laid_by_an_item_is_a_tiling, not_refused, one_line_cause, skip_not_refused}
+use Rattle.bk_answer.proofs.OneAnswer.{skip_not_stated}
 use Rattle.bk_answer.specs.Item.{HasItem}
 use Rattle.bk_answer.specs.Refusing.{IsLineRefused}
 use Rattle.bk_verify_report.specs.Verify.{Accepted, AreNotOf, IsFirstOf, IsForeign, IsNew, IsOf, IsRepeat}
-use Rattle.bk_verify_report.proofs.OneAscending.{held, one_count, same_ascending}
+use Rattle.bk_verify_report.proofs.OneAscending.{held, order_has_one_number_of_members, same_ascending}
 use Rattle.bk_verify_report.specs.Report.{HasFault, IsReport, missing_line_of}
 use Rattle.bk_verify_report.specs.ReportLaw.{AListHasOneReport}
 use Rattle.bk_verify_report.specs.Told.{AreEntries, AreTold, HasEntry, IsTold, IsToldOf, Told, accepted, foreign, is_foreign, is_line_refused, is_repeat}
@@ -27,7 +28,7 @@ use Rattle.bk_verify_report.specs.Told.{nothing, passed, refused, repeats, texts
 same_entries : (k : ℕ) (lines : List (List ℕ)) (es fs : List Accepted) → AreEntries k lines es → AreEntries k lines fs → es ≡ fs
 same_entries k ls es fs (no_line _) (no_line _) = refl
 same_entries k ls es fs (accepted _ line lines t rest h a) (accepted _ _ _ u more g b) =
-    let here : u ≡ t = same_tiling (kept_front line) t u h g in
+    let here : u ≡ t = a_line_has_one_tiling (kept_front line) t u h g in
     let later : rest ≡ more = same_entries (k + 1) lines rest more a b in
     ap (λ (x : Tiling). record { line = k; tiling = x } ∷ rest) (sym here) ∙ ap (λ (l : List Accepted). record { line = k; tiling = u } ∷ l) later
 same_entries k ls es fs (accepted _ line lines t rest h a) (passed _ _ _ _ none b) = absurd (none t h)
@@ -54,13 +55,13 @@ module _ (u : Tiling) where
 module _ (n : ℕ) (entries : List Accepted) (number : ℕ) (line : List ℕ) where
   new_not_foreign : HasEntry number line (IsNew n entries) → HasEntry number line (IsForeign n) → ⊥
   new_not_foreign e f =
-      let same : f.tiling ≡ e.tiling = same_tiling line e.tiling f.tiling e.has f.has in
+      let same : f.tiling ≡ e.tiling = a_line_has_one_tiling line e.tiling f.tiling e.has f.has in
       f.is e.is.tiling (subst (λ (t : Tiling). IsCanonicalOf t e.is.tiling) (sym same) e.is.first.same) e.is.member
 
   new_not_repeat : (earlier : ℕ) → HasEntry number line (IsNew n entries) → HasEntry number line (λ e. IsRepeat n entries e earlier) → ⊥
   new_not_repeat earlier e f =
-      let same : f.tiling ≡ e.tiling = same_tiling line e.tiling f.tiling e.has f.has in
-      let tiling : IsTiling e.tiling = is_tiling e.has.item e.tiling e.has.stated.laid in
+      let same : f.tiling ≡ e.tiling = a_line_has_one_tiling line e.tiling f.tiling e.has f.has in
+      let tiling : IsTiling e.tiling = laid_by_an_item_is_a_tiling e.has.item e.tiling e.has.stated.laid in
       let one : f.is.tiling ≡ e.is.tiling =
       (a_canonical_tiling_is_one e.tiling f.is.tiling e.is.tiling tiling (subst (λ (t : Tiling). IsCanonicalOf t f.is.tiling) same f.is.same)
       e.is.first.same).1 in
@@ -84,13 +85,13 @@ module _ (n : ℕ) (entries : List Accepted) (number : ℕ) (line : List ℕ) wh
 
   foreign_not_repeat : (earlier : ℕ) → HasEntry number line (IsForeign n) → HasEntry number line (λ e. IsRepeat n entries e earlier) → ⊥
   foreign_not_repeat earlier f e =
-      let same : e.tiling ≡ f.tiling = same_tiling line f.tiling e.tiling f.has e.has in
+      let same : e.tiling ≡ f.tiling = a_line_has_one_tiling line f.tiling e.tiling f.has e.has in
       f.is e.is.tiling (subst (λ (t : Tiling). IsCanonicalOf t e.is.tiling) same e.is.same) e.is.member
 
   one_earlier : (a b : ℕ) → HasEntry number line (λ e. IsRepeat n entries e a) → HasEntry number line (λ e. IsRepeat n entries e b) → a ≡ b
   one_earlier a b e f =
-      let same : f.tiling ≡ e.tiling = same_tiling line e.tiling f.tiling e.has f.has in
-      let tiling : IsTiling e.tiling = is_tiling e.has.item e.tiling e.has.stated.laid in
+      let same : f.tiling ≡ e.tiling = a_line_has_one_tiling line e.tiling f.tiling e.has f.has in
+      let tiling : IsTiling e.tiling = laid_by_an_item_is_a_tiling e.has.item e.tiling e.has.stated.laid in
       let one : f.is.tiling ≡ e.is.tiling =
       (a_canonical_tiling_is_one e.tiling f.is.tiling e.is.tiling tiling (subst (λ (t : Tiling). IsCanonicalOf t f.is.tiling) same f.is.same) e.is.same).1 in
       let first : f.is.first ≡ e.is.first =
@@ -156,7 +157,7 @@ module _ (n : ℕ) (lines : List (List ℕ)) (c d : ReportCounts) (a b : List �
 
   counts : c ≡ d
   counts = λ i. record {
-    members = one_count n c.members d.members r.members s.members i;
+    members = order_has_one_number_of_members n c.members d.members r.members s.members i;
     missing = (r.missing_is ∙ ap (λ (l : List Entry). length l) missing ∙ sym s.missing_is) i;
     foreign = (r.foreign_is ∙ ap (λ (l : List Told). count_by is_foreign l) tolds ∙ sym s.foreign_is) i;
     repeated = (r.repeated_is ∙ ap (λ (l : List Told). count_by is_repeat l) tolds ∙ sym s.repeated_is) i;

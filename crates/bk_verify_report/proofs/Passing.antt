@@ -13,7 +13,7 @@ use Rattle.bk_catalogue.specs.Following.{HasNoneAfter}
 use Rattle.bk_members.specs.Walking.{IsNextMember, WalkState}
 use Rattle.bk_verify_report.specs.KeptEntries.{AreKeptAfter, CountsMembers, IsKeptFrom, IsNextMissing, IsNotKept, IsUpTo, Kept}
 use Rattle.bk_verify_report.proofs.MembersUpTo.{IsNextSuch, up_to_next}
-use Rattle.bk_verify_report.proofs.CountedMembers.{any, count_more, count_none}
+use Rattle.bk_verify_report.proofs.CountedMembers.{any, count_none, members_counted_with_the_next}
 use Rattle.bk_verify_report.specs.Rest.{IsKeptRest}
 
 -- the next member is the next one of all
@@ -136,7 +136,7 @@ module _ (first : WalkState) (pairs : List Kept) (walk : WalkState) (members : �
   passing_counted after order cursor =
       subst (λ (n : ℕ). CountsMembers n (IsUpTo after.cursor) (members + 1)) (sym (order ∙ p.order))
       (subst (λ (w : Word). CountsMembers first.order (IsUpTo w) (members + 1)) (sym cursor)
-      (count_more first.order walk.cursor (record { tiling = t; word = word }) members the_next_any p.counted))
+      (members_counted_with_the_next first.order walk.cursor (record { tiling = t; word = word }) members the_next_any p.counted))
 
   -- one that is kept is passed
   pub passing_more : (after : WalkState) → after.order ≡ walk.order → after.class ≡ walk.class → after.cursor ≡ word → (IsTrue walk.ended → ⊥)
@@ -146,7 +146,7 @@ module _ (first : WalkState) (pairs : List Kept) (walk : WalkState) (members : �
     passed = subst (IsPassed first.order pairs first.cursor) (sym cursor)
         (passed_more first.order pairs first.cursor walk.cursor p.passed t word the_next line from);
     counted = subst (λ (w : Word). CountsMembers first.order (IsUpTo w) (members + 1)) (sym cursor)
-        (count_more first.order walk.cursor (record { tiling = t; word = word }) members the_next_any p.counted);
+        (members_counted_with_the_next first.order walk.cursor (record { tiling = t; word = word }) members the_next_any p.counted);
     order = order ∙ p.order;
     class = class ∙ p.class;
     still = λ e. absurd (on (p.still e));

@@ -105,13 +105,14 @@ module _ (key : Flat) (line : ℕ) (seen : Seen) (t : Tiling) (is : IsKeyOf key 
   }
 
   -- stored members with one more are stored members
-  pub stored_more : (es : List (Flat × Seen)) → AllByRecursion IsStoredMember es → AllByRecursion IsStoredMember (es ++ (key, seen) ∷ [])
-  stored_more es all = all_append IsStoredMember es ((key, seen) ∷ []) all (stored_pair, tt)
+  pub stored_members_with_one_more : (es : List (Flat × Seen)) → AllByRecursion IsStoredMember es → AllByRecursion IsStoredMember (es ++ (key, seen) ∷ [])
+  stored_members_with_one_more es all = all_append IsStoredMember es ((key, seen) ∷ []) all (stored_pair, tt)
 
   -- what is kept is one more where one more is stored
-  pub kept_more : (es : List (Flat × Seen)) → map kept_member (es ++ (key, seen) ∷ []) ≡ map kept_member es ++ record { line = line; tiling = t } ∷ []
-  kept_more [] = ap (λ (k : Kept). k ∷ []) kept_pair
-  kept_more (e ∷ es) = ap (λ (ks : List Kept). kept_member e ∷ ks) (kept_more es)
+  pub kept_members_with_one_stored_more : (es : List (Flat × Seen))
+      → map kept_member (es ++ (key, seen) ∷ []) ≡ map kept_member es ++ record { line = line; tiling = t } ∷ []
+  kept_members_with_one_stored_more [] = ap (λ (k : Kept). k ∷ []) kept_pair
+  kept_members_with_one_stored_more (e ∷ es) = ap (λ (ks : List Kept). kept_member e ∷ ks) (kept_members_with_one_stored_more es)
 
 -- what is stored after a tiling was inserted, or not
 module _ {S : Type 0} (same : Flat → Flat → Bool) (laws : TellsApart same) (old new : IndexMap Flat Seen S) (key : Flat) (line : ℕ) (seen : Seen)
@@ -123,7 +124,8 @@ module _ {S : Type 0} (same : Flat → Flat → Bool) (laws : TellsApart same) (
   -- an insert that succeeds or fails leaves all that is stored members
   pub still_stored : {A E : Type 0} (r : Result A E) → AllByRecursion IsStoredMember old.entries → IsNotKept (map kept_member old.entries) t
       → OnOk r (new.entries ≡ insert_entry same old.entries key seen) → OnErr r (IsUnchanged old new) → AllByRecursion IsStoredMember new.entries
-  still_stored (Ok a) all not ok err = subst (AllByRecursion IsStoredMember) (sym (inserted all not ok)) (stored_more key line seen t is of old.entries all)
+  still_stored (Ok a) all not ok err = subst (AllByRecursion IsStoredMember) (sym (inserted all not ok))
+      (stored_members_with_one_more key line seen t is of old.entries all)
   still_stored (Err x) all not ok err = subst (AllByRecursion IsStoredMember) (sym err) all
 
   -- an insert that succeeds keeps the tiling on its line behind the others
@@ -131,5 +133,5 @@ module _ {S : Type 0} (same : Flat → Flat → Bool) (laws : TellsApart same) (
       → new.entries ≡ insert_entry same old.entries key seen → map kept_member new.entries ≡ pairs ++ record { line = line; tiling = t } ∷ []
   kept_now pairs seen_is all not e =
       let absent_there = subst (λ (ps : List Kept). IsNotKept ps t) (sym seen_is) not in
-      ap (λ (es : List (Flat × Seen)). map kept_member es) (inserted all absent_there e) ∙ kept_more key line seen t is of old.entries
+      ap (λ (es : List (Flat × Seen)). map kept_member es) (inserted all absent_there e) ∙ kept_members_with_one_stored_more key line seen t is of old.entries
       ∙ ap (λ (ps : List Kept). ps ++ record { line = line; tiling = t } ∷ []) seen_is

@@ -2,6 +2,7 @@
 use Rattle.std.specs.Fmt.{digits}
 use Rattle.std.proofs.Common.{arith, lit≤}
 use Rattle.std.specs.Prelude.{IsTrue, List, Some, [], false, codes, count_by, flat_map, refl, ◌++◌, ◌<◌, ◌∷◌, ◌≡◌}
+use Rattle.bk_ports.specs.Ending.{streams_told}
 use Rattle.bk_tiling.proofs.ExampleTilings.{rectangle_33x32}
 use Rattle.bk_word.proofs.WordExamples.{word_33x32}
 use Rattle.bk_report.specs.ListLines.{faults, verified_line}
@@ -91,7 +92,7 @@ no_list = record {
 }
 
 -- an input without a byte is read with nothing kept
-no_input : IsListRead 2 (record { left = Some []; left_after = Some []; written = Some []; written_after = Some [] }) (none_entered 2)
+no_input : IsListRead 2 (streams_told (Some []) (Some []) (Some []) (Some [])) (none_entered 2)
 no_input = record {
   refused = false;
   whole = record {

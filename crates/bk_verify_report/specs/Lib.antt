@@ -8,7 +8,7 @@ pub mod Verify
 pub mod VerifyLaws
 pub mod VerifyRun
 -- How its code keeps it.
-pub mod EmptyListLine
+pub mod EmptyIsPassedOver
 pub mod ListLine
 pub mod ListReading
 pub mod MissingLines

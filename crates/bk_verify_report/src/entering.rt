@@ -67,7 +67,7 @@ impl VerifyRegister {
 }
 
 impl Register for VerifyRegister {
-    ghost use Rattle.bk_verify_report.specs.EmptyListLine.{empty_line, still_ready};
+    ghost use Rattle.bk_verify_report.specs.EmptyIsPassedOver.{counts_below_next, empty_is_passed_over};
 
     ghost enters = { λ s number line pieces refused next.
         EntersLine s number line (record { pieces = pieces; refused = refused }) next };
@@ -95,9 +95,9 @@ impl Register for VerifyRegister {
         }
     }
 
-    ghost empty_line = { empty_line };
+    ghost empty_line = { empty_is_passed_over };
 
-    ghost still_ready = { still_ready };
+    ghost still_ready = { counts_below_next };
 }
 
 // Feeds the tiling of a line of this number, whichever line states it, and writes what is told of it.

@@ -32,8 +32,8 @@ pub found_here : (t : Tiling) (found : Option Placed) (p : Placed) → IsFound t
 found_here t found p (q, e, place) is = let same : q ≡ p = cc in subst (IsPlacementOf t) same place
 
 -- where something is found for a tiling, it is not nothing
-pub found_none : (t : Tiling) (found : Option Placed) → IsFound t found → found ≡ None → ⊥
-found_none t found (q, e, place) is = absurd (cc)
+pub found_is_not_nothing : (t : Tiling) (found : Option Placed) → IsFound t found → found ≡ None → ⊥
+found_is_not_nothing t found (q, e, place) is = absurd (cc)
 
 -- what is found at a word: each primitive tiling of the class that is met by it is placed so
 abbrev pub FindsAll : Word → Class → Option Placed → Type 0
@@ -48,7 +48,7 @@ found_image w found s all e turn is met =
 
 -- where nothing is found there is none
 pub met_nothing : (w : Word) (found : Option Placed) (s : Finding) → FindsAll w s.class found → found ≡ None → HasMet s w
-met_nothing w found s all none e turn is met = absurd (found_none (image turn e.tiling) found (found_image w found s all e turn is met) none)
+met_nothing w found s all none e turn is met = absurd (found_is_not_nothing (image turn e.tiling) found (found_image w found s all e turn is met) none)
 
 -- searches for the same have the same members
 same_entry : (s u : Finding) → wanted u ≡ wanted s → (e : Entry) → IsEntry u.order u.class e → IsEntry s.order s.class e

@@ -3,11 +3,13 @@ pub mod FoundMembers
 pub mod TurnedSquares
 pub mod WholeTables
 pub mod MembersExamples
+pub mod FindingExamples
 -- Where a table of members stands.
 pub mod PlaceLaws
 pub mod TablesTell
 pub mod LeapLaws
 pub mod GoingTo
 pub mod LeapStates
+pub mod LeapingExamples
 -- What a walk answers.
 pub mod Answering

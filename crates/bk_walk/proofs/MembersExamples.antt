@@ -6,7 +6,7 @@ use Rattle.bk_packed.specs.KeptNumbers.{Holds}
 use Rattle.bk_packed.specs.Packed.{packed}
 use Rattle.bk_walk.specs.Finding.{Finding, HasOnlyMembers, IsMembersNumber}
 use Rattle.bk_walk.specs.Members.{HasNoneFrom, IsNextNumber, IsWhole}
-use Rattle.bk_walk.proofs.WholeTables.{next_number, none_from}
+use Rattle.bk_walk.proofs.WholeTables.{first_kept_is_the_next_number, no_number_from_a_bound_above_all_kept}
 
 -- the table that keeps these numbers, and dropped none
 abbrev table : List ℕ → Finding
@@ -38,7 +38,7 @@ not_only holds = from (holds 0 (0, lit< tt, refl))
 
 -- it is the least from 0 on
 next : IsNextNumber (table (packed row_word ∷ [])) 0 (packed row_word)
-next = next_number (table (packed row_word ∷ [])) 0 (packed row_word) whole only (record {
+next = first_kept_is_the_next_number (table (packed row_word ∷ [])) 0 (packed row_word) whole only (record {
   has = (0, lit< tt, refl);
   from = omega arith;
   least =
@@ -47,4 +47,4 @@ next = next_number (table (packed row_word ∷ [])) 0 (packed row_word) whole on
 
 -- and behind it there is none
 none : HasNoneFrom (table (packed row_word ∷ [])) (suc (packed row_word))
-none = none_from (table (packed row_word ∷ [])) (suc (packed row_word)) whole (omega arith, tt)
+none = no_number_from_a_bound_above_all_kept (table (packed row_word ∷ [])) (suc (packed row_word)) whole (omega arith, tt)

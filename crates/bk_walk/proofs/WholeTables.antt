@@ -50,9 +50,9 @@ table_of_none s none kept = record {
 -- ---- the numbers from a bound on
 
 -- the least number that isn't below the bound is the next member's
-pub next_number : (t : Finding) (bound x : ℕ) → IsWhole t → ((y : ℕ) → Contains t.numbers.kept y → IsMembersNumber t y)
+pub first_kept_is_the_next_number : (t : Finding) (bound x : ℕ) → IsWhole t → ((y : ℕ) → Contains t.numbers.kept y → IsMembersNumber t y)
     → IsFirstFrom t.numbers.kept bound x → IsNextNumber t bound x
-next_number t bound x whole only first = record { member = only x first.has; first = first; least = least }
+first_kept_is_the_next_number t bound x whole only first = record { member = only x first.has; first = first; least = least }
   where
     least : t.from ≤ bound → (e : Entry) → IsEntry t.order t.class e → bound ≤ packed e.word → x ≤ packed e.word
     least from e is above = held (whole e is (omega (arith, from, above)))
@@ -62,8 +62,8 @@ next_number t bound x whole only first = record { member = only x first.has; fir
         held (inr beyond) = omega (arith, all-contains (λ y. y < packed e.word) t.numbers.kept x beyond.beyond first.has)
 
 -- if no number is kept from a bound on and none was dropped, no member's word has a number from there on
-pub none_from : (t : Finding) (bound : ℕ) → IsWhole t → AllByRecursion (λ y. y < bound) t.numbers.kept → HasNoneFrom t bound
-none_from t bound whole below = record { kept = below; none = none }
+pub no_number_from_a_bound_above_all_kept : (t : Finding) (bound : ℕ) → IsWhole t → AllByRecursion (λ y. y < bound) t.numbers.kept → HasNoneFrom t bound
+no_number_from_a_bound_above_all_kept t bound whole below = record { kept = below; none = none }
   where
     none : t.from ≤ bound → t.numbers.limit ≡ None → (e : Entry) → IsEntry t.order t.class e → bound ≤ packed e.word → ⊥
     none from uncut e is above = held (whole e is (omega (arith, from, above)))

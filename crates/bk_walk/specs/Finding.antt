@@ -1,4 +1,7 @@
 -- What a search for members keeps of the words that it met.
+-- Examples (FindingExamples): of order 2 and the class imperfect the one member is a row of two squares, with the word
+-- 2e. A search that keeps the number of 2e holds the row; one that keeps nothing holds it only if greater numbers alone
+-- are asked for. With room for no number a search may have dropped that of 2e, and with room for one it can't have.
 use Rattle.std.specs.List.{AllByRecursion}
 use Rattle.std.specs.Prelude.{Contains, IsSome, List, length, ℕ, ◌<◌, ◌≡◌, ◌≤◌}
 use Rattle.bk_tiling.specs.Tiling.{Tiling}

@@ -1,4 +1,7 @@
 -- How a search goes on where a table of members stands: to the word of the least number that isn't before its place.
+-- Examples (LeapingExamples): of order 2 and the class imperfect the one member has the word 2e. Its number is the
+-- least from 0 on, and its word the next from the place 2a on; behind its number, and from the place 2u on, there is no
+-- more. The number of 2u.1e leads on from 2u. From the start one step may lead to 2e, and then it meets a member.
 use Rattle.std.specs.Prelude.{ℕ, ⊤, ◌++◌, ◌-◌, ◌≡◌, ◌≤◌}
 use Rattle.bk_tiling.specs.Tiling.{Tiling}
 use Rattle.bk_word.specs.Play.{IsLegal}

@@ -10,7 +10,9 @@ pub mod TraceBack
 pub mod RuledOut
 pub mod MoveAnswers
 pub mod SideFormExamples
+pub mod TraceExamples
 pub mod CutExamples
 -- Moves by which no member's word goes on.
 pub mod CutLaws
 pub mod OwingLaws
+pub mod MoveCutExamples

@@ -57,15 +57,16 @@ module _ (levels : List Form) (signs : List Sign) (i : ℕ) (d : Sign) (f g : Fo
   behind = right ∙ ap (λ (k : ℕ). get_or levels k zero_form) (sym next)
 
   -- one more equation is added
-  pub kept_more : (kept now then : List Form) → now ≡ kept_by_signs kept levels signs i → then ≡ kept_by_sign (Some (get_or signs i d)) now f g
+  pub kept_equations_with_one_sign_more : (kept now then : List Form) → now ≡ kept_by_signs kept levels signs i
+      → then ≡ kept_by_sign (Some (get_or signs i d)) now f g
       → then ≡ kept_by_signs kept levels signs (i + 1)
-  kept_more kept now then is e = e ∙ (λ j. kept_by_sign (sym (sign_read signs i d within) j) (is j) (left j) (behind j))
+  kept_equations_with_one_sign_more kept now then is e = e ∙ (λ j. kept_by_sign (sym (sign_read signs i d within) j) (is j) (left j) (behind j))
       ∙ ap (kept_by_signs kept levels signs) next
 
   -- if no equation of the first signs contradicts those before, nor does the next one, none does up to the next sign
-  pub none_more : (kept now : List Form) (b : Bool) → now ≡ kept_by_signs kept levels signs i → NoneContradicts kept levels signs i
+  pub none_contradicts_with_one_sign_more : (kept now : List Form) (b : Bool) → now ≡ kept_by_signs kept levels signs i → NoneContradicts kept levels signs i
       → (get_or signs i d ≡ Even → addition now f g ≡ contradiction → b ≡ true) → b ≡ false → NoneContradicts kept levels signs (i + 1)
-  none_more kept now b is none told never place low = elim (cases_lt place i) [
+  none_contradicts_with_one_sign_more kept now b is none told never place low = elim (cases_lt place i) [
     | inl h ↦ none place h
     | inr h ↦
         let same : i ≡ place = omega (arith, low, h) in
@@ -97,9 +98,9 @@ module _ (levels : List Form) (signs : List Sign) (i : ℕ) (d : Sign) (f g : Fo
           never
 
 -- at the end none is left
-pub none_left : (kept levels : List Form) (signs : List Sign) (n : ℕ) → NoneContradicts kept levels signs n → length signs ≤ n
+pub no_contradiction_where_none_of_all : (kept levels : List Form) (signs : List Sign) (n : ℕ) → NoneContradicts kept levels signs n → length signs ≤ n
     → LevelsContradict kept levels signs → ⊥
-none_left kept levels signs n none all h =
+no_contradiction_where_none_of_all kept levels signs n none all h =
     let low = place_within signs h.place Even h.even in none h.place (omega (arith, low, all)) h.even h.contradict
 
 -- if none of the first n signs is known to be another, a move of at most n signs has none

@@ -15,7 +15,7 @@ use Rattle.bk_word.specs.Word.{Move}
 use Rattle.bk_word.specs.declared.Class.TheVariants.{Imperfect, Perfect}
 use Rattle.bk_word.specs.declared.Sign.{Sign}
 use Rattle.bk_word.specs.declared.Sign.TheVariants.{Above, Even, Under}
-use Rattle.bk_lay.proofs.WordTest.{by_tests, passes_as_valley}
+use Rattle.bk_lay.proofs.WordTest.{passes_as_valley, passes_as_valley_by_tests}
 use Rattle.bk_forms.specs.Form.{Form}
 use Rattle.bk_forms.specs.FormLaws.{Compares}
 use Rattle.bk_catalogue.proofs.Members.TwoSquares.{row_of_two}
@@ -81,10 +81,10 @@ laid_four = square_at 0 0 18 ∷ square_at 18 0 15 ∷ square_at 18 15 7 ∷ squ
 laid_by_two : LaidBy rectangle_33x32 [] (first ∷ second ∷ []) laid_four
 laid_by_two = (
   record { x = 0; width = 33; level = 0 },
-  passes_as_valley _ _ _ (by_tests _ _ _ refl refl refl refl refl refl),
+  passes_as_valley _ _ _ (passes_as_valley_by_tests _ _ _ refl refl refl refl refl refl),
   lit< tt,
   refl,
-  (record { x = 18; width = 15; level = 15 }, passes_as_valley _ _ _ (by_tests _ _ _ refl refl refl refl refl refl), lit< tt, refl, refl),
+  (record { x = 18; width = 15; level = 15 }, passes_as_valley _ _ _ (passes_as_valley_by_tests _ _ _ refl refl refl refl refl refl), lit< tt, refl, refl),
 )
 
 -- of the squares that are not laid yet any sides will do
@@ -117,7 +117,8 @@ second_holds = record {
 
 -- ---- moves that are ruled out
 
-nothing_holds : HoldAfter [] [] []
+-- where no square is laid, no equation and no level of a bottom has to hold
+pub nothing_holds : HoldAfter [] [] []
 nothing_holds t laid sides tiling none are = record {
   equations = record { long = are.long; positive = are.positive; equations = tt };
   levels = subst (AllZip (IsBottomOf sides) []) none tt;
@@ -136,7 +137,7 @@ row_is_barren n = ruled_out_is_barren n Perfect (two Even ∷ []) row_is_ruled_o
 row_is_imperfect : IsRuledOut Imperfect (two Even ∷ []) → ⊥
 row_is_imperfect ruled = ruled row_of_two row_of_two.squares (tiling_from_test row_of_two refl) (λ e. absurd (cc)) (
   record { x = 0; width = 2; level = 0 },
-  passes_as_valley _ _ _ (by_tests _ _ _ refl refl refl refl refl refl),
+  passes_as_valley _ _ _ (passes_as_valley_by_tests _ _ _ refl refl refl refl refl refl),
   lit< tt,
   refl,
   refl,

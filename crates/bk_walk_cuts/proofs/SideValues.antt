@@ -51,9 +51,9 @@ module _ (laid : List Square) (sides : List ℕ) (are : AreSidesOf laid sides) w
   within (r ∷ squares) (suc k) q e = omega (arith, within squares k q e)
 
   -- a form with the side of the k-th square once more has a value greater by that side
-  pub one_more : (form : Form) (n k : ℕ) (q : Square) → length form ≡ 16 → n ≡ suc k → slice_get laid k ≡ Some q
+  pub form_value_with_a_side_once_more : (form : Form) (n k : ℕ) (q : Square) → length form ≡ 16 → n ≡ suc k → slice_get laid k ≡ Some q
       → form_value (with_column form (n - 1)) sides ≡ form_value form sides +ℤ pos q.s
-  one_more form n k q long is at = ap (λ (c : ℕ). form_value (with_column form c) sides) less
+  form_value_with_a_side_once_more form n k q long is at = ap (λ (c : ℕ). form_value (with_column form c) sides) less
       ∙ value_with_side form sides k (omega (arith, long, are.few, within laid k q at)) (omega (arith, are.long, are.few, within laid k q at))
       ∙ ap (λ (s : ℕ). form_value form sides +ℤ pos s) (are.each k q at)
     where
@@ -69,7 +69,7 @@ module _ (laid : List Square) (sides : List ℕ) (are : AreSidesOf laid sides) w
         arith,
         ints,
         span_sum numbers (with_column form (n - 1)) level (x + q.s) end (long_with_side form (n - 1) ∙ long) rest,
-        one_more form n k q long is at,
+        form_value_with_a_side_once_more form n k q long is at,
       )
 
   at_end : (front : List Square) (q : Square) (back : List Square) → slice_get (front ++ q ∷ back) (length front) ≡ Some q
@@ -87,22 +87,24 @@ module _ (laid : List Square) (sides : List ℕ) (are : AreSidesOf laid sides) w
         ints,
         chain_sum squares (front ++ q ∷ []) (with_column form (n - 1)) (n + 1) (x + q.s) end (is ∙ sym (append_assoc front (q ∷ []) squares))
             (omega (arith, e, length-append front (q ∷ []))) (long_with_side form (n - 1) ∙ long) c.1,
-        one_more form n (length front) q long (omega (arith, e)) (ap (λ (l : List Square). slice_get l (length front)) is ∙ at_end front q squares),
+        form_value_with_a_side_once_more form n (length front) q long (omega (arith, e))
+            (ap (λ (l : List Square). slice_get l (length front)) is ∙ at_end front q squares),
       )
 
   -- the levels of the bottoms of new squares side by side
-  pub new_levels : (squares front : List Square) (form : Form) (n level : ℕ) → laid ≡ front ++ squares → n ≡ length front + 1 → length form ≡ 16
+  pub new_bottoms_by_their_forms : (squares front : List Square) (form : Form) (n level : ℕ) → laid ≡ front ++ squares → n ≡ length front + 1 → length form ≡ 16
       → form_value form sides ≡ pos level
       → ((q : Square) → IsOneOf q squares → q.y ≡ level) → AllZip (IsBottomOf sides)
       (map (λ n. with_column form (n - 1)) (numbers_from n (length squares))) squares
-  new_levels [] front form n level is e long value under = tt
-  new_levels (q ∷ squares) front form n level is e long value under = (
+  new_bottoms_by_their_forms [] front form n level is e long value under = tt
+  new_bottoms_by_their_forms (q ∷ squares) front form n level is e long value under = (
     record {
       long = long_with_side form (n - 1) ∙ long;
-      level = one_more form n (length front) q long (omega (arith, e)) (ap (λ (l : List Square). slice_get l (length front)) is ∙ at_end front q squares)
+      level = form_value_with_a_side_once_more form n (length front) q long (omega (arith, e))
+          (ap (λ (l : List Square). slice_get l (length front)) is ∙ at_end front q squares)
           ∙ omega (arith, ints, value, under q (inl refl));
     },
-    new_levels squares (front ++ q ∷ []) form (n + 1) level (is ∙ sym (append_assoc front (q ∷ []) squares))
+    new_bottoms_by_their_forms squares (front ++ q ∷ []) form (n + 1) level (is ∙ sym (append_assoc front (q ∷ []) squares))
         (omega (arith, e, length-append front (q ∷ []))) long value (λ r h. under r (inr h)),
   )
 

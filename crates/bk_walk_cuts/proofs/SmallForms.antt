@@ -11,17 +11,17 @@ use Rattle.bk_laws.proofs.ListPlaces.{get_either}
 use Rattle.bk_laws.proofs.Magnitudes.{abs_successor-le}
 
 -- a form whose coefficients are at most j has them at most k, where k is no less
-pub small_more : (j k : ℕ) (form : Form) → j ≤ k → IsSmall j form → IsSmall k form
-small_more j k [] h all = tt
-small_more j k (a ∷ form) h all = (omega (arith, all.0), small_more j k form h all.1)
+pub small_form_by_a_greater_bound : (j k : ℕ) (form : Form) → j ≤ k → IsSmall j form → IsSmall k form
+small_form_by_a_greater_bound j k [] h all = tt
+small_form_by_a_greater_bound j k (a ∷ form) h all = (omega (arith, all.0), small_form_by_a_greater_bound j k form h all.1)
 
 small_nought : (n k : ℕ) → IsSmall k (replicate n (pos 0))
 small_nought zero k = tt
 small_nought (suc n) k = (omega arith, small_nought n k)
 
 -- the form 0 is small
-pub small_zero : (k : ℕ) → IsSmall k zero_form
-small_zero k = small_nought 16 k
+pub zero_is_a_small_form : (k : ℕ) → IsSmall k zero_form
+zero_is_a_small_form k = small_nought 16 k
 
 -- each coefficient of a small form is small
 pub small_at : (k : ℕ) (form : Form) (c : ℕ) → IsSmall k form → nat_abs (coefficient form c) ≤ k
@@ -37,7 +37,7 @@ small_set k (b ∷ form) (suc c) a h all = (all.0, small_set k form c a h all.1)
 -- with one more side a form is small by one more
 pub small_with_side : (k : ℕ) (form : Form) (c : ℕ) → IsSmall k form → IsSmall (suc k) (with_column form c)
 small_with_side k form c all = small_set (suc k) form c (coefficient form c +ℤ pos 1) (abs_successor-le (coefficient form c) k (small_at k form c all))
-    (small_more k (suc k) form (omega arith) all)
+    (small_form_by_a_greater_bound k (suc k) form (omega arith) all)
 
 -- ---- levels
 
@@ -53,13 +53,13 @@ past (f ∷ forms) (suc k) h = past forms k (omega arith)
 
 -- the level of a segment is as small as the bottoms
 pub small_level : (bottoms : List Form) (numbers : List ℕ) → AreSmall bottoms → IsSmall (length bottoms) (level_of bottoms numbers)
-small_level bottoms [] small = small_zero (length bottoms)
+small_level bottoms [] small = zero_is_a_small_form (length bottoms)
 small_level bottoms (n ∷ numbers) small = cases (cases_lt (n - 1) (length bottoms))
   where
     cases : ((n - 1) < length bottoms) ⊎ (length bottoms ≤ (n - 1)) → IsSmall (length bottoms) (get_or bottoms (n - 1) zero_form)
-    cases (inl h) = small_more (suc (n - 1)) (length bottoms) (get_or bottoms (n - 1) zero_form) (omega arith)
+    cases (inl h) = small_form_by_a_greater_bound (suc (n - 1)) (length bottoms) (get_or bottoms (n - 1) zero_form) (omega arith)
         (small (n - 1) (get_or bottoms (n - 1) zero_form) (read bottoms (n - 1) h))
-    cases (inr h) = subst (IsSmall (length bottoms)) (sym (past bottoms (n - 1) h)) (small_zero (length bottoms))
+    cases (inr h) = subst (IsSmall (length bottoms)) (sym (past bottoms (n - 1) h)) (zero_is_a_small_form (length bottoms))
 
 -- the bottoms that a trace keeps are few and small, as they are read
 pub few_small : {w : Word} {trace : Trace} {bottoms : List Form} → IsTraceOf w trace → bottoms ≡ trace.bottoms → AreFewSmall bottoms
@@ -67,7 +67,8 @@ few_small is e = subst AreFewSmall (sym e) (record { few = is.few; small = is.sm
 
 -- the level of a segment of such is small
 pub few_small_level : (bottoms : List Form) (numbers : List ℕ) → AreFewSmall bottoms → IsSmall 5 (level_of bottoms numbers)
-few_small_level bottoms numbers are = small_more (length bottoms) 5 (level_of bottoms numbers) are.few (small_level bottoms numbers are.small)
+few_small_level bottoms numbers are = small_form_by_a_greater_bound (length bottoms) 5 (level_of bottoms numbers) are.few
+    (small_level bottoms numbers are.small)
 
 -- the bottoms of new squares
 new_small : (numbers : List ℕ) (level : Form) (k i : ℕ) (form : Form) → IsSmall k level
@@ -87,4 +88,5 @@ small_new bottoms level numbers small low i form e = cases (get_either bottoms (
     cases : (slice_get bottoms i ≡ Some form) ⊎ ((j : ℕ) × (i ≡ length bottoms + j)
         × (slice_get (map (λ n. with_column level (n - 1)) numbers) j ≡ Some form)) → IsSmall (suc i) form
     cases (inl f) = small i form f
-    cases (inr (j, is, f)) = small_more (suc (length bottoms)) (suc i) form (omega (arith, is)) (new_small numbers level (length bottoms) j form low f)
+    cases (inr (j, is, f)) = small_form_by_a_greater_bound (suc (length bottoms)) (suc i) form (omega (arith, is))
+        (new_small numbers level (length bottoms) j form low f)

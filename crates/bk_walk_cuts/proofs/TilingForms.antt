@@ -29,7 +29,7 @@ use Rattle.bk_lay.specs.Depiction.{Depicts, Hangs, IsSegment}
 use Rattle.bk_lay.specs.TilingWord.{IsLeftmostValley, bottoms as bottoms_along, depth_before, depth_from, move_under, signs_between, squares_under}
 use Rattle.bk_word_net.proofs.TilingWords.AlongWord.{Along, along_move, along_start}
 use Rattle.bk_forms.specs.Form.{Form, form_value}
-use Rattle.bk_walk_cuts.proofs.SideValues.{IsLevelOf, chain_sum, new_levels, segment_level, signs_agree, span_sum}
+use Rattle.bk_walk_cuts.proofs.SideValues.{IsLevelOf, chain_sum, new_bottoms_by_their_forms, segment_level, signs_agree, span_sum}
 use Rattle.bk_walk_cuts.specs.SideForms.{left_level, level_of, levels_along, new_bottoms, right_level, sum_of_sides, zero_form}
 use Rattle.bk_walk_cuts.specs.SidesOfTilings.{AreSidesOf, IsBottomOf, LaidBy, MoveHolds, MovesHold}
 
@@ -90,8 +90,8 @@ module _ (t : Tiling) (laid : List Square) (nodes : List Segment) (o : Outline) 
       (zip_at (IsSegment laid) front u back o.segments [] (subst (λ (runs : List Segment). AllZip (IsSegment laid) runs o.segments) (is ∙ e) d.segments))
 
   -- the level at the left of the valley is the depth there
-  pub left_is : AllZip (IsLevelOf sides) (left_level o bottoms) (depth_before laid v.x)
-  left_is = cases (subst (λ (w : Segment). ((p.before ≡ []) × (w.x ≡ 0)) ⊎ HasLast laid w.x p.before) same p.left)
+  pub left_level_is_the_depth_there : AllZip (IsLevelOf sides) (left_level o bottoms) (depth_before laid v.x)
+  left_level_is_the_depth_there = cases (subst (λ (w : Segment). ((p.before ≡ []) × (w.x ≡ 0)) ⊎ HasLast laid w.x p.before) same p.left)
     where
       cases : ((p.before ≡ []) × (v.x ≡ 0)) ⊎ HasLast laid v.x p.before → AllZip (IsLevelOf sides) (left_level o bottoms) (depth_before laid v.x)
       cases (inl (none, at)) = zip_none sides (has_left_wall o) (level_of bottoms (slice_index_or o.segments (valley_place o.signs - 1) []))
@@ -114,8 +114,9 @@ module _ (t : Tiling) (laid : List Square) (nodes : List Segment) (o : Outline) 
           split = ap (λ (b : List Segment). b ++ v ∷ p.after) h.is ∙ append_assoc h.front (h.last ∷ []) (v ∷ p.after)
 
   -- the level at the right of the valley is the depth there
-  pub right_is : AllZip (IsLevelOf sides) (right_level o bottoms) (depth_from t.width laid (v.x + v.width))
-  right_is = cases (subst (λ (w : Segment). ((p.after ≡ []) × (w.x + w.width ≡ t.width)) ⊎ HasFirst t.width laid (w.x + w.width) p.after) same p.right)
+  pub right_level_is_the_depth_there : AllZip (IsLevelOf sides) (right_level o bottoms) (depth_from t.width laid (v.x + v.width))
+  right_level_is_the_depth_there = cases (subst (λ (w : Segment). ((p.after ≡ []) × (w.x + w.width ≡ t.width))
+      ⊎ HasFirst t.width laid (w.x + w.width) p.after) same p.right)
     where
       at_wall : (c w : ℕ) (ds : List ℕ) → c ≡ w → cond (nat_lt c w) ds [] ≡ []
       at_wall c w ds e = ap (λ (b : Bool). cond b ds []) (not_less c w e)
@@ -179,7 +180,8 @@ module _ (t : Tiling) (laid : List Square) (nodes : List Segment) (o : Outline) 
   hung = sym (zip_length (Hangs nodes) laid o.hung (a.depicts).hung)
 
   news : AllZip (IsBottomOf sides) (new_bottoms o (move_under t laid v) bottoms) (squares_under t v)
-  news = new_levels (laid ++ squares_under t v) sides are (squares_under t v) laid (level_of bottoms (valley_of o)) (length o.hung + 1) v.level refl
+  news = new_bottoms_by_their_forms (laid ++ squares_under t v) sides are (squares_under t v) laid (level_of bottoms (valley_of o))
+      (length o.hung + 1) v.level refl
       (omega (arith, hung)) level.long level.value
       (λ q h. (is_under t laid v tiling a.fills found low q h).level)
     where
@@ -191,9 +193,9 @@ module _ (t : Tiling) (laid : List Square) (nodes : List Segment) (o : Outline) 
       (depth_before laid v.x ++ map (λ q. q.y + q.s) (squares_under t v)) (depth_from t.width laid (v.x + v.width))
       (zip_append (IsLevelOf sides) (left_level o bottoms) (new_bottoms o (move_under t laid v) bottoms) (depth_before laid v.x)
       (map (λ q. q.y + q.s) (squares_under t v))
-      (left_is t laid nodes o v sides bottoms tiling a.depicts found zip)
+      (left_level_is_the_depth_there t laid nodes o v sides bottoms tiling a.depicts found zip)
       (bottom_levels sides (new_bottoms o (move_under t laid v) bottoms) (squares_under t v) news))
-      (right_is t laid nodes o v sides bottoms tiling a.depicts found zip)
+      (right_level_is_the_depth_there t laid nodes o v sides bottoms tiling a.depicts found zip)
 
   widths : valley_of o ≢ [] → form_value (sum_of_sides (valley_of o)) sides ≡ form_value (sum_of_sides (new_squares o (move_under t laid v))) sides
   widths some = old (valley_of o) some (valley_segment t laid nodes o v tiling a.depicts found)

@@ -1,4 +1,8 @@
 -- Cuts: the legal moves at a state that are passed over, because no member's word goes on by them.
+-- Examples (MoveCutExamples): at the start 2a may be passed over up to 2e, since its left square is the shorter one. Of
+-- order 2 and the class imperfect 2e may not, since it is a member's word. After all moves of three squares that begin
+-- with a comes 3e; from 2u to 3 the count grows by one, to 4 by two. Between two walls the first two signs of 3ue end
+-- even, and the first alone doesn't.
 use Rattle.std.specs.Prelude.{List, Some, [], length, slice_get, take, ℕ, ◌++◌, ◌+◌, ◌-◌, ◌<◌, ◌∷◌, ◌≡◌, ◌≤◌}
 use Rattle.std.specs.declared.cmp.Ordering.TheVariants.{Less}
 use Rattle.bk_word.specs.Outline.{IsLegalMove}

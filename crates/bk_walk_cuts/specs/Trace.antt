@@ -1,4 +1,7 @@
 -- What is kept along the first moves of a word: equations between its sides, and the levels of its bottoms.
+-- Example (TraceExamples): along 2u, with squares of sides a and b, no equation is kept, and the bottoms are at the
+-- levels a and b. With the mark that no square hung before, this is a trace of 2u, and with a mark that one did it
+-- isn't. In a - b the coefficients are at most 1 in magnitude, and in 2a they aren't.
 use Rattle.std.specs.List.{AllByRecursion}
 use Rattle.std.specs.Prelude.{List, Some, [], length, nat_abs, slice_get, suc, take, ℕ, ◌≡◌, ◌≤◌}
 use Rattle.bk_tiling.specs.declared.Square.{Square}
@@ -51,7 +54,9 @@ pub record IsTraceOf (w : Word) (trace : Trace) : Type 0 where
   pub hold : HoldAfter (take (length trace.marks) w) trace.kept trace.bottoms
   pub marked : (j : ℕ) (mark : Mark) → slice_get trace.marks j ≡ Some mark → IsMarked w trace j mark
 
--- no tiling has a word that begins with these moves, or in the class perfect no perfect one
+-- no tiling has a word that begins with these moves, or in the class perfect no perfect one. Example
+-- (SideFormExamples): in the class perfect 2e is ruled out, since its two squares are equal, and in the class imperfect
+-- it isn't
 abbrev pub IsRuledOut : Class → Word → Type 0
 IsRuledOut class w = (t : Tiling) (laid : List Square) → IsTiling t → (class ≡ Perfect → IsPerfect t)
     → LaidBy t [] w laid → ⊥

@@ -72,7 +72,8 @@ pub(crate) fn pass(m: &mut Move, kept: usize)
     next_move(m);
 }
 
-// Puts signs above behind those of the move, up to so many as a legal move wants at a valley with so many open sides.
+// Puts signs above behind those of the move, until it has as many as a legal move wants at a valley of which `sides`
+// sides are open.
 fn pad(m: &mut Move, sides: usize)
     requires some { 0 < m.old.count }
     requires few { m.old.count ≤ LARGEST_LISTED_ORDER + 2 }

@@ -118,16 +118,16 @@ count_passed bytes k i left within few some h e =
     tail_dropped (k ∷ w) (suc n) m rest e = tail_dropped w n m rest e
 
 -- no further count where all bytes were passed
-pub none_left : (bytes : List ℕ) (k i left : ℕ) → length bytes ≤ k → i < length (word_in bytes)
+pub no_count_where_all_bytes_were_passed : (bytes : List ℕ) (k i left : ℕ) → length bytes ≤ k → i < length (word_in bytes)
     → word_in (drop k bytes) ≡ drop (i - left) (word_in bytes) → ⊥
-none_left bytes k i left all some e =
+no_count_where_all_bytes_were_passed bytes k i left all some e =
     let none : drop (i - left) (word_in bytes) ≡ [] = sym e ∙ ap word_in (drop_all k bytes all) in
     omega (arith, length-drop (i - left) (word_in bytes), ap (λ (w : Word). length w) none)
 
 -- at the last count no move is left behind
-pub none_behind : (bytes : List ℕ) (k : ℕ) → k < length bytes → 0 < length (word_in bytes) → is_count (get_or bytes k 0) ≡ true
+pub no_move_behind_the_last_count : (bytes : List ℕ) (k : ℕ) → k < length bytes → 0 < length (word_in bytes) → is_count (get_or bytes k 0) ≡ true
     → word_in (drop k bytes) ≡ drop (length (word_in bytes) - 1) (word_in bytes) → word_in (drop (k + 1) bytes) ≡ []
-none_behind bytes k within some h e =
+no_move_behind_the_last_count bytes k within some h e =
     let last : move_of (get_or bytes k 0) (drop (k + 1) bytes) ∷ word_in (drop (k + 1) bytes) ≡ drop (length (word_in bytes) - 1) (word_in bytes) =
     sym (count_here bytes k within h) ∙ e in
     empty (word_in (drop (k + 1) bytes)) (omega (arith, length-drop (length (word_in bytes) - 1) (word_in bytes), ap (λ (w : Word). length w) last))
@@ -142,7 +142,7 @@ pub popped : (bytes : List ℕ) (w : Word) (k : ℕ) → IsStoredWord bytes → 
     → (word_in (take k bytes) ≡ take (length w - 1) w) × IsStoredWord (take k bytes)
 popped bytes w k s is within some h behind =
     let c : ℕ = get_or bytes k 0 in
-    let none = none_behind bytes k within (subst (λ (v : Word). 0 < length v) (sym is) some) h behind in
+    let none = no_move_behind_the_last_count bytes k within (subst (λ (v : Word). 0 < length v) (sym is) some) h behind in
     let whole : take k bytes ++ c ∷ drop (k + 1) bytes ≡ bytes = ap (λ (z : List ℕ). take k bytes ++ z) (sym (drop_more bytes k 0 within))
     ∙ take-append-drop k bytes in
     let off = last_off (take k bytes) c (drop (k + 1) bytes) h none (subst IsStoredWord (sym whole) s) in

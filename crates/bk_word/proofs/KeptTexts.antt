@@ -9,7 +9,7 @@ use Rattle.bk_word.specs.Taken.{KeepsTextOf}
 use Rattle.bk_word.specs.Word.{Word, order_of}
 use Rattle.bk_word.specs.WordText.{IsTextOf, IsWrittenMove}
 use Rattle.bk_word.specs.declared.reading.Taken.{Taken}
-use Rattle.bk_word.proofs.StoredBytes.{stored_kept}
+use Rattle.bk_word.proofs.StoredBytes.{stored_bytes_of_a_word_that_can_be_kept}
 
 all_stand : (w : Word) → AllByRecursion IsWrittenMove w → AllByRecursion CanStand w
 all_stand [] all = tt
@@ -26,12 +26,12 @@ pub bytes_kept : (text bytes : List ℕ) (t : Taken) → KeepsTextOf text t → 
 bytes_kept text bytes t (w, is, keeps) few same =
     let order : order_of w ≤ 200 = omega (arith, few, keeps.order) in
     let kept : IsKeptWord w = record { moves = all_stand w is.moves; few = order } in
-    let s = stored_kept bytes w (same ∙ keeps.bytes order) kept in
+    let s = stored_bytes_of_a_word_that_can_be_kept bytes w (same ∙ keeps.bytes order) kept in
     record { is = subst (IsTextOf text) (sym s.0) is; are_stored = s.1; few = subst (λ (v : Word). order_of v ≤ 200) (sym s.0) order }
 
 -- a word that takes memory has more than 16 squares
-pub many_squares : (w : Word) → (order_of w ≤ 16 → ⊥) → 16 < order_of w
-many_squares w h = elim (cases_lt 16 (order_of w)) [
+pub more_than_sixteen_where_not_few : (w : Word) → (order_of w ≤ 16 → ⊥) → 16 < order_of w
+more_than_sixteen_where_not_few w h = elim (cases_lt 16 (order_of w)) [
   | inl more ↦ more
   | inr few ↦ absurd (h few)
 ]

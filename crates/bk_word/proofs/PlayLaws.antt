@@ -34,8 +34,8 @@ pub legal-last : (o : Outline) (w : Word) (m : Move) → AreLegalFrom o (w ++ m 
 legal-last o w m legal = (legal_rest o w (m ∷ []) legal).0
 
 -- a legal move has at most one sign more than squares
-pub few_signs : (o : Outline) (m : Move) → IsLegalMove o m → length m.signs ≤ m.count + 1
-few_signs o m legal = omega (arith, legal.signs, one (has_left_wall o), one (has_right_wall o))
+pub at_most_one_sign_more_than_squares : (o : Outline) (m : Move) → IsLegalMove o m → length m.signs ≤ m.count + 1
+at_most_one_sign_more_than_squares o m legal = omega (arith, legal.signs, one (has_left_wall o), one (has_right_wall o))
   where
     one : (b : Bool) → open_side b ≤ 1
     one true = omega arith

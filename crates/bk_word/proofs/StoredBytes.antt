@@ -59,8 +59,8 @@ read_back (m ∷ w) low =
     ∙ ap (with_front m.count m.signs) (front_passed m.signs (stored w) ∙ read_back w low.1)
 
 -- bytes that store a word which can be kept
-pub stored_kept : (bytes : List ℕ) (w : Word) → bytes ≡ stored w → IsKeptWord w → (word_in bytes ≡ w) × IsStoredWord bytes
-stored_kept bytes w is kept =
+pub stored_bytes_of_a_word_that_can_be_kept : (bytes : List ℕ) (w : Word) → bytes ≡ stored w → IsKeptWord w → (word_in bytes ≡ w) × IsStoredWord bytes
+stored_bytes_of_a_word_that_can_be_kept bytes w is kept =
     let back : word_in bytes ≡ w = ap word_in is ∙ read_back w (few_low w kept.few) in
     (back, record { same = is ∙ ap stored (sym back); kept = subst IsKeptWord (sym back) kept })
 
@@ -99,20 +99,20 @@ kept_short bytes s = subst (λ (z : List ℕ). length z ≤ 3 * order_of (word_i
     (short (word_in bytes) (standing (word_in bytes) s.kept.moves))
 
 -- a word of moves that can stand, with one more of them
-pub all_one : (w : Word) (m : Move) → AllByRecursion CanStand w → CanStand m → AllByRecursion CanStand (w ++ m ∷ [])
-all_one [] m all one = (one, tt)
-all_one (n ∷ w) m all one = (all.0, all_one w m all.1 one)
+pub all_can_stand_with_one_move_more : (w : Word) (m : Move) → AllByRecursion CanStand w → CanStand m → AllByRecursion CanStand (w ++ m ∷ [])
+all_can_stand_with_one_move_more [] m all one = (one, tt)
+all_can_stand_with_one_move_more (n ∷ w) m all one = (all.0, all_can_stand_with_one_move_more w m all.1 one)
 
 -- a further move
 pub kept_one : (w : Word) (m : Move) → IsKeptWord w → CanStand m → order_of w + m.count ≤ 200 → IsKeptWord (w ++ m ∷ [])
-kept_one w m kept one few = record { moves = all_one w m kept.moves one; few = omega (arith, order_one w m) }
+kept_one w m kept one few = record { moves = all_can_stand_with_one_move_more w m kept.moves one; few = omega (arith, order_one w m) }
 
 -- a move's bytes behind those of a word store the word with that move
 pub pushed : (bytes : List ℕ) (w : Word) (m : Move) → IsStoredWord bytes → word_in bytes ≡ w → CanStand m → order_of w + m.count ≤ 200
     → (word_in (bytes ++ stored_move m) ≡ w ++ m ∷ []) × IsStoredWord (bytes ++ stored_move m)
 pushed bytes w m s is one few =
     let kept : IsKeptWord w = subst IsKeptWord is s.kept in
-    stored_kept (bytes ++ stored_move m) (w ++ m ∷ []) (ap (λ (z : List ℕ). z ++ stored_move m) (s.same ∙ ap stored is)
+    stored_bytes_of_a_word_that_can_be_kept (bytes ++ stored_move m) (w ++ m ∷ []) (ap (λ (z : List ℕ). z ++ stored_move m) (s.same ∙ ap stored is)
     ∙ sym (stored_one w m)) (kept_one w m kept one few)
 
 -- a move has room where the word then has at most 64 bytes
@@ -123,9 +123,10 @@ has_bytes bytes w m capacity kept is few =
     omega (arith, same, kept.room)
 
 -- a move has room where the word then has at most 16 squares
-pub has_room : (bytes : List ℕ) (w : Word) (m : Move) (capacity : ℕ) → IsKeptBuffer bytes capacity → word_in bytes ≡ w → CanStand m → order_of w + m.count ≤ 16
+pub move_fits_where_squares_are_few : (bytes : List ℕ) (w : Word) (m : Move) (capacity : ℕ) → IsKeptBuffer bytes capacity → word_in bytes ≡ w → CanStand m
+    → order_of w + m.count ≤ 16
     → length bytes + length (stored_move m) ≤ capacity
-has_room bytes w m capacity kept is one few =
+move_fits_where_squares_are_few bytes w m capacity kept is one few =
     let signs : length (map sign_byte m.signs) ≡ length m.signs = length-map m.signs sign_byte in
     let before : length bytes ≤ 3 * order_of w = subst (λ (v : Word). length bytes ≤ 3 * order_of v) is (kept_short bytes kept.stored) in
     omega (arith, signs, before, kept.room, one.some, one.most)

@@ -94,11 +94,11 @@ step_at : (p next : Place) (r : Reading) (k : ByteKind) → CanBeRead r → p �
 step_at p next r k can place e = from_some (step r k) next (steps_place r k can ∙ ap (λ (q : Place). next_word_place q k) (sym place) ∙ e)
 
 -- one byte further
-pub one_further : (bs : List ℕ) (i : ℕ) (p next : Place) (t more : Taken) → i < length bs → Progress (take i bs) p t
+pub word_progress_to_the_next_place : (bs : List ℕ) (i : ℕ) (p next : Place) (t more : Taken) → i < length bs → Progress (take i bs) p t
     → next_word_place p (word_kind_of (get_or bs i 0)) ≡ Some next
     → ((r to : Reading) → p ≡ reader_place r → step r (word_kind_of (get_or bs i 0)) ≡ Some to → KeepsWord (taken r) t → KeepsWord (taken to) more)
     → Progress (take (i + 1) bs) next more
-one_further bs i p next t more within g e keeps =
+word_progress_to_the_next_place bs i p next t more within g e keeps =
     let to = step_at p next g.r (word_kind_of (get_or bs i 0)) g.can g.place e in
     let f = further_is_spelled g.r to.0 (get_or bs i 0) g.can to.1 in
     record {
@@ -131,8 +131,8 @@ pub progress_whole : (bs : List ℕ) (i : ℕ) (p : Place) (t : Taken) → lengt
 progress_whole bs i p t all g = subst (λ (z : List ℕ). Progress z p t) (take_all i bs all) g
 
 -- bytes that end where no text may end leave the grammar at their end
-pub stops_at_end : (bs : List ℕ) (p : Place) (t : Taken) → Progress bs p t → may_end p ≡ false → IsNoWordText bs (length bs)
-stops_at_end bs p t g e =
+pub no_word_text_where_bytes_end_early : (bs : List ℕ) (p : Place) (t : Taken) → Progress bs p t → may_end p ≡ false → IsNoWordText bs (length bs)
+no_word_text_where_bytes_end_early bs p t g e =
     leaves_at_end IsWordText bs (subst (Begins IsWordText) g.spells (begins g.r g.can)) (λ h. no_text h)
   where
     no_text : ¬ (IsWordText bs)
@@ -173,7 +173,7 @@ taken_short (Count w c) can = all_short w can.0
 taken_short (Signs w m) can = one_short w m (all_short w can.0) can.1.0 can.3
 
 -- a word of at most 200 squares takes at most 600 bytes
-pub has_room : (front : List ℕ) (p : Place) (t : Taken) → Progress front p t → t.order ≤ 200 → length t.bytes.items ≤ 600
-has_room front p t g few =
+pub at_most_600_bytes_for_200_squares : (front : List ℕ) (p : Place) (t : Taken) → Progress front p t → t.order ≤ 200 → length t.bytes.items ≤ 600
+at_most_600_bytes_for_200_squares front p t g few =
     let order : order_of (taken g.r) ≤ 200 = omega (arith, few, g.keeps.order) in
     omega (arith, short (taken g.r) (taken_short g.r g.can), ap (λ (z : List ℕ). length z) (g.keeps.bytes order), order)

@@ -27,14 +27,14 @@ word_read_from [] r = ended_word r
 word_read_from (b ∷ bytes) r = option_and_then (word_read_from bytes) (step r (word_kind_of b))
 
 -- a further byte of a known kind
-pub read_next : (r next : Reading) (k : ByteKind) (b : ℕ) (bytes : List ℕ) → word_kind_of b ≡ k → step r k ≡ Some next
+pub word_read_of_a_further_byte : (r next : Reading) (k : ByteKind) (b : ℕ) (bytes : List ℕ) → word_kind_of b ≡ k → step r k ≡ Some next
     → word_read_from (b ∷ bytes) r ≡ word_read_from bytes next
-read_next r next k b bytes kind e =
+word_read_of_a_further_byte r next k b bytes kind e =
     ap (λ (k : ByteKind). option_and_then (word_read_from bytes) (step r k)) kind ∙ ap (option_and_then (word_read_from bytes)) e
 
 -- the byte of a digit is read as that digit
-pub kind_digit : (d : ℕ) → d < 10 → word_kind_of (48 + d) ≡ Digit d
-kind_digit d small =
+pub word_kind_of_a_digit : (d : ℕ) → d < 10 → word_kind_of (48 + d) ≡ Digit d
+word_kind_of_a_digit d small =
     let is_digit : (nat_le 48 (48 + d) && nat_le (48 + d) 57) ≡ true = and_from _ _ (le-leb 48 (48 + d) (omega arith)) (le-leb (48 + d) 57 (omega arith)) in
     let own : 48 + d - 48 ≡ d = omega arith in
     cond-true _ _ _ is_digit ∙ ap Digit own
@@ -58,7 +58,7 @@ further_digit w n few =
 one_digit : (w : Word) (n : ℕ) (x : List ℕ) → 0 < n → n < 10 → word_read_from (decimal n ++ x) (Before w) ≡ word_read_from x (Count w n)
 one_digit w n x some few =
     ap (λ (z : List ℕ). word_read_from (z ++ x) (Before w)) (decimal_digit n few)
-    ∙ read_next (Before w) (Count w n) (Digit n) (48 + n) x (kind_digit n few) (first_digit w n some)
+    ∙ word_read_of_a_further_byte (Before w) (Count w n) (Digit n) (48 + n) x (word_kind_of_a_digit n few) (first_digit w n some)
 
 one_more : (w : Word) (n : ℕ) (x : List ℕ) → 10 ≤ n → n < 1000
     → ((y : List ℕ) → word_read_from (decimal (n / 10) ++ y) (Before w) ≡ word_read_from y (Count w (n / 10)))
@@ -67,7 +67,8 @@ one_more w n x some few fewer =
     ap (λ (z : List ℕ). word_read_from (z ++ x) (Before w)) (decimal_step n some (omega arith))
     ∙ ap (λ (z : List ℕ). word_read_from z (Before w)) (append_assoc (decimal (n / 10)) ((48 + n % 10) ∷ []) x)
     ∙ fewer ((48 + n % 10) ∷ x)
-    ∙ read_next (Count w (n / 10)) (Count w n) (Digit (n % 10)) (48 + n % 10) x (kind_digit (n % 10) (omega arith)) (further_digit w n few)
+    ∙ word_read_of_a_further_byte (Count w (n / 10)) (Count w n) (Digit (n % 10)) (48 + n % 10) x (word_kind_of_a_digit (n % 10) (omega arith))
+    (further_digit w n few)
 
 two_digits : (w : Word) (n : ℕ) (x : List ℕ) → 0 < n → n < 100 → word_read_from (decimal n ++ x) (Before w) ≡ word_read_from x (Count w n)
 two_digits w n x some few = elim (cases_lt n 10) [
@@ -94,7 +95,8 @@ letters_read : (w : Word) (c : ℕ) (before ss : List Sign) (x : List ℕ) → l
     ≡ word_read_from x (Signs w (record { count = c; signs = before ++ ss }))
 letters_read w c before [] x few = ap (λ (l : List Sign). word_read_from x (Signs w (record { count = c; signs = l }))) (sym (append-nil before))
 letters_read w c before (s ∷ ss) x few =
-    read_next (Signs w (record { count = c; signs = before })) (Signs w (record { count = c; signs = before ++ s ∷ [] })) (Letter s) (letter s)
+    word_read_of_a_further_byte (Signs w (record { count = c; signs = before })) (Signs w (record { count = c; signs = before ++ s ∷ [] })) (Letter s)
+    (letter s)
     (map letter ss ++ x) (kind_letter s)
     (cond-true _ _ _ (lt-ltb 0 (c + 1 - length before) (omega arith)))
     ∙ letters_read w c (before ++ s ∷ []) ss x (omega (arith, length-append before (s ∷ [])))
@@ -105,7 +107,7 @@ pub signs_read : (w : Word) (c : ℕ) (ss : List Sign) (x : List ℕ) → length
     → word_read_from (map letter ss ++ x) (Count w c) ≡ word_read_from x (behind w (record { count = c; signs = ss }) ss)
 signs_read w c [] x few = refl
 signs_read w c (s ∷ ss) x few =
-    read_next (Count w c) (Signs w (record { count = c; signs = s ∷ [] })) (Letter s) (letter s) (map letter ss ++ x) (kind_letter s) refl
+    word_read_of_a_further_byte (Count w c) (Signs w (record { count = c; signs = s ∷ [] })) (Letter s) (letter s) (map letter ss ++ x) (kind_letter s) refl
     ∙ letters_read w c (s ∷ []) ss x (omega (arith, few))
 
 -- ---- moves
@@ -133,7 +135,7 @@ pub dotted_read : (w : Word) (m : Move) (x : List ℕ) → IsWrittenMove m
     → word_read_from (move_text m ++ 46 ∷ x) (Before w) ≡ word_read_from x (Before (w ++ m ∷ []))
 dotted_read w m x h =
     move_read w m (46 ∷ x) h.stands.some h.digits h.stands.most
-    ∙ read_next (behind w m m.signs) (Before (w ++ m ∷ [])) Dot 46 x refl (dot_behind w m.count m.signs h.stands.least)
+    ∙ word_read_of_a_further_byte (behind w m m.signs) (Before (w ++ m ∷ [])) Dot 46 x refl (dot_behind w m.count m.signs h.stands.least)
 
 -- the text of a word behind other moves
 moves_read : (v : Word) (m : Move) (w : Word) → AllByRecursion IsWrittenMove (m ∷ w) → word_read_from (word_text (m ∷ w)) (Before v) ≡ Some (v ++ m ∷ w)

@@ -12,7 +12,7 @@ use Rattle.bk_word.specs.Word.{Word}
 use Rattle.bk_word.specs.declared.Class.TheVariants.{Imperfect, Perfect}
 use Rattle.bk_word.specs.declared.Sign.TheVariants.{Even}
 use Rattle.bk_lay.proofs.Valleys.{a_tiling_has_one_word}
-use Rattle.bk_lay.proofs.WordTest.{by_tests, word_by_valleys}
+use Rattle.bk_lay.proofs.WordTest.{passes_as_valley_by_tests, word_by_valleys}
 use Rattle.bk_lay.specs.TilingWord.{IsWordOf}
 use Rattle.bk_catalogue.proofs.Members.TwoSquares.{only_row_of_two, row_of_two}
 use Rattle.bk_catalogue.specs.Catalogue.{Entry, IsCatalogue, IsEntry}
@@ -30,7 +30,8 @@ row_is = tiling_from_test row_of_two refl
 
 -- the row of two squares has the word 2e
 pub has_word : IsWordOf row_of_two row_word
-has_word = word_by_valleys row_of_two [] (record { x = 0; width = 2; level = 0 } ∷ []) (by_tests _ _ _ refl refl refl refl refl refl, refl, refl)
+has_word = word_by_valleys row_of_two [] (record { x = 0; width = 2; level = 0 } ∷ [])
+    (passes_as_valley_by_tests _ _ _ refl refl refl refl refl refl, refl, refl)
 
 simple : IsSimple row_of_two
 simple (r, part) = omega (arith, part.several, part.not_all)

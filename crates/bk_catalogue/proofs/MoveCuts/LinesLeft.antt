@@ -9,7 +9,7 @@ use Rattle.bk_tiling.specs.Tiling.{IsOneOf, IsTiling, Tiling}
 use Rattle.bk_tiling.specs.declared.Square.{Square}
 use Rattle.bk_word.specs.Outline.{Outline}
 use Rattle.bk_lay.proofs.LaidRuns.{one_of}
-use Rattle.bk_lay.proofs.ValleySegment.{all_laid}
+use Rattle.bk_lay.proofs.ValleySegment.{all_squares_laid_at_full_depth}
 use Rattle.bk_lay.specs.Depiction.{IsNumbered, IsSegment, Span}
 use Rattle.bk_catalogue.specs.VerticalCut.{on_line}
 use Rattle.bk_catalogue.proofs.MoveCuts.ClearSegments.{Each, IsClear}
@@ -28,7 +28,7 @@ module _ (t : Tiling) (o : Outline) (lines : List Bool) (tiling : IsTiling t) (e
     column = s.x;
     right = at.0;
     left = let w = (within_of t tiling s inside).right in omega (arith, side_of t tiling s inside);
-    clear = λ r h. at.1 r (all_laid t tiling end.laid (end.along).fills end.full r h);
+    clear = λ r h. at.1 r (all_squares_laid_at_full_depth t tiling end.laid (end.along).fills end.full r h);
   }
     where
       at : (0 < s.x) × ((r : Square) → IsOneOf r end.laid → (r.x + r.s ≤ s.x) ⊎ (s.x ≤ r.x))

@@ -2,7 +2,7 @@
 use Rattle.std.specs.List.{AllByRecursion}
 use Rattle.std.specs.Prelude.{flat_map, map}
 use Rattle.std.proofs.Common.{List, [], arith, inl, inr, length, refl, subst, suc, zero, ℕ, ◌++◌, ◌+◌, ◌∷◌, ◌≡◌, ◌≤◌, ◌⊎◌}
-use Rattle.bk_word.proofs.PlayLaws.{few_signs, moves_many}
+use Rattle.bk_word.proofs.PlayLaws.{at_most_one_sign_more_than_squares, moves_many}
 use Rattle.bk_word.proofs.StoredBytes.{order_more}
 use Rattle.bk_word.specs.Outline.{Outline, start}
 use Rattle.bk_word.specs.Play.{AreLegalFrom, after_move}
@@ -90,7 +90,7 @@ in_words (suc k) n (m ∷ w) few all =
 each_small : (o : Outline) (n : ℕ) (w : Word) → AreLegalFrom o w → order_of w ≤ n → AllByRecursion (IsSmall n) w
 each_small o n [] legal few = tt
 each_small o n (m ∷ w) legal few = (
-  (omega (arith, order_more m w, few), omega (arith, few_signs o m legal.0, order_more m w, few)),
+  (omega (arith, order_more m w, few), omega (arith, at_most_one_sign_more_than_squares o m legal.0, order_more m w, few)),
   each_small (after_move o m) n w legal.1 (omega (arith, order_more m w, few)),
 )
 

@@ -10,7 +10,7 @@ use Rattle.bk_word.specs.declared.Sign.{Sign}
 use Rattle.bk_word.specs.declared.Sign.TheVariants.{Above, Even}
 use Rattle.bk_layout.proofs.FreeCuts.CutsOfTilings.{even_squares_are_free_barren, one_segment_is_free_barren, one_under_one_is_free_barren}
 use Rattle.bk_layout.proofs.FreeCuts.CutsOfTilings.{staying_above_is_free_barren}
-use Rattle.bk_word.proofs.PlayLaws.{few_signs, legal_front}
+use Rattle.bk_word.proofs.PlayLaws.{at_most_one_sign_more_than_squares, legal_front}
 use Rattle.bk_word.proofs.StoredBytes.{order_more}
 use Rattle.bk_layout.proofs.FreeCuts.CutByNodes.{shared_node_is_free_barren}
 use Rattle.bk_layout.specs.FreeCuts.{IsFreeBarren}
@@ -94,7 +94,7 @@ one_segment n front some few one = cut n front (one_segment_is_free_barren n fro
 few_after : (o : Outline) (m : Move) → IsLegalMove o m → length (after_move o m).signs ≤ length o.signs + (m.count + 1)
 few_after o m legal = omega (
   arith,
-  few_signs o m legal,
+  at_most_one_sign_more_than_squares o m legal,
   length-filter parts (signs_apart o m),
   count_by-le-length parts (signs_apart o m),
   length-append (take (valley_place o.signs - 1) o.signs) m.signs,

@@ -4,7 +4,7 @@ use Rattle.std.proofs.Common.{◌∙◌, ◌∷◌, ◌≡◌, ◌≤◌, ◌⊎
 use Rattle.std.specs.Prelude.{◌/◌}
 use Rattle.std.proofs.lemmas.Bool.Decides.{nat_tests}
 use Rattle.bk_word.specs.Outline.{Outline, start}
-use Rattle.bk_word.specs.Play.{AreLegalFrom, IsLegal, after_move, after_moves, outline_of}
+use Rattle.bk_word.specs.Play.{AreLegalFrom, after_move, after_moves, outline_of}
 use Rattle.bk_word.specs.Word.{Word}
 use Rattle.bk_word.proofs.PlayLaws.{legal_front}
 use Rattle.bk_layout.specs.Layout.{Layout}
@@ -13,7 +13,7 @@ use Rattle.bk_layout.specs.LayoutCounts.{counts_of_layout}
 use Rattle.bk_layout.specs.FreeCuts.{IsSound}
 use Rattle.bk_layout.proofs.NormalCuts.NumbersShown.{left_is, moves_is, right_is}
 use Rattle.bk_layout.proofs.FreeCuts.RunsOfLines.{wall_moves_hang_one}
-use Rattle.bk_layout.specs.NormalCuts.{AreMostMoves, MostMovesAreMost, MostMovesStay}
+use Rattle.bk_layout.specs.NormalCuts.{AreMostMoves, MostMovesAreMost}
 use Rattle.bk_layout.specs.NormalLayout.{IsNormalLayout}
 use Rattle.bk_layout.specs.WordNumbers.{AMoveHangsAtWalls, HasOneForEachWallMove, first_count, left_moves_from, left_squares, right_moves_from, right_squares}
 
@@ -137,22 +137,3 @@ a_move_hangs_at_walls front m legal = record {
     right_moves_append start front (m ∷ []),
   );
 }
-
--- a bound on the number of moves holds still when the moves go on
-pub most_moves_stay : MostMovesStay
-most_moves_stay n most front more legal (inl h) = inl h
-most_moves_stay n most front more legal (inr (h, wide)) = inr (h, at front legal wide)
-  where
-    at : (front : Word) → IsLegal (front ++ more) → first_count front < max (left_squares front) (right_squares front)
-        → first_count (front ++ more) < max (left_squares (front ++ more)) (right_squares (front ++ more))
-    at [] legal wide = absurd (omega (arith, wide))
-    at (m ∷ front) legal wide = omega (
-      arith,
-      wide,
-      (wall_moves_hang_one (m ∷ front ++ more) legal).left,
-      (wall_moves_hang_one (m ∷ front ++ more) legal).right,
-      (wall_moves_hang_one (m ∷ front) (legal_front start (m ∷ front) more legal)).left,
-      (wall_moves_hang_one (m ∷ front) (legal_front start (m ∷ front) more legal)).right,
-      left_moves_append start (m ∷ front) more,
-      right_moves_append start (m ∷ front) more,
-    )

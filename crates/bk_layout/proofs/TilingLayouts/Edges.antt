@@ -6,7 +6,7 @@ use Rattle.bk_tiling.proofs.TilingGroups.{one_there}
 use Rattle.bk_tiling.proofs.TilingLaws.{side_of, within_of}
 use Rattle.bk_tiling.specs.Tiling.{IsOneOf, IsTiling, Tiling, covers}
 use Rattle.bk_tiling.specs.declared.Square.{Square}
-use Rattle.bk_net.proofs.GroupSquares.{begins_below, square_at}
+use Rattle.bk_net.proofs.GroupSquares.{a_square_over_each_cell, square_below_begins_at_the_bottom}
 
 -- the square lies over the cell
 pub record IsOn (i j : ℕ) (q : Square) : Type 0 where
@@ -39,7 +39,7 @@ module _ (t : Tiling) (tiling : IsTiling t) where
 
   -- each cell of the rectangle has one
   pub cell : (i j : ℕ) → i < t.width → j < t.height → IsCell i j
-  cell i j a b = from (square_at t tiling i j a b)
+  cell i j a b = from (a_square_over_each_cell t tiling i j a b)
     where
       from : (q : Square) × IsOneOf q t.squares × (covers i j q ≡ true) → IsCell i j
       from (q, h, e) = record {
@@ -105,7 +105,7 @@ module _ (t : Tiling) (tiling : IsTiling t) where
   pub hangs_below : (q : Square) (c : ℕ) → IsOneOf q t.squares → q.x ≤ c → c < q.x + q.s → q.y + q.s < t.height → Hangs q c
   hangs_below q c h lo hi low = let w = cell c (q.y + q.s) (omega (arith, hi, right_within q h)) low in
       there (λ r. r.y ≡ q.y + q.s) c (q.y + q.s) w
-      (begins_below t tiling q w.square c h lo hi w.is (covers_from c (q.y + q.s) w.square w.on.left w.on.right w.on.top w.on.bottom))
+      (square_below_begins_at_the_bottom t tiling q w.square c h lo hi w.is (covers_from c (q.y + q.s) w.square w.on.left w.on.right w.on.top w.on.bottom))
 
   -- two squares of one column's side at one level are one
   pub same_right : (q r : Square) (y : ℕ) → IsOneOf q t.squares → IsOneOf r t.squares → q.x + q.s ≡ r.x + r.s → q.y ≤ y → y < q.y + q.s

@@ -14,7 +14,7 @@ fn added(alike: &mut Alike, line: u64, tiling: &Tiling) -> Result<(), AddFault> 
     alike.add(line, tiling)
 }
 
-// Whether there are so many items, and so many groups.
+// Whether the list has these numbers of items and of groups.
 fn are_counts(alike: &Alike, items: usize, groups: usize) -> bool {
     alike.len() == items && alike.groups() == groups
 }

@@ -113,7 +113,8 @@ fn push_times(text: &str, times: usize, list: &mut Vec<u8>) -> Result<(), AllocE
     Ok(())
 }
 
-// Two strips of width 2. Each has so many squares of side 2, and so many rows of two squares of side 1 below.
+// Two strips of width 2. Each is given by its number of squares of side 2, and by that of its rows of two squares of
+// side 1 below them.
 fn list_of_strips(alloc: Global, strips: [(usize, usize); 2]) -> Result<Vec<u8>, AllocError> {
     let mut list = Vec::new(alloc);
     for (squares, rows) in strips {

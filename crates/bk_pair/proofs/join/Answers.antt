@@ -9,7 +9,7 @@ use Rattle.bk_pair.proofs.join.Goals as goal
 
 pub returns-in-None-shared_side-clause-perfect : goal.returns-in-None-shared_side-clause-perfect
 returns-in-None-shared_side-clause-perfect c =
-    subst IsPerfect (sym c.laid.ensures) (perfect_square c.args.a.now c.args.b.now c.in-None-shared_side.ensures.none)
+    subst IsPerfect (sym c.joined_square.ensures) (perfect_square c.args.a.now c.args.b.now c.in-None-shared_side.ensures.none)
 
 -- what can't be laid together is no pair
 no_pair : (a b : Tiling) (fault : PairFault) → IsLayingFault a b fault → IsPairFault a b fault
@@ -22,8 +22,8 @@ no_pair a b (Twice side) is = absurd is
 pub shared_side-requires : goal.shared_side-requires
 shared_side-requires c = (c.in-None.ensures.none).few
 
-pub laid-requires : goal.laid-requires
-laid-requires c = c.in-None.ensures.none
+pub joined_square-requires : goal.joined_square-requires
+joined_square-requires c = c.in-None.ensures.none
 
 pub returns-in-Some-clause-refused : goal.returns-in-Some-clause-refused
 returns-in-Some-clause-refused c = no_pair c.args.a.now c.args.b.now c.in-Some.fault c.in-Some.ensures.some
@@ -35,4 +35,4 @@ pub returns-in-None-shared_side-clause-pair : goal.returns-in-None-shared_side-c
 returns-in-None-shared_side-clause-pair c = record { laid = c.in-None.ensures.none; differ = c.in-None-shared_side.ensures.none }
 
 pub returns-in-None-shared_side-clause-joined : goal.returns-in-None-shared_side-clause-joined
-returns-in-None-shared_side-clause-joined c = c.laid.ensures
+returns-in-None-shared_side-clause-joined c = c.joined_square.ensures

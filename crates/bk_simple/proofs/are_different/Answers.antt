@@ -6,7 +6,7 @@ use Rattle.std.proofs.lemmas.Bool.Decides.{Decides-eqb, not_from_Decides}
 use Rattle.std.proofs.lemmas.List.{length-set}
 use Rattle.std.proofs.lemmas.List.Elements.{Decides-contains, contains_decides}
 use Rattle.bk_laws.proofs.Membership.{differs-from_earlier_by_search, not_all_differ-by_search}
-use Rattle.bk_simple.proofs.DifferentNumbers.{apart_all, apart_more, marked_more, new_by_remainder}
+use Rattle.bk_simple.proofs.DifferentNumbers.{all_numbers_apart_differ, apart_with_one_number_more, marked_more, new_by_remainder}
 use Rattle.bk_simple.proofs.are_different.Goals as goal
 use Rattle.bk_simple.proofs.are_different.Goals.{else-marked-remainder-via-else-marked-remainder, else-marked-remainder-via-then-marked-remainder+else-contains}
 
@@ -24,7 +24,7 @@ returns-then-contains c = (
 pub loop-i-preserved : goal.loop-i-preserved
 loop-i-preserved c = record {
   long = length-set c.loop-i.marked (get_or c.args.numbers.now c.loop-i.i 0 % 256) true ∙ c.loop-i.invariant.long;
-  apart = apart_more c.args.numbers.now c.loop-i.i c.loop-i.invariant.apart (elim c.else-marked-remainder.branch [
+  apart = apart_with_one_number_more c.args.numbers.now c.loop-i.i c.loop-i.invariant.apart (elim c.else-marked-remainder.branch [
     | else-marked-remainder-via-then-marked-remainder+else-contains w ↦ differs-from_earlier_by_search c.args.numbers.now c.loop-i.i c.loop-i-test.true
         (not_from_Decides w.contains.result (told _ _ _ w.contains.ensures.cases) w.if-contains.false)
     | else-marked-remainder-via-else-marked-remainder w ↦
@@ -34,4 +34,4 @@ loop-i-preserved c = record {
 }
 
 pub returns : goal.returns
-returns c = (λ _. apart_all c.args.numbers.now c.loop-i.i c.loop-i-test.false c.loop-i.invariant.apart, λ _. refl)
+returns c = (λ _. all_numbers_apart_differ c.args.numbers.now c.loop-i.i c.loop-i-test.false c.loop-i.invariant.apart, λ _. refl)

@@ -4,7 +4,7 @@ use Rattle.std.proofs.lemmas.Bool.{eq-eqb, eqb-true, false_from_ne_true, falseâ‰
 use Rattle.bk_tiling.specs.Tiling.{IsTiling, Tiling}
 use Rattle.bk_tiling.specs.declared.Square.{Square}
 use Rattle.bk_simple.proofs.SideWalks.{AreNext, left_low, none_but_whole, walk_all, walk_crossed, walk_more, walk_start}
-use Rattle.bk_simple.proofs.TopRuns.{begins_right, run_of}
+use Rattle.bk_simple.proofs.TopRuns.{begins_right, squares_at_a_level_are_a_run}
 use Rattle.bk_laws.proofs.FixedWidths.{number_below_fits}
 use Rattle.bk_simple.proofs.KeptEdges.{edges_of_kept_fit, next_place_fits, place_in_memory_fits}
 use Rattle.bk_simple.proofs.has_none_under.Goals as goal
@@ -47,7 +47,7 @@ next c tiling =
 pub loop-k-init : goal.loop-k-init
 loop-k-init c tiling =
     let t : Tiling = c.args.tiling.now in
-    let run = run_of t tiling c.args.i none c.args.last c.requires.places.0 c.requires.places.1 c.requires.level in
+    let run = squares_at_a_level_are_a_run t tiling c.args.i none c.args.last c.requires.places.0 c.requires.places.1 c.requires.level in
     let apart = rw c.squares-squares.ensures.value at c.if-left_end-right_end.false in
     rw c.squares-squares.ensures.value
     (walk_start t tiling none c.args.i c.args.last (right_of t c.args.last) run (Î» e. apart (omega (arith, e, c.requires.level))))

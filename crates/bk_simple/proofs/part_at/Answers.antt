@@ -1,9 +1,9 @@
 use Rattle.std.proofs.Common.{false, true, arith, ◌≡◌, get_or, ◌+◌, ◌<◌, ◌^◌}
 use Rattle.bk_tiling.specs.declared.Square.{Square}
-use Rattle.bk_simple.proofs.PartTrials.{none_between, none_cut, none_single, none_whole, part_at_from}
+use Rattle.bk_simple.proofs.PartTrials.{no_part_with_corners_where_none_is_between, none_cut, none_single, none_whole, part_at_from}
 use Rattle.bk_simple.specs.Border.{rectangle_of}
 use Rattle.bk_tiling.specs.Sharing.{EdgesFit}
-use Rattle.bk_simple.proofs.UncutParts.{side_at}
+use Rattle.bk_simple.proofs.UncutParts.{square_at_a_place_has_a_side}
 use Rattle.bk_tiling.specs.Tiling.{Rectangle}
 use Rattle.bk_simple.specs.CornerSquares.{IsBetween}
 use Rattle.bk_simple.proofs.KeptEdges.{edges_of_kept_fit, next_place_fits, place_in_memory_fits}
@@ -20,7 +20,8 @@ corner_fits p q r corners fits = (omega (arith, corners.right, fits.1), omega (a
 pub returns-in_err-tried-clause-none : goal.returns-in_err-tried-clause-none
 returns-in_err-tried-clause-none c =
     rw c.from_residual.ensures
-    (none_between c.args.tiling.now c.squares-squares.ensures.kept.tiling c.args.i c.args.j none c.args.ends.0 c.args.ends.1 c.requires.right
+    (no_part_with_corners_where_none_is_between c.args.tiling.now c.squares-squares.ensures.kept.tiling c.args.i c.args.j none c.args.ends.0 c.args.ends.1
+    c.requires.right
     c.requires.bottom c.requires.first c.requires.last
     (rw c.squares-squares.ensures.value at c.in_err-tried.ensures.none))
 
@@ -72,8 +73,8 @@ between-requires-clause-q_fits c =
 pub between-requires-clause-sides : goal.between-requires-clause-sides
 between-requires-clause-sides c =
     rw c.squares-squares.ensures.value (
-      side_at c.args.tiling.now c.squares-squares.ensures.kept.tiling c.args.i none c.requires.first,
-      side_at c.args.tiling.now c.squares-squares.ensures.kept.tiling c.args.j none c.requires.last,
+      square_at_a_place_has_a_side c.args.tiling.now c.squares-squares.ensures.kept.tiling c.args.i none c.requires.first,
+      square_at_a_place_has_a_side c.args.tiling.now c.squares-squares.ensures.kept.tiling c.args.j none c.requires.last,
     )
 
 pub returns-in_err-tried-clause-part : goal.returns-in_err-tried-clause-part

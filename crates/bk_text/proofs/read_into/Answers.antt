@@ -7,8 +7,9 @@ use Rattle.bk_text.specs.LineReading.{next_line_place}
 use Rattle.bk_text.specs.CodeLine.{IsLine}
 use Rattle.bk_text.specs.declared.reader.Place.{Place}
 use Rattle.bk_text.specs.declared.reader.Place.TheVariants.{Start}
-use Rattle.bk_text.proofs.LineRange.{fault_is, range_is, read_is}
-use Rattle.bk_text.proofs.Progress.{Progress, group_fits, last_fits, line_found, many_found, no_ending, no_next, one_further, side_fits}
+use Rattle.bk_text.proofs.LineRange.{range_is, read_is, told_many_sides_are_the_fault}
+use Rattle.bk_text.proofs.Progress.{Progress, gathered_line_was_read, group_fits, last_fits, many_found, no_line_where_none_may_end}
+use Rattle.bk_text.proofs.Progress.{no_line_where_the_reader_stops, progress_to_the_next_place_of_bytes, side_fits}
 use Rattle.bk_text.proofs.Strides.{from, from_is_drop, none_further, several_further}
 use Rattle.bk_text.proofs.read_into.Goals as goal
 
@@ -38,7 +39,7 @@ bytes-preserved-then-taken-gt0 c = record {
 
 pub returns-in_default-clause-fault : goal.returns-in_default-clause-fault
 returns-in_default-clause-fault c =
-    no_next c.args.line.now c.bytes.at c.take_ahead-taken.new.place c.take_ahead-taken.new.self (omega arith)
+    no_line_where_the_reader_stops c.args.line.now c.bytes.at c.take_ahead-taken.new.place c.take_ahead-taken.new.self (omega arith)
     (none_further c.args.line.now c.bytes.at c.take_ahead-taken.result c.bytes.place c.take_ahead-taken.new.place c.bytes.gatherer c.take_ahead-taken.new.self
     (omega arith) c.bytes.invariant.read
     c.take_ahead-taken.ensures.was c.take_ahead-taken.ensures.leads)
@@ -61,7 +62,7 @@ bytes-preserved c = record {
   within = omega (arith, c.bytes-test.true);
   read = subst (Progress (take (c.bytes.at + 1) c.args.line.now) c.in-Some.next)
       (ap (λ k. gathered_after c.take_ahead-taken.new.place k c.take_ahead-taken.new.self) (sym c.kind_of-kind.ensures) ∙ sym c.take.ensures.after)
-      (one_further c.args.line.now c.bytes.at c.take_ahead-taken.new.place c.in-Some.next c.take_ahead-taken.new.self (omega arith)
+      (progress_to_the_next_place_of_bytes c.args.line.now c.bytes.at c.take_ahead-taken.new.place c.in-Some.next c.take_ahead-taken.new.self (omega arith)
       (none_further c.args.line.now c.bytes.at c.take_ahead-taken.result c.bytes.place c.take_ahead-taken.new.place c.bytes.gatherer c.take_ahead-taken.new.self
       (omega arith) c.bytes.invariant.read
       c.take_ahead-taken.ensures.was c.take_ahead-taken.ensures.leads)
@@ -74,7 +75,7 @@ whole bs i p g all progress = subst (λ (z : List ℕ). Progress z p g) (take_al
 
 pub returns-in-None-clause-fault : goal.returns-in-None-clause-fault
 returns-in-None-clause-fault c =
-    no_ending c.args.line.now c.bytes.place c.bytes.gatherer
+    no_line_where_none_may_end c.args.line.now c.bytes.place c.bytes.gatherer
     (whole c.args.line.now c.bytes.at c.bytes.place c.bytes.gatherer (omega arith) c.bytes.invariant.read)
     (sym c.ending.ensures ∙ c.in-None.is)
 
@@ -87,7 +88,7 @@ whole_line c = whole c.args.line.now c.bytes.at c.bytes.place c.bytes.gatherer (
 
 pub returns-in-Some-ending-clause-fault : goal.returns-in-Some-ending-clause-fault
 returns-in-Some-ending-clause-fault c =
-    fault_is c.ended.result c.take_last.new.self.many c.args.line.now c.ended.ensures.many c.ended.ensures.full
+    told_many_sides_are_the_fault c.ended.result c.take_last.new.self.many c.args.line.now c.ended.ensures.many c.ended.ensures.full
     (λ many. many_found c.args.line.now c.bytes.place c.bytes.gatherer c.in-Some-ending.ending (whole_line c) c.take_last.ensures.was
     (sym c.ending.ensures ∙ c.in-Some-ending.is)
     (subst (λ (g : Gathered). g.many ≡ true) c.take_last.ensures.after many))
@@ -96,7 +97,7 @@ pub returns-in-Some-ending-clause-read : goal.returns-in-Some-ending-clause-read
 returns-in-Some-ending-clause-read c =
     read_is c.ended.result c.in-Some-ending.ending c.take_last.new.self c.args.line.now c.ended.ensures.few
     (λ few. subst (λ (g : Gathered). IsLine (line_gathered c.in-Some-ending.ending g) c.args.line.now) (sym c.take_last.ensures.after)
-    (line_found c.args.line.now c.bytes.place c.bytes.gatherer c.in-Some-ending.ending (whole_line c) c.take_last.ensures.was
+    (gathered_line_was_read c.args.line.now c.bytes.place c.bytes.gatherer c.in-Some-ending.ending (whole_line c) c.take_last.ensures.was
     (sym c.ending.ensures ∙ c.in-Some-ending.is)
     (subst (λ (g : Gathered). g.many ≡ false) c.take_last.ensures.after few)))
 

@@ -18,7 +18,7 @@ use Rattle.bk_word.specs.declared.Sign.{Sign}
 use Rattle.bk_lay.proofs.Depicting.{FirstIs, LastIs, signs_new}
 use Rattle.bk_lay.proofs.Joining.{levels}
 use Rattle.bk_lay.proofs.Places.{HasFirst, HasLast, Placed, depth_from_end, placed}
-use Rattle.bk_lay.proofs.LaidRuns.{new_levels, run_of}
+use Rattle.bk_lay.proofs.LaidRuns.{levels_of_runs_are_the_bottoms, run_under_a_square}
 use Rattle.bk_lay.specs.Depiction.{IsSegment}
 use Rattle.bk_lay.specs.TilingWord.{IsLeftmostValley, depth_before, depth_from, signs_between}
 use Rattle.bk_word_net.specs.LaidOutline.{FillsValley, ShowsLaid}
@@ -126,7 +126,7 @@ module _ (width : ℕ) (laid : List Square) (o : Outline) (s : ShowsLaid width l
     runs_new : (x : ℕ) (sides : List ℕ) → ((q : Square) → IsOneOf q (laid_group x v.level sides) → IsOneOf q (laid_group v.x v.level new))
         → (end : ℕ) → x + total sides ≡ end → (rest : List Segment)
         → AreRuns width (laid ++ laid_group v.x v.level new) end rest
-        → AreRuns width (laid ++ laid_group v.x v.level new) x (map run_of (laid_group x v.level sides) ++ rest)
+        → AreRuns width (laid ++ laid_group v.x v.level new) x (map run_under_a_square (laid_group x v.level sides) ++ rest)
     runs_new x [] f end c rest cut = subst (λ (y : ℕ). AreRuns width (laid ++ laid_group v.x v.level new) y rest) (omega (arith, c)) cut
     runs_new x (a ∷ sides) f end c rest cut = (refl, own, runs_new (x + a) sides (λ r h. f r (inr h)) end (omega (arith, c)) rest cut)
       where
@@ -136,7 +136,7 @@ module _ (width : ℕ) (laid : List Square) (o : Outline) (s : ShowsLaid width l
         here : IsOneOf (record { x = x; y = v.level; s = a }) (laid_group v.x v.level new)
         here = f (record { x = x; y = v.level; s = a }) (inl refl)
 
-        own : IsLevel width (laid ++ laid_group v.x v.level new) (run_of (record { x = x; y = v.level; s = a }))
+        own : IsLevel width (laid ++ laid_group v.x v.level new) (run_under_a_square (record { x = x; y = v.level; s = a }))
         own = record {
           some = group_sides v.x v.level new positive (record { x = x; y = v.level; s = a }) here;
           within = let w = flat.within in omega (arith, (group_within v.x v.level new (record { x = x; y = v.level; s = a }) here).1, fills);
@@ -149,8 +149,9 @@ module _ (width : ℕ) (laid : List Square) (o : Outline) (s : ShowsLaid width l
 
     -- after the move the columns are cut into the runs before, the new ones, and those behind
     pub runs_all : (x : ℕ) (before after : List Segment) → AreRuns width laid x (before ++ v ∷ after)
-        → AreRuns width (laid ++ laid_group v.x v.level new) x (before ++ map run_of (laid_group v.x v.level new) ++ after)
-    runs_all x [] after cut = subst (λ (y : ℕ). AreRuns width (laid ++ laid_group v.x v.level new) y (map run_of (laid_group v.x v.level new) ++ after)) cut.0
+        → AreRuns width (laid ++ laid_group v.x v.level new) x (before ++ map run_under_a_square (laid_group v.x v.level new) ++ after)
+    runs_all x [] after cut = subst (λ (y : ℕ). AreRuns width (laid ++ laid_group v.x v.level new) y
+        (map run_under_a_square (laid_group v.x v.level new) ++ after)) cut.0
         (runs_new v.x new (λ q h. h) (v.x + v.width) (omega (arith, fills)) after
         (subst (λ (y : ℕ). AreRuns width (laid ++ laid_group v.x v.level new) y after) (omega (arith, cut.0))
         (runs_after (x + v.width) after (omega (arith, cut.0)) cut.2)))
@@ -161,14 +162,14 @@ module _ (width : ℕ) (laid : List Square) (o : Outline) (s : ShowsLaid width l
     )
 
     -- after the move the signs compare the levels of the runs
-    pub new_signs : signs_apart o m ≡ signs_between (levels (before ++ map run_of (laid_group v.x v.level new) ++ after))
+    pub new_signs : signs_apart o m ≡ signs_between (levels (before ++ map run_under_a_square (laid_group v.x v.level new) ++ after))
     new_signs = (λ i. take (number_levels i - 1) (level_signs i) ++ signs i ++ drop (number_levels i + 1) (level_signs i))
         ∙ signs_new (levels before) (depth_before laid v.x) v.level (levels after) (depth_from width laid (v.x + v.width))
         (map (λ q. q.y + q.s) (laid_group v.x v.level new)) last_is first_is
         ∙ ap signs_between (sym cut)
       where
-        cut : levels (before ++ map run_of (laid_group v.x v.level new) ++ after) ≡ levels before
+        cut : levels (before ++ map run_under_a_square (laid_group v.x v.level new) ++ after) ≡ levels before
             ++ map (λ q. q.y + q.s) (laid_group v.x v.level new) ++ levels after
-        cut = map-append (λ r. r.level) (before ++ map run_of (laid_group v.x v.level new)) after
-            ∙ ap (λ ls. ls ++ levels after) (map-append (λ r. r.level) before (map run_of (laid_group v.x v.level new))
-            ∙ ap (λ ls. levels before ++ ls) (new_levels (laid_group v.x v.level new)))
+        cut = map-append (λ r. r.level) (before ++ map run_under_a_square (laid_group v.x v.level new)) after
+            ∙ ap (λ ls. ls ++ levels after) (map-append (λ r. r.level) before (map run_under_a_square (laid_group v.x v.level new))
+            ∙ ap (λ ls. levels before ++ ls) (levels_of_runs_are_the_bottoms (laid_group v.x v.level new)))

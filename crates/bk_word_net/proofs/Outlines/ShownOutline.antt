@@ -21,7 +21,7 @@ use Rattle.bk_word.specs.Word.{Move}
 use Rattle.bk_word.specs.declared.Sign.{Sign}
 use Rattle.bk_lay.proofs.Joining.{Joined, join, levels}
 use Rattle.bk_lay.proofs.Places.{HasFirst, HasLast}
-use Rattle.bk_lay.proofs.LaidRuns.{new_segments, one_of, run_of, segment_more}
+use Rattle.bk_lay.proofs.LaidRuns.{new_segments, one_of, run_under_a_square, segment_more}
 use Rattle.bk_lay.specs.Depiction.{IsNumbered, IsSegment}
 use Rattle.bk_lay.specs.TilingWord.{IsLeftmostValley, depth_before, depth_from, signs_between}
 use Rattle.bk_word_net.specs.LaidOutline.{ShowsLaid}
@@ -39,10 +39,11 @@ module _ (width : ℕ) (laid : List Square) (o : Outline) (s : ShowsLaid width l
     new_count : length (laid_group v.x v.level new) ≡ m.count
     new_count = length_group v.x v.level new ∙ count
 
-    new_zip : AllZip (IsSegment (laid ++ laid_group v.x v.level new)) (before ++ map run_of (laid_group v.x v.level new) ++ after) (segments_apart o m)
-    new_zip = zip_append (IsSegment (laid ++ laid_group v.x v.level new)) (before ++ map run_of (laid_group v.x v.level new)) after
+    new_zip : AllZip (IsSegment (laid ++ laid_group v.x v.level new)) (before ++ map run_under_a_square (laid_group v.x v.level new) ++ after)
+        (segments_apart o m)
+    new_zip = zip_append (IsSegment (laid ++ laid_group v.x v.level new)) (before ++ map run_under_a_square (laid_group v.x v.level new)) after
         (take (valley_place o.signs) o.segments ++ map (λ q. q ∷ []) (new_squares o m)) (drop (valley_place o.signs + 1) o.segments)
-        (zip_append (IsSegment (laid ++ laid_group v.x v.level new)) before (map run_of (laid_group v.x v.level new))
+        (zip_append (IsSegment (laid ++ laid_group v.x v.level new)) before (map run_under_a_square (laid_group v.x v.level new))
         (take (valley_place o.signs) o.segments) (map (λ q. q ∷ []) (new_squares o m)) fronts news) backs
       where
         fronts : AllZip (IsSegment (laid ++ laid_group v.x v.level new)) before (take (valley_place o.signs) o.segments)
@@ -51,9 +52,9 @@ module _ (width : ℕ) (laid : List Square) (o : Outline) (s : ShowsLaid width l
             (subst (λ (n : ℕ). AllZip (IsSegment laid) before (take n o.segments)) (sym number) (zip_before (IsSegment laid) before v after o.segments (zip
             width laid o s before v after is found number left right)))
 
-        news : AllZip (IsSegment (laid ++ laid_group v.x v.level new)) (map run_of (laid_group v.x v.level new))
+        news : AllZip (IsSegment (laid ++ laid_group v.x v.level new)) (map run_under_a_square (laid_group v.x v.level new))
             (map (λ q. q ∷ []) (numbers_from (length o.hung + 1) m.count))
-        news = subst (λ (k : ℕ). AllZip (IsSegment (laid ++ laid_group v.x v.level new)) (map run_of (laid_group v.x v.level new))
+        news = subst (λ (k : ℕ). AllZip (IsSegment (laid ++ laid_group v.x v.level new)) (map run_under_a_square (laid_group v.x v.level new))
             (map (λ q. q ∷ []) (numbers_from (length o.hung + 1) k))) new_count
             (new_segments (laid ++ laid_group v.x v.level new) laid (laid_group v.x v.level new) refl (length o.hung) (sym s.count))
 
@@ -133,14 +134,14 @@ module _ (width : ℕ) (laid : List Square) (o : Outline) (s : ShowsLaid width l
     }
       where
         joins : (level : ℕ) × Joined width (laid ++ laid_group v.x v.level new) sides 0 level
-            (joined (signs_between (levels (before ++ map run_of (laid_group v.x v.level new) ++ after))) (segments_apart o m))
-            (filter parts (signs_between (levels (before ++ map run_of (laid_group v.x v.level new) ++ after))))
-        joins = join_all (before ++ map run_of (laid_group v.x v.level new) ++ after) (segments_apart o m)
+            (joined (signs_between (levels (before ++ map run_under_a_square (laid_group v.x v.level new) ++ after))) (segments_apart o m))
+            (filter parts (signs_between (levels (before ++ map run_under_a_square (laid_group v.x v.level new) ++ after))))
+        joins = join_all (before ++ map run_under_a_square (laid_group v.x v.level new) ++ after) (segments_apart o m)
             (omega (
               arith,
-              length-append (before ++ map run_of (laid_group v.x v.level new)) after,
-              length-append before (map run_of (laid_group v.x v.level new)),
-              length-map (laid_group v.x v.level new) run_of,
+              length-append (before ++ map run_under_a_square (laid_group v.x v.level new)) after,
+              length-append before (map run_under_a_square (laid_group v.x v.level new)),
+              length-map (laid_group v.x v.level new) run_under_a_square,
               new_count,
               some,
             ))
@@ -148,6 +149,6 @@ module _ (width : ℕ) (laid : List Square) (o : Outline) (s : ShowsLaid width l
             Segment). AreRuns width laid 0 runs) is s.cut)) new_zip
 
         j : Joined width (laid ++ laid_group v.x v.level new) sides 0 joins.0
-            (joined (signs_between (levels (before ++ map run_of (laid_group v.x v.level new) ++ after))) (segments_apart o m))
-            (filter parts (signs_between (levels (before ++ map run_of (laid_group v.x v.level new) ++ after))))
+            (joined (signs_between (levels (before ++ map run_under_a_square (laid_group v.x v.level new) ++ after))) (segments_apart o m))
+            (filter parts (signs_between (levels (before ++ map run_under_a_square (laid_group v.x v.level new) ++ after))))
         j = joins.1

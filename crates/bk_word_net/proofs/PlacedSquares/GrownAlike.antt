@@ -18,7 +18,7 @@ use Rattle.bk_word.specs.Play.{after_move}
 use Rattle.bk_word.specs.Word.{Move, Word}
 use Rattle.bk_lay.proofs.Filling.{is_under}
 use Rattle.bk_lay.proofs.ValleySquares.{under_chain}
-use Rattle.bk_lay.proofs.ValleySegment.{all_laid, valley_segment}
+use Rattle.bk_lay.proofs.ValleySegment.{valley_segment}
 use Rattle.bk_lay.proofs.Valleys.{one_leftmost_valley}
 use Rattle.bk_lay.specs.Depiction.{IsNumbered, IsSegment}
 use Rattle.bk_lay.specs.TilingWord.{IsLeftmostValley, MovesFollow, squares_under}

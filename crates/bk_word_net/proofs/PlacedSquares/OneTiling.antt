@@ -14,7 +14,7 @@ use Rattle.bk_tiling.specs.declared.Square.{Square}
 use Rattle.bk_word.specs.Outline.{start}
 use Rattle.bk_word.specs.Play.{after_moves}
 use Rattle.bk_word.specs.Word.{Word}
-use Rattle.bk_lay.proofs.ValleySegment.{all_laid}
+use Rattle.bk_lay.proofs.ValleySegment.{all_squares_laid_at_full_depth}
 use Rattle.bk_lay.proofs.WordPlay.{tiling_word_is_complete}
 use Rattle.bk_lay.specs.TilingWord.{MovesFollow, squares_under}
 use Rattle.bk_word_net.proofs.TilingWords.AlongWord.{AtEnd, along_start, at_end}
@@ -51,7 +51,7 @@ laid_sides_fix_a_tiling t u w tl ul tv uv m n tiling other a b p q l k sides = e
 
         there : IsOneOf r (map (enlarged_square m) tl)
         there = subst (λ (s : Square). IsOneOf s (map (enlarged_square m) tl)) (sym from.2)
-            (in_enlarged m tl from.0 (all_laid t is tl (te.along).fills te.full from.0 from.1))
+            (in_enlarged m tl from.0 (all_squares_laid_at_full_depth t is tl (te.along).fills te.full from.0 from.1))
 
         image : (s : Square) × IsOneOf s ul × (r ≡ enlarged_square n s)
         image = from_enlarged n ul r (subst (IsOneOf r) same there)

@@ -14,7 +14,7 @@ use Rattle.bk_tiling.specs.declared.Square.{Square}
 use Rattle.bk_tiling.proofs.Groups.{IsRow, row_of}
 use Rattle.bk_tiling.proofs.TilingGroups.{one_there}
 use Rattle.bk_tiling.specs.SquareGroups.{square_groups}
-use Rattle.bk_net.proofs.GroupEdges.{at_level, end_within, not_right, width_is}
+use Rattle.bk_net.proofs.GroupEdges.{at_level, end_within, not_right, sides_of_a_group_fill_its_columns}
 use Rattle.bk_net.proofs.GroupSquares.{group_of, in_group, row_is, top_of}
 use Rattle.bk_word.specs.Outline.{Outline}
 use Rattle.bk_lay.proofs.Filling.{in_tiling, is_under}
@@ -153,7 +153,11 @@ module _ (t : Tiling) (laid : List Square) (nodes : List Segment) (o : Outline) 
                   over : (r : Square) × IsOneOf r (squares_under t v) × (covers (group_of t tiling k g is).0.row.end v.level r ≡ true) → ⊥
                   over (r, n, f) = let o = over_from (group_of t tiling k g is).0.row.end v.level r f in
                       not_right t tiling k g is r (new_in r n) ((is_under t laid v tiling a.fills found low r n).level ∙ sym level) o.left o.right
-              wide (inr l) (inr z) = omega (arith, width_is t tiling k g is, begins (cases_lt (group_of t tiling k g is).0.row.first.x v.x))
+              wide (inr l) (inr z) = omega (
+                arith,
+                sides_of_a_group_fill_its_columns t tiling k g is,
+                begins (cases_lt (group_of t tiling k g is).0.row.first.x v.x),
+              )
               wide (inr l) (inl z) = absurd (beyond (at_level t tiling k g is (v.x + v.width) (omega (arith, within.0, at_x)) z))
                 where
                   beyond : (r : Square) × IsOneOf r g × (covers (v.x + v.width) (group_of t tiling k g is).0.row.first.y r ≡ true) → ⊥

@@ -9,7 +9,7 @@ use Rattle.bk_net.proofs.GroupSquares.{group_of, in_group}
 use Rattle.bk_word.specs.Play.{outline_of}
 use Rattle.bk_word.specs.Word.{Word}
 use Rattle.bk_lay.proofs.SquaresOnce.{own_cell}
-use Rattle.bk_lay.proofs.ValleySegment.{all_laid}
+use Rattle.bk_lay.proofs.ValleySegment.{all_squares_laid_at_full_depth}
 use Rattle.bk_lay.specs.Depiction.{Hangs, IsSegment}
 use Rattle.bk_lay.specs.TilingWord.{IsWordOf}
 use Rattle.bk_word_net.proofs.WordFlows.PlacesInLists.{index_of, not_more}
@@ -19,7 +19,7 @@ use Rattle.bk_word_net.proofs.TilingWords.WordNodes.{hung_group, node_apart, nod
 module _ (t : Tiling) (w : Word) (tiling : IsTiling t) (p : IsWordOf t w) where
   -- all squares of the tiling are laid
   pub all_in_laid : (q : Square) → IsOneOf q t.squares → IsOneOf q (e t w tiling p).laid
-  all_in_laid q h = all_laid t tiling (e t w tiling p).laid ((e t w tiling p).along).fills (e t w tiling p).full q h
+  all_in_laid q h = all_squares_laid_at_full_depth t tiling (e t w tiling p).laid ((e t w tiling p).along).fills (e t w tiling p).full q h
 
   -- there are as many nodes as groups
   pub as_many : length (e t w tiling p).nodes ≡ length (square_groups t.squares)

@@ -4,9 +4,9 @@ use Rattle.std.proofs.lemmas.List.{at_drop_all}
 use Rattle.std.specs.Prelude.{drop}
 use Rattle.bk_alike.specs.Alike.{sizes}
 use Rattle.bk_alike.specs.GroupsEnd.{group_lines}
-use Rattle.bk_alike.proofs.ListLoops.{ends_broken, loop_broken, loop_more}
+use Rattle.bk_alike.proofs.ListLoops.{lines_broken_by_a_failed_call, loop_broken, loop_more}
 use Rattle.bk_alike.proofs.GroupMembers.{length-groups, size_within}
-use Rattle.bk_alike.proofs.WrittenLines.{item_at, written_all, written_none}
+use Rattle.bk_alike.proofs.WrittenLines.{item_at, lines_written_where_none_is_left, no_line_written_yet}
 use Rattle.bk_answer.proofs.Failing.{cause-of_error_later, cause-of_same}
 use Rattle.bk_alike.proofs.closing.write_groups.Goals as goal
 
@@ -14,7 +14,7 @@ pub returns-in_err-write_one_group-clause-lines : goal.returns-in_err-write_one_
 returns-in_err-write_one_group-clause-lines g c =
     let below = size_within c.args.items.now c.loop-g.g (subst (λ (n : ℕ). c.loop-g.g < n) c.groups-g-end.ensures c.loop-g-test.true) in
     let at = item_at (sizes c.args.items.now) c.loop-g.g below in
-    ends_broken _ (flat_map (group_lines c.args.items.now) (sizes c.args.items.now)) (g.O.Sink.written c.args.out.now)
+    lines_broken_by_a_failed_call _ (flat_map (group_lines c.args.items.now) (sizes c.args.items.now)) (g.O.Sink.written c.args.out.now)
     (g.O.Sink.written c.write_one_group.new.out) c.from_residual.result c.from_residual.ensures.1
     (loop_broken (group_lines c.args.items.now) (flat_map (group_lines c.args.items.now) (sizes c.args.items.now)) (sizes c.args.items.now) c.loop-g.g
     at.item (g.O.Sink.written c.args.out.now) (g.O.Sink.written c.loop-g.out) (g.O.Sink.written c.write_one_group.new.out)
@@ -33,7 +33,7 @@ loop-g-preserved g c =
     }
 
 pub loop-g-init : goal.loop-g-init
-loop-g-init g c = record { written = written_none _ _; same = refl }
+loop-g-init g c = record { written = no_line_written_yet _ _; same = refl }
 
 pub write_one_group-requires : goal.write_one_group-requires
 write_one_group-requires g c = size_within c.args.items.now c.loop-g.g (subst (λ (n : ℕ). c.loop-g.g < n) c.groups-g-end.ensures c.loop-g-test.true)
@@ -44,7 +44,7 @@ returns-in_err-write_one_group-clause-cause g c =
 
 pub returns-clause-lines : goal.returns-clause-lines
 returns-clause-lines g c =
-    written_all (flat_map (group_lines c.args.items.now) (sizes c.args.items.now))
+    lines_written_where_none_is_left (flat_map (group_lines c.args.items.now) (sizes c.args.items.now))
     (flat_map (group_lines c.args.items.now) (drop c.loop-g.g (sizes c.args.items.now))) _ _ c.loop-g.invariant.written
     (at_drop_all (flat_map (group_lines c.args.items.now)) (sizes c.args.items.now) c.loop-g.g
     (omega (arith, c.loop-g-test.false, c.groups-g-end.ensures, length-groups c.args.items.now (sizes c.args.items.now))))

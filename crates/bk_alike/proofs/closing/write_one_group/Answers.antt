@@ -5,7 +5,7 @@ use Rattle.bk_report.specs.ListLines.{group_line}
 use Rattle.bk_alike.specs.Alike.{sizes}
 use Rattle.bk_alike.specs.GroupsEnd.{group_lines, member_at}
 use Rattle.bk_alike.specs.WrittenLines.{WritesLines}
-use Rattle.bk_alike.proofs.ListLoops.{ends_broken, first_broken, first_then}
+use Rattle.bk_alike.proofs.ListLoops.{first_broken, first_line_written_then_the_others, lines_broken_by_a_failed_call}
 use Rattle.bk_alike.proofs.GroupMembers.{length-groups, lines_of_group, places_below}
 use Rattle.bk_answer.proofs.Failing.{cause-of_error}
 use Rattle.bk_alike.proofs.closing.write_one_group.Goals as goal
@@ -14,7 +14,7 @@ pub returns-in_err-write_all-clause-lines : goal.returns-in_err-write_all-clause
 returns-in_err-write_all-clause-lines g c a e =
     let b = c.size-width.result in
     let members = c.members-members.result.now in
-    ends_broken _ (group_lines c.args.items.now a) (g.O.Sink.written c.args.out.now) (g.O.Sink.written c.write_all.new.self)
+    lines_broken_by_a_failed_call _ (group_lines c.args.items.now a) (g.O.Sink.written c.args.out.now) (g.O.Sink.written c.write_all.new.self)
     c.from_residual.result c.from_residual.ensures.1
     (subst (λ (l : List (List ℕ)). AppendsPrefix (g.O.Sink.written c.args.out.now) (g.O.Sink.written c.write_all.new.self) (concat l))
     (sym (lines_of_group c.args.items.now c.args.g a b members c.size-width.ensures c.members-members.ensures e))
@@ -32,7 +32,7 @@ returns-clause-lines g c a e =
     let members = c.members-members.result.now in
     subst (λ (l : List (List ℕ)). WritesLines l (g.O.Sink.written c.args.out.now) (g.O.Sink.written c.write_members.new.out) c.write_members.result)
     (sym (lines_of_group c.args.items.now c.args.g a b members c.size-width.ensures c.members-members.ensures e))
-    (first_then (group_line b.0 b.1 (length members)) c.as_slice.result.now (flat_map (member_at c.args.items.now) members)
+    (first_line_written_then_the_others (group_line b.0 b.1 (length members)) c.as_slice.result.now (flat_map (member_at c.args.items.now) members)
     (g.O.Sink.written c.args.out.now) (g.O.Sink.written c.write_all.new.self) (g.O.Sink.written c.write_members.new.out) c.write_members.result
     (c.as_slice.ensures.value ∙ c.write_group.ensures) c.in_ok-write_all.ensures.ok c.write_members.ensures.lines)
 

@@ -13,9 +13,9 @@ use Rattle.bk_pair.proofs.PairTests.{laid_to, pair_to}
 use Rattle.bk_alike.specs.LaterLines.{later_lines}
 use Rattle.bk_alike.specs.Pairs.{is_pair}
 use Rattle.bk_alike.proofs.LaterPairs.{line_behind, no_line_before}
-use Rattle.bk_alike.proofs.ListLoops.{ends_broken}
-use Rattle.bk_alike.proofs.PairLines.{IsItemAt, line_at, tiling_at}
-use Rattle.bk_alike.proofs.WrittenLines.{written_all, written_none}
+use Rattle.bk_alike.proofs.ListLoops.{lines_broken_by_a_failed_call}
+use Rattle.bk_alike.proofs.PairLines.{IsItemAt, number_of_an_item_is_its_line, tiling_at}
+use Rattle.bk_alike.proofs.WrittenLines.{lines_written_where_none_is_left, no_line_written_yet}
 use Rattle.bk_laws.proofs.Outcomes.{if_ok-of_error}
 use Rattle.bk_answer.proofs.Failing.{cause-of_error, cause-of_same}
 use Rattle.bk_alike.proofs.pairs.write_if_pair.Goals as goal
@@ -26,14 +26,15 @@ lines_by : (v : Bool) (kind : Kind) (items : List KeptItem) (i j n m : ℕ) (t u
     → later_lines kind items i a j ≡ cond v (pair_line n m (joined_square t u) ∷ []) []
 lines_by v kind items i j n m t u behind first second is a e =
     let tiling = tiling_at items i n t a first e in
-    let line = line_at items i n t a first e in
+    let line = number_of_an_item_is_its_line items i n t a first e in
     line_behind kind items i j a second.0 behind second.1
     ∙ sym (λ k. cond (is_pair kind (tiling k) (second.3 k)) (pair_line (line k) (second.2 k) (joined_square (tiling k) (second.3 k)) ∷ []) [])
     ∙ ap (λ (b : Bool). cond {A = List (List ℕ)} b (pair_line n m (joined_square t u) ∷ []) []) (sym is)
 
 pub returns-then-j-i-clause-lines : goal.returns-then-j-i-clause-lines
 returns-then-j-i-clause-lines g c a e =
-    written_all _ _ _ _ (written_none _ _) (no_line_before c.args.kind c.args.items.now c.args.places.0 c.args.places.1 a c.if-j-i.true)
+    lines_written_where_none_is_left _ _ _ _ (no_line_written_yet _ _)
+    (no_line_before c.args.kind c.args.items.now c.args.places.0 c.args.places.1 a c.if-j-i.true)
 
 pub returns-then-j-i-clause-count : goal.returns-then-j-i-clause-count
 returns-then-j-i-clause-count g c a e =
@@ -50,7 +51,7 @@ item-second-requires g c = c.requires.second
 
 pub returns-then-not-is_pair-clause-lines : goal.returns-then-not-is_pair-clause-lines
 returns-then-not-is_pair-clause-lines g c a e =
-    written_all _ _ _ _ (written_none _ _) (lines_by false c.args.kind c.args.items.now c.args.places.0 c.args.places.1
+    lines_written_where_none_is_left _ _ _ _ (no_line_written_yet _ _) (lines_by false c.args.kind c.args.items.now c.args.places.0 c.args.places.1
     c.item-first.result.0 c.item-second.result.0 c.item-first.result.1.now c.item-second.result.1.now c.if-j-i.false c.item-first.ensures c.item-second.ensures
     (sym c.if-not-is_pair.true ∙ c.is_pair.ensures) a e)
 
@@ -65,7 +66,7 @@ returns-then-not-is_pair-clause-cause g c = cause-of_same refl
 
 pub returns-in_err-write_square-clause-lines : goal.returns-in_err-write_square-clause-lines
 returns-in_err-write_square-clause-lines g c a e =
-    ends_broken _ (later_lines c.args.kind c.args.items.now c.args.places.0 a c.args.places.1) (g.O.Sink.written c.args.out.now)
+    lines_broken_by_a_failed_call _ (later_lines c.args.kind c.args.items.now c.args.places.0 a c.args.places.1) (g.O.Sink.written c.args.out.now)
     (g.O.Sink.written c.write_square.new.out)
     c.from_residual.result c.from_residual.ensures.1
     (subst (λ (l : List (List ℕ)). AppendsPrefix (g.O.Sink.written c.args.out.now) (g.O.Sink.written c.write_square.new.out) (concat l))

@@ -7,8 +7,8 @@ use Rattle.bk_alike.specs.LaterLines.{later_lines}
 use Rattle.bk_alike.specs.Pairs.{pair_lines}
 use Rattle.bk_alike.proofs.GroupMembers.{place_below}
 use Rattle.bk_alike.proofs.LaterPairs.{pairs_looked_up}
-use Rattle.bk_alike.proofs.ListLoops.{count_next, ends_broken, loop_broken, loop_more}
-use Rattle.bk_alike.proofs.WrittenLines.{written_all, written_from}
+use Rattle.bk_alike.proofs.ListLoops.{count_next, lines_broken_by_a_failed_call, loop_broken, loop_more}
+use Rattle.bk_alike.proofs.WrittenLines.{lines_written_where_none_is_left, written_from}
 use Rattle.bk_laws.proofs.Outcomes.{if_ok-of_error}
 use Rattle.bk_answer.proofs.Failing.{cause-of_error_later, cause-of_same}
 use Rattle.bk_alike.proofs.pairs.write_pairs_with.Goals as goal
@@ -35,7 +35,8 @@ returns-in_err-more-clause-lines g c a e =
     let all : List (List ℕ) = flat_map (pair_lines c.args.kind a) (drop (c.args.i + 1) c.args.items.now) in
     let places = c.of_size-places.result.now in
     let k = c.loop-place.place-index in
-    ends_broken _ all (g.O.Sink.written c.args.out.now) (g.O.Sink.written c.write_if_pair.new.out) c.from_residual.result c.from_residual.ensures.1
+    lines_broken_by_a_failed_call _ all (g.O.Sink.written c.args.out.now)
+    (g.O.Sink.written c.write_if_pair.new.out) c.from_residual.result c.from_residual.ensures.1
     (loop_broken lines all places k (get_or places k 0) (g.O.Sink.written c.args.out.now) (g.O.Sink.written c.loop-place.out)
     (g.O.Sink.written c.write_if_pair.new.out)
     c.loop-place-test.true (slice_get-get_or places k 0 c.loop-place-test.true) (c.loop-place.invariant.written a e) (c.in_err-more.ensures.lines a e))
@@ -76,7 +77,7 @@ returns-in_err-more-clause-cause g c =
 pub returns-clause-lines : goal.returns-clause-lines
 returns-clause-lines g c a e =
     let lines : ℕ → List (List ℕ) = later_lines c.args.kind c.args.items.now c.args.i a in
-    written_all (flat_map (pair_lines c.args.kind a) (drop (c.args.i + 1) c.args.items.now))
+    lines_written_where_none_is_left (flat_map (pair_lines c.args.kind a) (drop (c.args.i + 1) c.args.items.now))
     (flat_map lines (drop c.loop-place.place-index c.of_size-places.result.now)) _ _ (c.loop-place.invariant.written a e)
     (at_drop_all (flat_map lines) c.of_size-places.result.now c.loop-place.place-index c.loop-place-test.false)
 

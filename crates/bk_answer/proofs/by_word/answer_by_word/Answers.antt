@@ -7,7 +7,7 @@ use Rattle.bk_answer.specs.Item.{HasTiling, IsLaidLine}
 use Rattle.bk_answer.specs.Telling.{TellsPieces}
 use Rattle.bk_answer.specs.declared.command.Command.TheVariants.{Memory}
 use Rattle.bk_answer.specs.declared.command.MemoryCommand.TheVariants.{Word}
-use Rattle.bk_answer.proofs.ItemSteps.{is_tiling}
+use Rattle.bk_answer.proofs.ItemSteps.{stated_is_a_tiling}
 use Rattle.bk_answer.proofs.ReplySteps.{line_answer, refusal_replies, replies_more, tells_tiling}
 use Rattle.bk_answer.proofs.by_word.answer_by_word.Goals as goal
 use Rattle.bk_ports.proofs.Pieces.{writes_none}
@@ -16,7 +16,7 @@ pub tell_word-requires : goal.tell_word-requires
 tell_word-requires g c =
     let has : HasTiling c.args.line.now c.in-Ok-Some.tiling.now =
     subst (λ (o : Option (Bor Tiling)). IsLaidLine c.args.line.now (option_copied o)) c.in-Ok-Some.field-0-is c.in-Ok-Some.ensures.laid in
-    is_tiling has.item c.in-Ok-Some.tiling.now has.stated
+    stated_is_a_tiling has.item c.in-Ok-Some.tiling.now has.stated
 
 pub returns-in-Ok-Some-clause-reply : goal.returns-in-Ok-Some-clause-reply
 returns-in-Ok-Some-clause-reply g c =

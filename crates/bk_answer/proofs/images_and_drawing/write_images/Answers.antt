@@ -5,7 +5,7 @@ use Rattle.bk_sym.specs.Turns.{turns}
 use Rattle.bk_sym.specs.declared.Turn.{Turn}
 use Rattle.bk_sym.specs.declared.Turn.TheVariants.{Same}
 use Rattle.bk_report.specs.Answers.{tiling_line}
-use Rattle.bk_answer.proofs.PieceByPiece.{written_all, written_more, written_part}
+use Rattle.bk_answer.proofs.PieceByPiece.{pieces_written_where_none_is_left, pieces_written_with_one_more, written_part}
 use Rattle.bk_answer.proofs.Failing.{cause-of_error_later}
 use Rattle.bk_laws.proofs.Outcomes.{on_err-intro}
 use Rattle.bk_answer.proofs.images_and_drawing.write_images.Goals as goal
@@ -27,7 +27,7 @@ returns-in_err-write_all-clause-cause g c =
 
 pub loop-which-preserved : goal.loop-which-preserved
 loop-which-preserved g c = (
-  written_more (image_lines c.args.tiling.now) c.loop-which.which-index c.as_slice.result.now
+  pieces_written_with_one_more (image_lines c.args.tiling.now) c.loop-which.which-index c.as_slice.result.now
       (g.O.Sink.written c.args.out.now) (g.O.Sink.written c.loop-which.out) (g.O.Sink.written c.write_all.new.self)
       c.loop-which-test.true
       (c.as_slice.ensures.value ∙ c.write_tiling.ensures ∙ ap tiling_line c.image.ensures.value
@@ -38,5 +38,6 @@ loop-which-preserved g c = (
 
 pub returns-clause-written : goal.returns-clause-written
 returns-clause-written g c =
-    written_all (image_lines c.args.tiling.now) c.loop-which.which-index (g.O.Sink.written c.args.out.now) (g.O.Sink.written c.loop-which.out)
+    pieces_written_where_none_is_left (image_lines c.args.tiling.now) c.loop-which.which-index (g.O.Sink.written c.args.out.now)
+    (g.O.Sink.written c.loop-which.out)
     c.loop-which-test.false c.loop-which.invariant.0

@@ -1,7 +1,7 @@
 use Rattle.std.proofs.Common.{IfErr, IfOk, List, arith, subst, sym, ℕ}
 use Rattle.bk_word.specs.ReadWord.{IsWordFaultOf}
 use Rattle.bk_word.specs.WordText.{IsTextOf}
-use Rattle.bk_ask.proofs.CursorTexts.{HasOrder, IsRead, cursor_read, many_squares}
+use Rattle.bk_ask.proofs.CursorTexts.{HasOrder, IsRead, cursor_read, no_cursor_of_more_than_sixteen_squares}
 use Rattle.bk_ask.proofs.values.cursor_in.Goals as goal
 use Rattle.bk_ask.proofs.values.cursor_in.Goals.{in_default-via-in-Some+else-from-le-LARGEST_LISTED_ORDER, in_default-via-in_default}
 
@@ -23,7 +23,7 @@ returns-in-Some-clause-none c = (is_read c).none
 
 pub returns-in_default-clause-none : goal.returns-in_default-clause-none
 returns-in_default-clause-none c w is = elim c.in_default.branch [
-  | in_default-via-in-Some+else-from-le-LARGEST_LISTED_ORDER b ↦ many_squares c.args.text.now b.in-Some.order
+  | in_default-via-in-Some+else-from-le-LARGEST_LISTED_ORDER b ↦ no_cursor_of_more_than_sixteen_squares c.args.text.now b.in-Some.order
       (subst (λ (text : List ℕ). HasOrder text b.in-Some.order) c.as_bytes.ensures.value b.in-Some.ensures.some) (omega arith) w is
   | in_default-via-in_default b ↦ b.in_default.ensures.none w (subst (λ (t : List ℕ). IsTextOf t w) (sym c.as_bytes.ensures.value) is.text)
 ]

@@ -1,6 +1,6 @@
 use Rattle.std.proofs.Common.{List, [], ap, arith, length, lit<, ℕ, ◌++◌, ◌∙◌, ◌∷◌, ◌≡◌}
 use Rattle.bk_code.specs.Code.{flat}
-use Rattle.bk_code.proofs.Storing.{flat_more, groups_more, sides_room, starts_room, stored_more}
+use Rattle.bk_code.proofs.Storing.{flat_more, groups_more, sides_room, starts_room, stored_code_with_one_group_more}
 use Rattle.bk_code.proofs.Code.begin_group.Goals as goal
 
 pub push-requires : goal.push-requires
@@ -15,7 +15,7 @@ starts c = c.push.ensures.items ∙ ap (λ n. c.self.inside.starts.items ++ n �
 pub invariant_of-self : goal.invariant_of-self
 invariant_of-self c =
     rw (starts c, c.push-2.ensures.items)
-    (stored_more _ _ (c.args.first ∷ []) c.self.invariant (omega arith) (c.requires.side, tt)
+    (stored_code_with_one_group_more _ _ (c.args.first ∷ []) c.self.invariant (omega arith) (c.requires.side, tt)
     (omega (arith, sides_room _ _ _ c.self.invariant c.self.view_is c.requires.room)))
 
 pub returns-clause-group : goal.returns-clause-group

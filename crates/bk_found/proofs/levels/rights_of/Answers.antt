@@ -2,12 +2,12 @@ use Rattle.std.specs.Int.{w64}
 use Rattle.std.specs.Prelude.{pos, ℤ, ◌+ℤ◌}
 use Rattle.std.proofs.Common.{List, ap, arith, lit<, of_z, slice_index_or, subst, sym, to_z, ◌+◌, ◌*◌, ◌^◌, ◌∙◌, ◌≡◌}
 use Rattle.std.proofs.lemmas.Int.{ints}
-use Rattle.bk_found.proofs.LevelSteps.{AreEdges, edges_more, fits_small, held_still, line_found, small_more}
+use Rattle.bk_found.proofs.LevelSteps.{AreEdges, edges_more, fits_small, held_still, line_is_found_where_it_lies, small_number_by_a_greater_bound}
 use Rattle.bk_found.proofs.levels.rights_of.Goals as goal
 
 pub overflow_add-right : goal.overflow_add-right
 overflow_add-right c =
-    let p = (line_found c.args.lefts.now c.args.currents.now c.loop-i.rights.items c.deref.result.now (to_z w64 (of_z w64 c.args.total))
+    let p = (line_is_found_where_it_lies c.args.lefts.now c.args.currents.now c.loop-i.rights.items c.deref.result.now (to_z w64 (of_z w64 c.args.total))
     c.line_place.result c.loop-i.i c.loop-i.invariant c.loop-i-test.true c.requires.few c.requires.known
     (held_still (2 ^ 34) c.args.total c.requires.total (omega arith)) c.deref.ensures.0 c.line_place.ensures).1 in
     let q = c.requires.small c.loop-i.i (omega (arith, c.loop-i-test.true, c.requires.many)) in
@@ -15,7 +15,7 @@ overflow_add-right c =
 
 pub loop-i-preserved : goal.loop-i-preserved
 loop-i-preserved c =
-    let found = line_found c.args.lefts.now c.args.currents.now c.loop-i.rights.items c.deref.result.now (to_z w64 (of_z w64 c.args.total))
+    let found = line_is_found_where_it_lies c.args.lefts.now c.args.currents.now c.loop-i.rights.items c.deref.result.now (to_z w64 (of_z w64 c.args.total))
     c.line_place.result c.loop-i.i c.loop-i.invariant c.loop-i-test.true c.requires.few c.requires.known
     (held_still (2 ^ 34) c.args.total c.requires.total (omega arith)) c.deref.ensures.0 c.line_place.ensures in
     let p = found.1 in
@@ -37,5 +37,5 @@ pub returns-clause-many : goal.returns-clause-many
 returns-clause-many c = omega (arith, c.loop-i.invariant.many, c.loop-i-test.false, c.loop-i.auto.i-end)
 
 pub returns-clause-small : goal.returns-clause-small
-returns-clause-small c = λ k h. small_more ((c.loop-i.i + 1) * 2 ^ 34) (17 * 2 ^ 34) (slice_index_or c.loop-i.rights.items k (pos 0))
+returns-clause-small c = λ k h. small_number_by_a_greater_bound ((c.loop-i.i + 1) * 2 ^ 34) (17 * 2 ^ 34) (slice_index_or c.loop-i.rights.items k (pos 0))
     (c.loop-i.invariant.small k (omega (arith, h, c.loop-i.invariant.many))) (omega (arith, c.loop-i.auto.i-end, c.requires.few))

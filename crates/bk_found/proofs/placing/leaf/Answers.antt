@@ -7,16 +7,18 @@ use Rattle.bk_word.specs.Word.{order_of}
 use Rattle.bk_found.specs.declared.placing.Placed.{Placed}
 use Rattle.bk_found.specs.Placing.{AreSmallNumbers, edges_by_lefts}
 use Rattle.bk_found.proofs.CornerSquares.{never_lost}
-use Rattle.bk_found.proofs.LeafRun.{is_height, is_width}
-use Rattle.bk_found.proofs.LeafRun.{IsLeafRun, flow_shown, held_height, held_small, held_total, leaf_run, lefts_known, lefts_many, net_few}
-use Rattle.bk_found.proofs.LeafRun.{net_joined, net_nodes, never_zero, shown_ends, shown_many, shown_sides, shown_small, wires_many}
+use Rattle.bk_found.proofs.LeafRun.{IsLeafRun, flow_shown, held_height, held_small, held_total, is_height, is_width, leaf_net_has_a_wire_for_each_square}
+use Rattle.bk_found.proofs.LeafRun.{leaf_net_has_few_wires, leaf_net_has_no_loose_node, leaf_run, lefts_known, lefts_many, net_nodes, never_zero, shown_ends}
+use Rattle.bk_found.proofs.LeafRun.{shown_many, shown_sides, shown_small}
 use Rattle.bk_found.proofs.placing.leaf.Goals as goal
 
 pub narrow_flow-flow-requires-clause-few : goal.narrow_flow-flow-requires-clause-few
-narrow_flow-flow-requires-clause-few c = net_few c.args.skel.now c.requires.complete c.requires.few c.small_net-net.result c.small_net-net.ensures
+narrow_flow-flow-requires-clause-few c = leaf_net_has_few_wires c.args.skel.now c.requires.complete c.requires.few c.small_net-net.result
+    c.small_net-net.ensures
 
 pub narrow_flow-flow-requires-clause-joined : goal.narrow_flow-flow-requires-clause-joined
-narrow_flow-flow-requires-clause-joined c = net_joined c.args.skel.now c.requires.complete c.requires.few c.small_net-net.result c.small_net-net.ensures
+narrow_flow-flow-requires-clause-joined c = leaf_net_has_no_loose_node c.args.skel.now c.requires.complete c.requires.few c.small_net-net.result
+    c.small_net-net.ensures
 
 pub returns-then-has_zero : goal.returns-then-has_zero
 returns-then-has_zero c = λ t met lowest class. absurd (never_zero c.args.skel.now c.requires.complete c.requires.few c.small_net-net.result
@@ -183,14 +185,14 @@ levels_of-levels-requires-clause-many c = omega (
       (flow_shown c.small_net-net.result c.narrow_flow-flow.result c.total-total.result c.currents-currents.result.now c.total-total.ensures.value
       c.currents-currents.ensures.value c.narrow_flow-flow.ensures.flow) c.currents-currents.result.now refl,
   ap length c.wires-wires.ensures.value,
-  wires_many c.args.skel.now c.requires.complete c.requires.few c.small_net-net.result c.small_net-net.ensures,
+  leaf_net_has_a_wire_for_each_square c.args.skel.now c.requires.complete c.requires.few c.small_net-net.result c.small_net-net.ensures,
 )
 
 pub levels_of-levels-requires-clause-few : goal.levels_of-levels-requires-clause-few
 levels_of-levels-requires-clause-few c = omega (
   arith,
   ap length c.wires-wires.ensures.value,
-  wires_many c.args.skel.now c.requires.complete c.requires.few c.small_net-net.result c.small_net-net.ensures,
+  leaf_net_has_a_wire_for_each_square c.args.skel.now c.requires.complete c.requires.few c.small_net-net.result c.small_net-net.ensures,
   c.requires.few,
 )
 
@@ -208,7 +210,7 @@ invariant_of-candidate c =
         wires = omega (
           arith,
           ap length c.wires-wires.ensures.value,
-          wires_many c.args.skel.now c.requires.complete c.requires.few c.small_net-net.result c.small_net-net.ensures,
+          leaf_net_has_a_wire_for_each_square c.args.skel.now c.requires.complete c.requires.few c.small_net-net.result c.small_net-net.ensures,
           lefts,
         );
         currents = omega (

@@ -4,7 +4,7 @@ use Rattle.std.proofs.lemmas.List.{append-nil, append_assoc, length-append, leng
 use Rattle.bk_laws.proofs.Outcomes.{option_to_list-at_most_one}
 use Rattle.bk_tiling.specs.declared.Square.{Square}
 use Rattle.bk_word.specs.declared.Sign.{Sign}
-use Rattle.bk_lay.proofs.SignLists.{few_signs, last_after, last_of_levels, signs_after}
+use Rattle.bk_lay.proofs.SignLists.{fewer_signs_than_levels, last_after, last_of_levels, signs_after}
 use Rattle.bk_lay.proofs.SquaresAt.{holds_at}
 use Rattle.bk_lay.specs.LevelRuns.{bottoms_of}
 use Rattle.bk_lay.specs.TilingWord.{signs_between}
@@ -16,7 +16,7 @@ few : (before : Option ℕ) (squares : List Square) (i : ℕ) → i ≤ length s
 few before squares i h =
     omega (
       arith,
-      few_signs (option_to_list before ++ bottoms_of (take i squares)),
+      fewer_signs_than_levels (option_to_list before ++ bottoms_of (take i squares)),
       length-append (option_to_list before) (bottoms_of (take i squares)),
       length-map (take i squares) (λ (q : Square). q.y + q.s),
       length-take-le i squares h,

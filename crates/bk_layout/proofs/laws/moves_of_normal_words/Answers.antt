@@ -1,6 +1,6 @@
 use Rattle.bk_layout.proofs.NormalCuts.NumbersShown.{a_word_shows_numbers}
 use Rattle.bk_layout.proofs.FreeCuts.RunsOfLines.{wall_moves_hang_one}
-use Rattle.bk_layout.proofs.NormalCuts.FewMoves.{a_move_hangs_at_walls, most_moves_are_most, most_moves_stay}
+use Rattle.bk_layout.proofs.NormalCuts.FewMoves.{a_move_hangs_at_walls, most_moves_are_most}
 use Rattle.bk_layout.proofs.NormalCuts.LastMoves.{a_move_leaves_segments}
 use Rattle.bk_layout.proofs.NormalCuts.NextMove.{most_moves_hold_then}
 use Rattle.bk_layout.proofs.laws.moves_of_normal_words.Goals as goal
@@ -19,9 +19,6 @@ returns-clause-a_move_leaves_segments c = a_move_leaves_segments
 
 pub returns-clause-most_moves_are_most : goal.returns-clause-most_moves_are_most
 returns-clause-most_moves_are_most c = most_moves_are_most
-
-pub returns-clause-most_moves_stay : goal.returns-clause-most_moves_stay
-returns-clause-most_moves_stay c = most_moves_stay
 
 pub returns-clause-most_moves_hold_then : goal.returns-clause-most_moves_hold_then
 returns-clause-most_moves_hold_then c = most_moves_hold_then

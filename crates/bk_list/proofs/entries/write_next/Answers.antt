@@ -1,10 +1,9 @@
 use Rattle.std.specs.Io.KnownBytes.{Appends}
-use Rattle.std.proofs.Common.{List, refl, subst, ℕ, ◌∙◌}
+use Rattle.std.proofs.Common.{List, false, refl, subst, true, ℕ, ◌∙◌}
 use Rattle.bk_laws.proofs.Outcomes.{if_ok-of_error, on_err-intro}
 use Rattle.bk_ports.specs.Causes.{AppendsPrefix}
 use Rattle.bk_list.proofs.Exits.{cause_of_exit, no_cause}
 use Rattle.bk_list.proofs.ListingSteps.{same_catalogue, word_has_a_move}
-use Rattle.bk_list.specs.declared.entries.Next.TheVariants.{Member, Nothing}
 use Rattle.bk_list.proofs.entries.write_next.Goals as goal
 
 pub write_entry-requires-clause-some : goal.write_entry-requires-clause-some
@@ -59,7 +58,7 @@ returns-clause-begun g c = tt
 
 pub returns-clause-cause : goal.returns-clause-cause
 returns-clause-cause g c =
-    no_cause (g.O.Sink.faults c.args.out.now) (g.O.Sink.faults c.write_all.new.self) Member (c.in_ok-write_all.ensures.cause).ok
+    no_cause (g.O.Sink.faults c.args.out.now) (g.O.Sink.faults c.write_all.new.self) true (c.in_ok-write_all.ensures.cause).ok
 
 pub returns-clause-catalogue : goal.returns-clause-catalogue
 returns-clause-catalogue g c =
@@ -79,7 +78,7 @@ pub returns-then-not-advance_in-clause-begun : goal.returns-then-not-advance_in-
 returns-then-not-advance_in-clause-begun g c = tt
 
 pub returns-then-not-advance_in-clause-cause : goal.returns-then-not-advance_in-clause-cause
-returns-then-not-advance_in-clause-cause g c = no_cause (g.O.Sink.faults c.args.out.now) (g.O.Sink.faults c.args.out.now) Nothing refl
+returns-then-not-advance_in-clause-cause g c = no_cause (g.O.Sink.faults c.args.out.now) (g.O.Sink.faults c.args.out.now) false refl
 
 pub returns-then-not-advance_in-clause-catalogue : goal.returns-then-not-advance_in-clause-catalogue
 returns-then-not-advance_in-clause-catalogue g c =

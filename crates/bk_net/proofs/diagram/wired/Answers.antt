@@ -7,7 +7,8 @@ use Rattle.bk_tiling.specs.SquareGroups.{square_groups}
 use Rattle.bk_tiling.specs.Tiling.{IsOneOf}
 use Rattle.bk_tiling.specs.declared.Square.{Square}
 use Rattle.bk_net.proofs.Hanging.{groups_few}
-use Rattle.bk_net.proofs.NodeNumbers.{HasEnds, ends_at, numbers_many, wires_many, wires_more}
+use Rattle.bk_net.proofs.NodeNumbers.{HasEnds, diagram_has_a_wire_for_each_square, numbers_many, wire_of_square_ends_at_nodes}
+use Rattle.bk_net.proofs.NodeNumbers.{wires_with_that_of_one_square_more}
 use Rattle.bk_net.specs.Diagram.{node_below, smith_diagram}
 use Rattle.bk_net.specs.Net.{Net}
 use Rattle.bk_net.proofs.diagram.wired.Goals as goal
@@ -49,7 +50,8 @@ to_is groups squares all i to same e = e ∙ ap (λ (l : List Square). node_belo
 ends : (c : goal.After-node_below)
     → HasEnds c.args.tiling.now (c.squares-squares.ensures.kept).tiling (slice_index (group_numbers c.args.tiling.now.squares) c.loop-i.i)
     (node_below (square_groups c.args.tiling.now.squares) (slice_index_or c.args.tiling.now.squares c.loop-i.i nowhere))
-ends c = ends_at c.args.tiling.now (c.squares-squares.ensures.kept).tiling c.loop-i.i nowhere (omega (arith, ap length c.squares-squares.ensures.value))
+ends c = wire_of_square_ends_at_nodes c.args.tiling.now (c.squares-squares.ensures.kept).tiling c.loop-i.i nowhere
+    (omega (arith, ap length c.squares-squares.ensures.value))
 
 pub add-requires-clause-from_node : goal.add-requires-clause-from_node
 add-requires-clause-from_node c =
@@ -85,7 +87,7 @@ loop-i-preserved c =
     c.squares-squares.ensures.value c.node_below.ensures in
     record {
       wires = c.add.ensures.wires ∙ (λ k. c.loop-i.net.wires ++ (from k, to k) ∷ [])
-          ∙ wires_more c.args.tiling.now (c.squares-squares.ensures.kept).tiling c.loop-i.i nowhere c.loop-i.net.wires
+          ∙ wires_with_that_of_one_square_more c.args.tiling.now (c.squares-squares.ensures.kept).tiling c.loop-i.i nowhere c.loop-i.net.wires
           (omega (arith, ap length c.squares-squares.ensures.value)) c.loop-i.invariant.wires;
       nodes = c.add.ensures.nodes ∙ c.loop-i.invariant.nodes;
       many = omega (
@@ -101,7 +103,7 @@ returns c =
     let kept = c.squares-squares.ensures.kept in
     let all = take_all c.loop-i.i (smith_diagram c.args.tiling.now).wires (omega (
       arith,
-      wires_many c.args.tiling.now kept.tiling,
+      diagram_has_a_wire_for_each_square c.args.tiling.now kept.tiling,
       ap length c.squares-squares.ensures.value,
       c.loop-i-test.false,
     )) in

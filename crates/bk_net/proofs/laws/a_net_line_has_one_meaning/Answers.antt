@@ -1,5 +1,5 @@
-use Rattle.bk_net.proofs.NetStopping.{one_meaning}
+use Rattle.bk_net.proofs.NetStopping.{net_line_stands_for_one_thing}
 use Rattle.bk_net.proofs.laws.a_net_line_has_one_meaning.Goals as goal
 
 pub returns : goal.returns
-returns c = one_meaning
+returns c = net_line_stands_for_one_thing

@@ -3,14 +3,15 @@ use Rattle.std.proofs.Common.{ap, arith, subst, sym, ◌∙◌}
 use Rattle.bk_net.specs.GatheredWires.{KeepsWires, and_wire}
 use Rattle.bk_net.specs.NetReading.{ended_wire, next_net_place}
 use Rattle.bk_net.specs.declared.reader.NetEnding.{NetEnding}
-use Rattle.bk_net.proofs.NetProgress.{HasWires, at_first, fault_is, progress_more, item_is, no_ending, no_next, skip_found, progress_all, wires_found}
+use Rattle.bk_net.proofs.NetProgress.{HasWires, item_is, no_net_line_where_none_may_end, no_net_line_where_the_reader_stops, progress_all}
+use Rattle.bk_net.proofs.NetProgress.{progress_before_the_first_byte, progress_more, skip_found, told_net_fault_is_the_fault, wires_found}
 use Rattle.bk_net.proofs.read.read_net.Goals as goal
 
 pub new-wires-requires : goal.new-wires-requires
 new-wires-requires c = omega arith
 
 pub loop-at-init : goal.loop-at-init
-loop-at-init c = at_first c.new-wires.result.items c.new-wires.ensures
+loop-at-init c = progress_before_the_first_byte c.new-wires.result.items c.new-wires.ensures
 
 pub bounds-line-at : goal.bounds-line-at
 bounds-line-at c = c.loop-at-test.true
@@ -35,12 +36,12 @@ returns-in-Nodes-clause-kept c = c.net_item.ensures.kept
 
 pub returns-in_default-clause-fault : goal.returns-in_default-clause-fault
 returns-in_default-clause-fault c =
-    no_next c.args.line.now c.loop-at.at c.loop-at.place c.loop-at.wires.items c.loop-at.many (omega arith) c.loop-at.invariant
+    no_net_line_where_the_reader_stops c.args.line.now c.loop-at.at c.loop-at.place c.loop-at.wires.items c.loop-at.many (omega arith) c.loop-at.invariant
     (ap (next_net_place c.loop-at.place) (sym c.kind_of-kind.ensures) ∙ sym c.next.ensures ∙ c.in_default.is)
 
 pub returns-in_default-ending-clause-fault : goal.returns-in_default-ending-clause-fault
 returns-in_default-ending-clause-fault c =
-    no_ending c.args.line.now c.loop-at.place c.loop-at.wires.items c.loop-at.many
+    no_net_line_where_none_may_end c.args.line.now c.loop-at.place c.loop-at.wires.items c.loop-at.many
     (progress_all c.args.line.now c.loop-at.at c.loop-at.place c.loop-at.wires.items c.loop-at.many (omega arith) c.loop-at.invariant) (sym c.ending.ensures
     ∙ c.in_default-ending.is)
 
@@ -68,5 +69,5 @@ returns-in-Nodes-clause-read c =
 
 pub returns-in-Nodes-clause-fault : goal.returns-in-Nodes-clause-fault
 returns-in-Nodes-clause-fault c =
-    fault_is c.net_item.result c.args.line.now c.in-Nodes.nodes c.deref.result.now c.with_wire-many-2.result (wires c) c.deref.ensures.1
+    told_net_fault_is_the_fault c.net_item.result c.args.line.now c.in-Nodes.nodes c.deref.result.now c.with_wire-many-2.result (wires c) c.deref.ensures.1
     c.net_item.ensures.fault

@@ -4,6 +4,3 @@ use Rattle.bk_packed.proofs.digits.number_of.Given as goal
 
 abbrev pub invariant-digits : goal.invariant-digits
 invariant-digits l = record { within : l.i ≤ length l.digits; sum : l.number ≡ begun_by 64 (drop l.i l.digits) }
-
-abbrev pub decreases-digits : goal.decreases-digits
-decreases-digits l = l.i

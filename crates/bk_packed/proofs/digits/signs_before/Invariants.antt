@@ -8,6 +8,3 @@ invariant-signs l = record {
   within : l.i ≤ length l.signs;
   sum : (ds : List ℕ) → length l.signs + length ds ≤ 64 → l.behind ≡ begun_by 64 ds → l.number ≡ begun_by 64 (map sign_place (drop l.i l.signs) ++ ds);
 }
-
-abbrev pub decreases-signs : goal.decreases-signs
-decreases-signs l = l.i

@@ -1,5 +1,5 @@
 use Rattle.std.proofs.Common.{arith, ap, length, ℕ, List}
-use Rattle.bk_packed.proofs.LaidDigits.{all_laid, as_long, laid_on, not_begun, room_for_next, some_count}
+use Rattle.bk_packed.proofs.LaidDigits.{as_long, digits_of_all_squares_where_all_are_laid, laid_on, not_begun, room_for_next, some_count}
 use Rattle.bk_packed.proofs.packed.digits_of_tiling.Goals as goal
 
 pub next_in-requires : goal.next_in-requires
@@ -33,4 +33,5 @@ moves-preserved c = laid_on c.args.tiling.now c.moves.laying c.next_in.new.self 
     (c.next_in.ensures.next c.moves-test.true) c.push_digits.new.digits.items c.push_digits.ensures
 
 pub returns : goal.returns
-returns c = all_laid c.args.tiling.now c.moves.laying c.moves.digits.items c.moves.invariant c.requires (c.next_in.ensures.last c.moves-test.false)
+returns c = digits_of_all_squares_where_all_are_laid c.args.tiling.now c.moves.laying c.moves.digits.items c.moves.invariant c.requires
+    (c.next_in.ensures.last c.moves-test.false)

@@ -5,7 +5,7 @@ use Rattle.bk_laws.proofs.AllOfLists.{all-slice_get}
 use Rattle.bk_word.specs.Outline.{start}
 use Rattle.bk_word.specs.Play.{IsLegal, outline_of}
 use Rattle.bk_word.specs.Word.{Move, Word, order_of}
-use Rattle.bk_word.proofs.PlayLaws.{few_signs}
+use Rattle.bk_word.proofs.PlayLaws.{at_most_one_sign_more_than_squares}
 use Rattle.bk_word.proofs.WordCuts.{legal_at}
 use Rattle.bk_packed.specs.Packed.{begun_by, move_digits, packed, word_digits}
 use Rattle.bk_packed.proofs.WordDigits.{digits_behind, few_digits, low_counts}
@@ -50,7 +50,7 @@ room c =
       digits_behind w c.args.m.now (c.moves.i - 1) (move_at w (c.moves.i - 1)) here,
       ap (λ k. length (word_digits (drop k w ++ c.args.m.now ∷ []))) same,
       few_digits start w c.requires.legal,
-      few_signs (outline_of w) c.args.m.now c.requires.next,
+      at_most_one_sign_more_than_squares (outline_of w) c.args.m.now c.requires.next,
       c.requires.next.some,
       c.requires.few,
     )

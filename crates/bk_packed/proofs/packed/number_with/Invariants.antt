@@ -4,6 +4,3 @@ use Rattle.bk_packed.proofs.packed.number_with.Given as goal
 
 abbrev pub invariant-moves : goal.invariant-moves
 invariant-moves l = record { within : l.i ≤ length l.skel; sum : l.number ≡ packed (drop l.i l.skel ++ l.m ∷ []) }
-
-abbrev pub decreases-moves : goal.decreases-moves
-decreases-moves l = l.i

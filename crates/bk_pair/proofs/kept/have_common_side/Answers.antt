@@ -1,7 +1,7 @@
 use Rattle.std.proofs.Common.{arith, inl, inr, refl}
 use Rattle.bk_laws.proofs.Orderings.{eq-from_equal_is_nat_cmp, gt-from_greater_is_nat_cmp, lt-from_less_is_nat_cmp}
 use Rattle.bk_laws.proofs.Truth.{false_test-of_none}
-use Rattle.bk_pair.proofs.SideLoops.{common_found, first_passed, none_common, second_passed}
+use Rattle.bk_pair.proofs.SideLoops.{common_found, first_passed, no_common_side_where_one_is_gone_through, second_passed}
 use Rattle.bk_pair.specs.OwnSides.{HaveCommonSide}
 use Rattle.bk_pair.proofs.kept.have_common_side.Goals as goal
 
@@ -30,11 +30,13 @@ returns-in-Equal c = (
 
 pub returns-else-j-second : goal.returns-else-j-second
 returns-else-j-second c = false_test-of_none (HaveCommonSide c.args.first.now c.args.second.now)
-    (none_common c.args.first.now c.args.second.now c.sides.i c.sides.j c.sides.invariant.apart (inr (omega (arith, c.if-j-second.false))))
+    (no_common_side_where_one_is_gone_through c.args.first.now c.args.second.now c.sides.i c.sides.j c.sides.invariant.apart
+    (inr (omega (arith, c.if-j-second.false))))
 
 pub returns-after-sides : goal.returns-after-sides
 returns-after-sides c = false_test-of_none (HaveCommonSide c.args.first.now c.args.second.now)
-    (none_common c.args.first.now c.args.second.now c.sides.i c.sides.j c.sides.invariant.apart (inl (omega (arith, c.sides-test.false))))
+    (no_common_side_where_one_is_gone_through c.args.first.now c.args.second.now c.sides.i c.sides.j c.sides.invariant.apart
+    (inl (omega (arith, c.sides-test.false))))
 
 pub sides-init : goal.sides-init
 sides-init c = record {

@@ -1,5 +1,5 @@
 use Rattle.std.proofs.Common.{arith, inl, inr, subst}
-use Rattle.bk_pair.proofs.SideLoops.{NoneSoFar, none_found, none_more, size_found, step_found}
+use Rattle.bk_pair.proofs.SideLoops.{NoneSoFar, none_found, none_so_far_with_one_square_more, size_found, step_found}
 use Rattle.bk_pair.proofs.kept.stands_apart.Goals as goal
 use Rattle.bk_pair.proofs.kept.stands_apart.Goals.{else-i-gt0-via-else-i-gt0, else-i-gt0-via-then-i-gt0+else-squares-i}
 
@@ -15,7 +15,7 @@ returns-then-squares-i c =
 
 pub loop-i-preserved : goal.loop-i-preserved
 loop-i-preserved c =
-    none_more c.args.width c.args.height c.args.squares.now c.loop-i.i c.loop-i.invariant c.if-side-width.false c.if-side-height.false
+    none_so_far_with_one_square_more c.args.width c.args.height c.args.squares.now c.loop-i.i c.loop-i.invariant c.if-side-width.false c.if-side-height.false
     (elim c.else-i-gt0.branch [
       | else-i-gt0-via-then-i-gt0+else-squares-i w ↦ λ _. w.if-squares-i.false
       | else-i-gt0-via-else-i-gt0 w ↦ λ some. absurd (omega (arith, some, w.if-i-gt0.false))

@@ -1,6 +1,6 @@
 use Rattle.std.proofs.lemmas.Grind.{common_steps}
 use Rattle.std.proofs.Common.{arith, ◌∙◌}
-use Rattle.bk_play.proofs.Wirings.{wire_at}
+use Rattle.bk_play.proofs.Wirings.{wires_from_a_node_lead_to_other_nodes}
 use Rattle.bk_play.proofs.netting.add_wires.Goals as goal
 
 pub add-requires-clause-to_node : goal.add-requires-clause-to_node
@@ -8,11 +8,11 @@ add-requires-clause-to_node c = omega (
   arith,
   c.from.ensures,
   (c.loop-end.invariant).nodes,
-  (wire_at (c.args.net.now).nodes c.args.node c.args.ends.now c.loop-end.end-index (omega arith) c.requires.wires).0,
+  (wires_from_a_node_lead_to_other_nodes (c.args.net.now).nodes c.args.node c.args.ends.now c.loop-end.end-index (omega arith) c.requires.wires).0,
 )
 
 pub add-requires-clause-differ : goal.add-requires-clause-differ
-add-requires-clause-differ c = λ e. (wire_at (c.args.net.now).nodes c.args.node c.args.ends.now c.loop-end.end-index (omega arith)
+add-requires-clause-differ c = λ e. (wires_from_a_node_lead_to_other_nodes (c.args.net.now).nodes c.args.node c.args.ends.now c.loop-end.end-index (omega arith)
     c.requires.wires).1 (e ∙ c.from.ensures)
 
 pub add-requires-clause-from_node : goal.add-requires-clause-from_node

@@ -1,7 +1,7 @@
 use Rattle.std.proofs.lemmas.Grind.{common_steps}
 use Rattle.std.proofs.Common.{ap, arith, length, ◌+◌, ◌∙◌, ◌≡◌}
 use Rattle.std.proofs.lemmas.List.{length-append, length-map}
-use Rattle.bk_play.proofs.Wirings.{next_count, no_record, wires_here, wires_more}
+use Rattle.bk_play.proofs.Wirings.{next_count, no_record, wires_here, wires_with_those_from_one_node_more}
 use Rattle.bk_play.specs.Wiring.{hung_and_closed, move_wires_from}
 use Rattle.bk_play.proofs.netting.wired.Goals as goal
 
@@ -31,7 +31,8 @@ loop-node-preserved c =
         next_count c.args.records.now c.loop-node.node no_record (omega arith),
       );
       left = omega (arith, i.left, c.split_at.ensures.back_len, c.from.ensures, next_count c.args.records.now c.loop-node.node no_record (omega arith));
-      wires = wires_more (move_wires_from 0 (hung_and_closed c.args.records.now) c.args.ends.now) c.loop-node.net.wires c.add_wires.new.net.wires
+      wires = wires_with_those_from_one_node_more (move_wires_from 0 (hung_and_closed c.args.records.now) c.args.ends.now) c.loop-node.net.wires
+          c.add_wires.new.net.wires
           c.args.records.now c.loop-node.rest.now c.split_at.result.0.now c.split_at.result.1.now c.loop-node.node c.from.result _
           (omega arith) i.wires c.from.ensures c.split_at.ensures.front c.split_at.ensures.back wires;
     }

@@ -1,5 +1,5 @@
 use Rattle.std.proofs.Common.{arith, length-set, ◌∙◌}
-use Rattle.bk_play.proofs.Rooms.{next_number}
+use Rattle.bk_play.proofs.Rooms.{numbers_in_order_with_one_more_written}
 use Rattle.bk_play.proofs.splicing.put_numbers.Goals as goal
 
 pub loop-place-preserved : goal.loop-place-preserved
@@ -8,5 +8,5 @@ loop-place-preserved c =
     record {
       long = length-set c.loop-place.room c.loop-place.place-index c.loop-place.next ∙ i.long;
       next = omega (arith, i.next);
-      put = next_number c.loop-place.room c.args.first c.loop-place.next c.loop-place.place-index (omega arith) i.next i.put;
+      put = numbers_in_order_with_one_more_written c.loop-place.room c.args.first c.loop-place.next c.loop-place.place-index (omega arith) i.next i.put;
     }

@@ -4,7 +4,8 @@ use Rattle.std.proofs.lemmas.Result.{err_from_is_err_and}
 use Rattle.bk_laws.proofs.Bytes.{appends-nothing}
 use Rattle.bk_ports.specs.Answered.{CountFits}
 use Rattle.bk_ports.specs.Lines.{kept_front}
-use Rattle.bk_ports.proofs.Blocks.{count_all, first_feed, no_feed, read_more, read_all, open_all, read_stopped}
+use Rattle.bk_ports.proofs.Blocks.{all_lines_counted_with_no_feed_left, block_read_to_the_next_feed, first_feed, no_feed_where_no_first_is_found, open_all}
+use Rattle.bk_ports.proofs.Blocks.{read_all, read_stopped}
 use Rattle.bk_ports.proofs.block.enter_block.Goals as goal
 
 pub returns-in_err-is_refused-clause-stopped : goal.returns-in_err-is_refused-clause-stopped
@@ -20,7 +21,7 @@ returns-in_err-is_refused-clause-stopped g c =
 pub lines-preserved : goal.lines-preserved
 lines-preserved g c = record {
   read =
-      read_more (record { enters = g.R.Register.enters; may_want = g.R.Register.may_want }) c.args.register.now c.args.kept.now.number
+      block_read_to_the_next_feed (record { enters = g.R.Register.enters; may_want = g.R.Register.may_want }) c.args.register.now c.args.kept.now.number
       c.args.kept.now.front.items c.args.block.now c.lines.register c.close_line.new.register
       c.lines.kept.front.items c.lines.rest.now c.close_line.new.kept.front.items _ c.in-Some.end c.lines.kept.number c.close_line.new.kept.number
       _ _ _ c.lines.refused c.in_ok-is_refused.is_refused c.lines.invariant.read (first_feed c.lines.rest.now c.in-Some.end c.in-Some.ensures)
@@ -45,14 +46,14 @@ returns-clause-entered g c =
     read_all (record { enters = g.R.Register.enters; may_want = g.R.Register.may_want }) c.args.register.now
     c.args.kept.now.number c.args.kept.now.front.items c.args.block.now c.lines.register c.lines.kept.front.items
     c.lines.rest.now c.lines.kept.number _ _ c.lines.refused c.lines.invariant.read
-    (no_feed c.lines.rest.now c.in_default.ensures)
+    (no_feed_where_no_first_is_found c.lines.rest.now c.in_default.ensures)
 
 pub returns-clause-number : goal.returns-clause-number
 returns-clause-number g c =
-    count_all (record { enters = g.R.Register.enters; may_want = g.R.Register.may_want }) c.args.register.now
+    all_lines_counted_with_no_feed_left (record { enters = g.R.Register.enters; may_want = g.R.Register.may_want }) c.args.register.now
     c.args.kept.now.number c.args.kept.now.front.items c.args.block.now c.lines.register c.lines.kept.front.items
     c.lines.rest.now c.lines.kept.number _ _ c.lines.refused c.lines.invariant.read
-    (no_feed c.lines.rest.now c.in_default.ensures)
+    (no_feed_where_no_first_is_found c.lines.rest.now c.in_default.ensures)
 
 pub returns-clause-front : goal.returns-clause-front
 returns-clause-front g c =
@@ -61,7 +62,7 @@ returns-clause-front g c =
     (sym (open_all (record { enters = g.R.Register.enters; may_want = g.R.Register.may_want }) c.args.register.now
     c.args.kept.now.number c.args.kept.now.front.items c.args.block.now c.lines.register c.lines.kept.front.items
     c.lines.rest.now c.lines.kept.number _ _ c.lines.refused c.lines.invariant.read
-    (no_feed c.lines.rest.now c.in_default.ensures)))
+    (no_feed_where_no_first_is_found c.lines.rest.now c.in_default.ensures)))
 
 pub close_line-requires-clause-ready : goal.close_line-requires-clause-ready
 close_line-requires-clause-ready g c = c.lines.invariant.is_ready

@@ -6,7 +6,7 @@ use Rattle.std.proofs.Common.{Bool, List, get_or, refl, ◌≡◌}
 use Rattle.std.proofs.lemmas.Bool.Decides.{Decides-int_eq, not_from_Decides}
 use Rattle.std.proofs.lemmas.List.Elements.{Decides-contains, contains_decides}
 use Rattle.bk_laws.proofs.ListPlaces.{slice_get-get_or}
-use Rattle.bk_tree_walk.proofs.UnfitFlows.{alike_from, apart_all, apart_more}
+use Rattle.bk_tree_walk.proofs.UnfitFlows.{alike_from, apart_with_one_integer_more, none_alike_where_all_are_apart}
 use Rattle.bk_tree_walk.proofs.judging.has_two_alike.Goals as goal
 
 -- `contains` tells whether the number is one of the list
@@ -21,9 +21,9 @@ returns-then-contains c = (
 )
 
 pub loop-i-preserved : goal.loop-i-preserved
-loop-i-preserved c = apart_more c.args.numbers.now c.loop-i.i (get_or c.args.numbers.now c.loop-i.i (pos 0))
+loop-i-preserved c = apart_with_one_integer_more c.args.numbers.now c.loop-i.i (get_or c.args.numbers.now c.loop-i.i (pos 0))
     (slice_get-get_or c.args.numbers.now c.loop-i.i (pos 0) c.loop-i-test.true) c.loop-i.invariant
     (not_from_Decides c.contains.result (told _ _ _ c.contains.ensures.cases) c.if-contains.false)
 
 pub returns : goal.returns
-returns c = (λ e. absurd cc, λ two. absurd (apart_all c.args.numbers.now c.loop-i.i c.loop-i.invariant c.loop-i-test.false two))
+returns c = (λ e. absurd cc, λ two. absurd (none_alike_where_all_are_apart c.args.numbers.now c.loop-i.i c.loop-i.invariant c.loop-i-test.false two))

@@ -1,6 +1,6 @@
 use Rattle.std.proofs.Common.{ap, arith, length, slice_get, sym, ◌-◌, ◌∙◌, true≢false}
 use Rattle.bk_word.specs.Word.{Word}
-use Rattle.bk_tree_walk.proofs.Standing.{IsLastMove, last_move, taken_last}
+use Rattle.bk_tree_walk.proofs.Standing.{IsLastMove, last_of_legal_moves_is_legal, taken_last}
 use Rattle.std.proofs.lemmas.List.{nil_from_length}
 use Rattle.bk_tree_walk.proofs.tree_walk.climb.Goals as goal
 
@@ -13,7 +13,7 @@ next_move-requires c =
     (c.moves-moves.ensures.value ∙ ap length c.skel.ensures.value) (omega (arith, c.if-moves-eq0.false))
     (ap (λ (w : Word). slice_get w (c.moves-moves.result - 1)) (sym c.skel-2.ensures.value) ∙ c.read_move.ensures) c.pop.ensures in
     let last : IsLastMove c.pop.new.self c.read_move.new.m =
-    last_move c.args.lined.now c.pop.new.self c.read_move.new.m c.skel.ensures.legal c.requires.small was in
+    last_of_legal_moves_is_legal c.args.lined.now c.pop.new.self c.read_move.new.m c.skel.ensures.legal c.requires.small was in
     record { count = omega (arith, last.count); signs = omega (arith, last.signs) }
 
 pub returns-clause-on : goal.returns-clause-on

@@ -5,7 +5,7 @@ use Rattle.bk_report.specs.ListLines.{foreign_line, repeats_line}
 use Rattle.bk_verify_report.specs.KeptEntries.{IsFed}
 use Rattle.bk_verify_report.specs.declared.entries.Fed.{Fed}
 use Rattle.bk_verify_report.specs.declared.entries.Fed.TheVariants.{Foreign, New, Repeats}
-use Rattle.bk_verify_report.proofs.Entered.{begun_one, written_none, written_one}
+use Rattle.bk_verify_report.proofs.Entered.{begun_one, line_entered_without_a_piece, written_one}
 use Rattle.bk_verify_report.specs.ListLine.{feeds}
 use Rattle.bk_answer.proofs.Failing.{cause-of_error, cause-of_same}
 use Rattle.bk_verify_report.proofs.entering.feed.Goals as goal
@@ -14,7 +14,7 @@ pub returns-in-Ok-New-clause-outcome : goal.returns-in-Ok-New-clause-outcome
 returns-in-Ok-New-clause-outcome g c line has =
     let fed = subst (λ (f : Fed). IsFed c.args.state.now.entries c.args.number c.args.tiling.now f c.feed.new.self) c.in-Ok-New.field-0-is
     c.in-Ok-New.ensures.fed in
-    written_none c.args.state.now c.args.number line false (record c.args.state.now { entries = c.feed.new.self })
+    line_entered_without_a_piece c.args.state.now c.args.number line false (record c.args.state.now { entries = c.feed.new.self })
     (g.O.Sink.written c.args.out.now) (g.O.Sink.written c.args.out.now)
     (feeds c.args.tiling.now New c.feed.new.self has fed) refl
 

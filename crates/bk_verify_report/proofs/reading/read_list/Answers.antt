@@ -1,7 +1,8 @@
 use Rattle.std.proofs.Common.{subst, sym}
+use Rattle.bk_ports.specs.Ending.{streams_between}
 use Rattle.bk_ports.specs.Entering.{entering_from, entries_of}
 use Rattle.bk_verify_report.proofs.Ending.{calm_at, stop_told, whole_at}
-use Rattle.bk_verify_report.proofs.EndingAtLines.{from_start, stops_at_lines}
+use Rattle.bk_verify_report.proofs.EndingAtLines.{entered_from_none_entered, stops_at_lines}
 use Rattle.bk_verify_report.specs.ListLine.{none_entered}
 use Rattle.bk_verify_report.specs.ListReading.{IsListRead, rules}
 use Rattle.bk_verify_report.specs.declared.entering.Verifying.{Verifying}
@@ -10,22 +11,12 @@ use Rattle.bk_verify_report.proofs.reading.read_list.Goals as goal
 pub returns-in-NoneRefused-clause-read : goal.returns-in-NoneRefused-clause-read
 returns-in-NoneRefused-clause-read g c =
     let all = whole_at (entries_of (entering_from rules (none_entered c.args.order) 1) c.enter_lines-ended.new.register)
-    (record {
-      left = g.S.Source.left c.args.source.now;
-      left_after = g.S.Source.left c.enter_lines-ended.new.source;
-      written = g.O.Sink.written c.args.out.now;
-      written_after = g.O.Sink.written c.enter_lines-ended.new.out;
-    })
+    (streams_between g.S.Source.left g.O.Sink.written (c.args.source.now, c.args.out.now) (c.enter_lines-ended.new.source, c.enter_lines-ended.new.out))
     c.enter_lines-ended.result c.in-NoneRefused.is
-    (from_start c.args.order c.new-register.result c.enter_lines-ended.new.register _
+    (entered_from_none_entered c.args.order c.new-register.result c.enter_lines-ended.new.register _
     c.enter_lines-ended.result c.new-register.ensures c.enter_lines-ended.ensures.ending) in
     subst (λ (s : Verifying). IsListRead c.args.order
-    (record {
-      left = g.S.Source.left c.args.source.now;
-      left_after = g.S.Source.left c.enter_lines-ended.new.source;
-      written = g.O.Sink.written c.args.out.now;
-      written_after = g.O.Sink.written c.enter_lines-ended.new.out;
-    })
+    (streams_between g.S.Source.left g.O.Sink.written (c.args.source.now, c.args.out.now) (c.enter_lines-ended.new.source, c.enter_lines-ended.new.out))
     s) (sym c.into_kept.ensures) (record { refused = all.0; whole = all.1 })
 
 pub returns-in-NoneRefused-clause-reads : goal.returns-in-NoneRefused-clause-reads
@@ -50,7 +41,7 @@ returns-in-ReadFailed g c = record {
   writes = tt;
   stopped =
       stops_at_lines c.args.order _ c.enter_lines-ended.new.register c.enter_lines-ended.result (stop_told c.enter_lines-ended.result c.in-ReadFailed.is)
-      (from_start c.args.order c.new-register.result c.enter_lines-ended.new.register _
+      (entered_from_none_entered c.args.order c.new-register.result c.enter_lines-ended.new.register _
       c.enter_lines-ended.result c.new-register.ensures c.enter_lines-ended.ensures.ending);
   complete = c.enter_lines-ended.ensures.complete;
   faults = c.enter_lines-ended.ensures.faults;

@@ -1,6 +1,6 @@
 use Rattle.std.proofs.Common.{false, inl, inr, refl, subst, sym, true, ℕ, ◌∙◌, ◌≤◌}
 use Rattle.bk_ports.specs.Causes.{Rose}
-use Rattle.bk_verify_report.proofs.Ending.{ends_broken, ends_whole, last_order}
+use Rattle.bk_verify_report.proofs.Ending.{ends_whole, last_order, read_whole_where_closing_failed}
 use Rattle.bk_verify_report.proofs.run.verify.Goals as goal
 
 pub returns-in-Err-clause-verified : goal.returns-in-Err-clause-verified
@@ -38,7 +38,7 @@ returns-in-Ok-false-clause-faults g c = (c.in-Ok.ensures.reads, (c.in-Ok-false.e
 
 pub returns-in-Err-close_report-clause-verified : goal.returns-in-Err-close_report-clause-verified
 returns-in-Err-close_report-clause-verified g c =
-    inr (ends_broken c.args.order c.in-Ok.list (g.S.Source.left c.args.source.now) (g.S.Source.left c.read_list.new.source)
+    inr (read_whole_where_closing_failed c.args.order c.in-Ok.list (g.S.Source.left c.args.source.now) (g.S.Source.left c.read_list.new.source)
     (g.O.Sink.written c.args.out.now) (g.O.Sink.written c.read_list.new.out) c.in-Ok.ensures.read
     (g.O.Sink.written c.close_report.new.out) c.in-Err-close_report.ensures.begun)
 

@@ -5,7 +5,7 @@ use Rattle.std.proofs.lemmas.List.{length-map}
 use Rattle.bk_laws.proofs.Outcomes.{ok-is_not_err, on_ok-use}
 use Rattle.bk_word.specs.StoredWord.{IsStoredWord, sign_byte, stored_move, word_in}
 use Rattle.bk_word.specs.Word.{Move}
-use Rattle.bk_word.proofs.StoredBytes.{has_bytes, has_room, pushed}
+use Rattle.bk_word.proofs.StoredBytes.{has_bytes, move_fits_where_squares_are_few, pushed}
 use Rattle.bk_word.proofs.Word.push.Goals as goal
 
 pub append_move-requires : goal.append_move-requires
@@ -43,7 +43,7 @@ returns-then-is_err-clause-inline c = λ few. ok-is_not_err c.reserve.result
     (c.reserve.ensures.succeeds (omega (
       arith,
       move_length c,
-      has_room c.self.inside.bytes.items c.args.self.now c.args.m.now c.self.inside.bytes.capacity c.self.invariant c.self.view_is
+      move_fits_where_squares_are_few c.self.inside.bytes.items c.args.self.now c.args.m.now c.self.inside.bytes.capacity c.self.invariant c.self.view_is
           c.requires.stands few,
     )))
     (sym c.is_err.ensures.value ∙ c.if-is_err.true)

@@ -2,7 +2,7 @@ use Rattle.std.proofs.Common.{arith, false, rules, subst, sym, true, ◌≡◌}
 use Rattle.bk_word.specs.StoredWord.{word_in}
 use Rattle.bk_word.specs.Taken.{KeepsTextOf}
 use Rattle.bk_word.specs.WordText.{IsTextOf}
-use Rattle.bk_word.proofs.KeptTexts.{bytes_kept, many_bytes, many_squares}
+use Rattle.bk_word.proofs.KeptTexts.{bytes_kept, many_bytes, more_than_sixteen_where_not_few}
 use Rattle.bk_word.proofs.reading.read_word.Goals as goal
 
 pub from_bytes-requires : goal.from_bytes-requires
@@ -25,7 +25,7 @@ returns-in-Err-clause-fault c =
     let h = bytes_kept c.args.text.now c.as_slice.result.now c.in_ok-taken.taken keeps (omega arith) c.as_slice.ensures.value in (
       word_in c.as_slice.result.now,
       h.is,
-      many_squares (word_in c.as_slice.result.now) (λ few. no (c.in-Err.ensures.inline few)),
+      more_than_sixteen_where_not_few (word_in c.as_slice.result.now) (λ few. no (c.in-Err.ensures.inline few)),
       h.few,
       many_bytes c.as_slice.result.now h.are_stored (λ few. no (c.in-Err.ensures.bytes few)),
     )

@@ -1,7 +1,7 @@
 use Rattle.std.specs.Prelude.{drop, ◌-◌, ℕ}
 use Rattle.std.proofs.Common.{ap, arith, sym, ◌∙◌}
 use Rattle.bk_word.specs.StoredWord.{word_in}
-use Rattle.bk_word.proofs.CountPlaces.{count_passed, none_left, sign_here}
+use Rattle.bk_word.proofs.CountPlaces.{count_passed, no_count_where_all_bytes_were_passed, sign_here}
 use Rattle.bk_word.proofs.storage.count_place.Goals as goal
 use Rattle.bk_word.proofs.storage.count_place.Goals.{else-is_count, then-is_count+else-left-eq0}
 
@@ -26,4 +26,5 @@ loop-place-preserved c = elim c.if-is_count.branch [
 
 pub unreachable-requires : goal.unreachable-requires
 unreachable-requires c =
-    none_left c.args.bytes.now c.loop-place.place c.args.i c.loop-place.left c.loop-place-test.false c.requires c.loop-place.invariant.behind
+    no_count_where_all_bytes_were_passed c.args.bytes.now c.loop-place.place c.args.i c.loop-place.left c.loop-place-test.false c.requires
+    c.loop-place.invariant.behind

@@ -6,8 +6,8 @@ use Rattle.bk_report.specs.ListLines.{refused_line}
 use Rattle.bk_report.specs.declared.refusal.Refused.TheVariants.{More}
 use Rattle.bk_answer.specs.Item.{HasTiling, IsLaidLine}
 use Rattle.bk_alike.specs.Listed.{Listed, ListsLine, MayWantItem, with_item, with_refused}
-use Rattle.bk_alike.proofs.ListedLines.{full_line, has_room, kept_apart, kept_line, refused_begun, refused_entry, refused_outcome, skipped_line}
-use Rattle.bk_alike.proofs.ListedLines.{wanting_apart, wanting_line}
+use Rattle.bk_alike.proofs.ListedLines.{fewer_items_kept_unless_full, full_line, kept_apart, kept_line, memory_wanting_at_an_accepted_line, refused_begun}
+use Rattle.bk_alike.proofs.ListedLines.{refused_entry, refused_outcome, skipped_line, wanting_apart}
 use Rattle.bk_answer.proofs.Failing.{cause-of_same}
 use Rattle.bk_alike.proofs.listed.ItemListRegister.enter.Goals as goal
 
@@ -22,7 +22,7 @@ returns-in-Ok-clause-outcome g c =
     subst (λ (o : Option (Bor Tiling)). IsLaidLine c.args.line.now (option_copied o)) c.in-Ok-Some.field-0-is c.in-Ok-Some.ensures.laid in
     let k = c.in-Ok.ensures.kept in
     let few : length c.self.inside.items < 16384 =
-    has_room (length c.self.inside.items) c.add.result (kept_apart c.add.result c.in-Ok.field-0 c.in-Ok.is) c.add.ensures.full in
+    fewer_items_kept_unless_full (length c.self.inside.items) c.add.result (kept_apart c.add.result c.in-Ok.field-0 c.in-Ok.is) c.add.ensures.full in
     kept_line c.args.self.now _ c.args.number c.args.line.now c.in-Ok-Some.tiling.now k.0 (g.O.Sink.written c.args.out.now) has
     (omega (arith, few, ap (λ (s : Listed). length s.items) c.self.view_is)) k.1
     ((λ i. record { items = k.2 i; refused = c.self.inside.refused }) ∙ ap (λ (s : Listed). with_item s c.args.number k.0) c.self.view_is)
@@ -82,9 +82,10 @@ returns-in-Err-NoMemory-clause-outcome g c =
     let has : HasTiling c.args.line.now c.in-Ok-Some.tiling.now =
     subst (λ (o : Option (Bor Tiling)). IsLaidLine c.args.line.now (option_copied o)) c.in-Ok-Some.field-0-is c.in-Ok-Some.ensures.laid in
     let few : length c.self.inside.items < 16384 =
-    has_room (length c.self.inside.items) c.add.result (wanting_apart c.add.result (c.in-Err-NoMemory.is ∙ ap Err c.in-Err-NoMemory.field-0-is))
+    fewer_items_kept_unless_full (length c.self.inside.items) c.add.result
+    (wanting_apart c.add.result (c.in-Err-NoMemory.is ∙ ap Err c.in-Err-NoMemory.field-0-is))
     c.add.ensures.full in
-    wanting_line c.args.self.now c.args.number c.args.line.now c.in-Ok-Some.tiling.now (g.O.Sink.written c.args.out.now) has
+    memory_wanting_at_an_accepted_line c.args.self.now c.args.number c.args.line.now c.in-Ok-Some.tiling.now (g.O.Sink.written c.args.out.now) has
     (omega (arith, few, ap (λ (s : Listed). length s.items) c.self.view_is))
 
 pub returns-in-Err-Full-clause-cause : goal.returns-in-Err-Full-clause-cause

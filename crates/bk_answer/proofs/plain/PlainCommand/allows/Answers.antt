@@ -5,17 +5,13 @@ use Rattle.bk_tiling.specs.Tiling.{Tiling}
 use Rattle.bk_answer.specs.declared.command.Command.TheVariants.{Plain}
 use Rattle.bk_answer.specs.Telling.{Allows}
 use Rattle.bk_answer.specs.declared.plain.PlainCommand.{PlainCommand}
-use Rattle.bk_answer.specs.declared.plain.PlainCommand.TheVariants.{Canon, Check, Draw, Dual, Images, Net}
+use Rattle.bk_answer.specs.declared.plain.PlainCommand.TheVariants.{Draw}
 use Rattle.bk_answer.proofs.plain.PlainCommand.allows.Goals as goal
 
 -- every command but `draw` allows all
 all_allowed : (p : PlainCommand) (t : Tiling) → (p ≡ Draw → ⊥) → IsTrue true ↔ Allows (Plain p) t
-all_allowed Check t not = (λ _. tt, λ _. refl)
-all_allowed Canon t not = (λ _. tt, λ _. refl)
-all_allowed Images t not = (λ _. tt, λ _. refl)
-all_allowed Net t not = (λ _. tt, λ _. refl)
-all_allowed Dual t not = (λ _. tt, λ _. refl)
 all_allowed Draw t not = absurd (not refl)
+all_allowed _ t not = (λ _. tt, λ _. refl)
 
 pub returns-then-width-le-LARGEST_DRAWN : goal.returns-then-width-le-LARGEST_DRAWN
 returns-then-width-le-LARGEST_DRAWN c =

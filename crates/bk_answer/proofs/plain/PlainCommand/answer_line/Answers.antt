@@ -4,7 +4,7 @@ use Rattle.bk_tiling.specs.Tiling.{Tiling}
 use Rattle.bk_answer.specs.CodeAnswer.{AnswersCodeLine, AnswersTiling, any_command, no_item, refuses}
 use Rattle.bk_answer.specs.Item.{HasTiling, IsLaidLine}
 use Rattle.bk_answer.specs.declared.command.Command.TheVariants.{Plain}
-use Rattle.bk_answer.proofs.ItemSteps.{is_tiling}
+use Rattle.bk_answer.proofs.ItemSteps.{stated_is_a_tiling}
 use Rattle.bk_answer.proofs.ReplySteps.{line_answer, refusal_replies, replies_more}
 use Rattle.bk_answer.proofs.plain.PlainCommand.answer_line.Goals as goal
 use Rattle.bk_ports.proofs.Pieces.{writes_none}
@@ -13,7 +13,7 @@ pub answer_tiling-requires : goal.answer_tiling-requires
 answer_tiling-requires g c =
     let has : HasTiling c.args.line.now c.in-Ok-Some.tiling.now =
     subst (λ (o : Option (Bor Tiling)). IsLaidLine c.args.line.now (option_copied o)) c.in-Ok-Some.field-0-is c.in-Ok-Some.ensures.laid in
-    is_tiling has.item c.in-Ok-Some.tiling.now has.stated
+    stated_is_a_tiling has.item c.in-Ok-Some.tiling.now has.stated
 
 pub returns-in-Ok-Some-clause-reply : goal.returns-in-Ok-Some-clause-reply
 returns-in-Ok-Some-clause-reply g c =

@@ -1,7 +1,7 @@
 use Rattle.std.proofs.Common.{List, ap, arith, length, subst, sym, ◌++◌, ◌+◌, ◌≡◌}
 use Rattle.std.proofs.lemmas.List.{length-append}
 use Rattle.bk_lay.proofs.MeetingRuns.{rises_after}
-use Rattle.bk_lay.proofs.NextLaidMove.{length_under}
+use Rattle.bk_lay.proofs.NextLaidMove.{a_run_under_each_square}
 use Rattle.bk_lay.specs.LevelRuns.{Meet, runs_under}
 use Rattle.bk_tiling.specs.declared.Square.{Square}
 use Rattle.bk_lay.specs.declared.outline.LevelRun.{LevelRun}
@@ -9,7 +9,7 @@ use Rattle.bk_lay.proofs.outline.Outline.lay.Goals as goal
 
 -- as many runs more as squares
 runs_pushed : (after right : List LevelRun) (squares : List Square) → after ≡ right ++ runs_under squares → length after ≡ length right + length squares
-runs_pushed after right squares is = omega (arith, ap length is, length-append right (runs_under squares), length_under squares)
+runs_pushed after right squares is = omega (arith, ap length is, length-append right (runs_under squares), a_run_under_each_square squares)
 
 pub take_valley-self-requires-clause-some : goal.take_valley-self-requires-clause-some
 take_valley-self-requires-clause-some c = omega (arith, runs_pushed _ c.args.self.now.right.items c.args.squares.now c.push_runs.ensures, c.requires.some)

@@ -3,7 +3,7 @@ use Rattle.std.proofs.Common.{List, Some, [], ap, arith, get_or, length, lit<, s
 use Rattle.std.proofs.lemmas.Option.{slice_get-get_or}
 use Rattle.bk_word.specs.Word.{Move, Word}
 use Rattle.bk_word.specs.declared.Sign.{Sign}
-use Rattle.bk_play.proofs.RecordReads.{signs_few}
+use Rattle.bk_play.proofs.RecordReads.{a_move_has_at_most_201_signs}
 use Rattle.bk_play.proofs.skeleton.Skel.read_move.Goals as goal
 
 -- the move that stands there
@@ -17,7 +17,7 @@ append-requires c = let m = there c.args.self.now c.args.i c.requires in (
     arith,
     ap (length {A = Sign}) c.clear.ensures,
     ap (length {A = Sign}) (c.signs_at.ensures m.0 m.1),
-    signs_few m.0 c.record_at.ensures m.1,
+    a_move_has_at_most_201_signs m.0 c.record_at.ensures m.1,
   ),
 )
 

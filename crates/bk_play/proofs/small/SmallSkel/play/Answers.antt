@@ -2,7 +2,7 @@ use Rattle.std.proofs.Common.{[], ap, arith, count_by, length, lit<, refl, subst
 use Rattle.bk_word.specs.Play.{parts}
 use Rattle.bk_word.specs.declared.Sign.{Sign}
 use Rattle.bk_play.proofs.Playing.{Playing, moves_shown, stored_played}
-use Rattle.bk_play.proofs.SkelFacts.{lists_after}
+use Rattle.bk_play.proofs.SkelFacts.{skeleton_lists_after_a_move}
 use Rattle.bk_play.proofs.SmallPlaying.{played_lists, small_played, small_playing}
 use Rattle.bk_play.proofs.ValleyKept.{kept_looked}
 use Rattle.bk_play.proofs.ValleyReads.{valley_sizes}
@@ -81,7 +81,7 @@ new_lists : (c : goal.After-find_valley-arg-1) → record {
   closed = c.close_and_hang.new.closed.items;
   records = c.push.new.self.items;
   played = c.append.new.self.items;
-} ≡ lists_after (small_lists_of c.self.inside) (record { count = c.m.inside.count; signs = c.m.inside.signs.items })
+} ≡ skeleton_lists_after_a_move (small_lists_of c.self.inside) (record { count = c.m.inside.count; signs = c.m.inside.signs.items })
     (with_parted c.record_in-noted.result (count_by parts c.m.inside.signs.items))
 new_lists c =
     let p = small_playing c.record_in-noted.result c.self.invariant c.self.view_is c.m.view_is c.requires.legal c.requires.few

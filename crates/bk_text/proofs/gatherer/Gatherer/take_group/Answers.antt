@@ -1,13 +1,14 @@
 use Rattle.std.specs.Prelude.{false, length, true, ◌<◌, ◌≡◌}
 use Rattle.std.proofs.Common.{ap, arith, le_refl, refl, subst, sym, ◌∙◌}
 use Rattle.bk_text.specs.GatheredSides.{Gathered, with_group}
-use Rattle.bk_text.proofs.Fronts.{group_further, group_within}
-use Rattle.bk_text.proofs.Progress.{side_added}
+use Rattle.bk_text.proofs.Fronts.{front_side_ends_within_the_bytes, group_further}
+use Rattle.bk_text.proofs.Progress.{a_gathered_side_is_there}
 use Rattle.bk_text.proofs.gatherer.Gatherer.take_group.Goals as goal
 
 pub sides-preserved : goal.sides-preserved
 sides-preserved c = record {
-  within = group_within c.args.bracket c.args.bytes.now c.sides.taken c.in-Inner.side c.in-Inner.len false c.sides.invariant.within c.in-Inner.ensures;
+  within = front_side_ends_within_the_bytes c.args.bracket c.args.bytes.now c.sides.taken c.in-Inner.side c.in-Inner.len false c.sides.invariant.within
+      c.in-Inner.ensures;
   leads = group_further c.args.bracket c.args.bytes.now c.sides.taken c.in-Inner.side c.in-Inner.len false c.args.self.now c.sides.self
       c.add_side.new.self c.sides.invariant.leads c.in-Inner.ensures c.add_side.ensures;
 }
@@ -34,7 +35,7 @@ add_side-requires-in-Last c = c.in-Last.ensures.side_fits
 
 pub returns-in-Last-clause-within : goal.returns-in-Last-clause-within
 returns-in-Last-clause-within c =
-    group_within c.args.bracket c.args.bytes.now c.sides.taken c.in-Last.side c.in-Last.len true c.sides.invariant.within c.in-Last.ensures
+    front_side_ends_within_the_bytes c.args.bracket c.args.bytes.now c.sides.taken c.in-Last.side c.in-Last.len true c.sides.invariant.within c.in-Last.ensures
 
 pub returns-in-Other-clause-within : goal.returns-in-Other-clause-within
 returns-in-Other-clause-within c = c.sides.invariant.within
@@ -58,16 +59,18 @@ pub overflow_add-taken : goal.overflow_add-taken
 overflow_add-taken c =
     omega (
       arith,
-      group_within c.args.bracket c.args.bytes.now c.sides.taken c.in-Inner.side c.in-Inner.len false c.sides.invariant.within c.in-Inner.ensures,
+      front_side_ends_within_the_bytes c.args.bracket c.args.bytes.now c.sides.taken c.in-Inner.side c.in-Inner.len false c.sides.invariant.within
+          c.in-Inner.ensures,
     )
 
 pub close_group-requires : goal.close_group-requires
 close_group-requires c =
-    subst (λ (g : Gathered). g.many ≡ false → 0 < length g.sides) (sym c.add_side-in-Last.ensures) (side_added c.in-Last.side c.sides.self)
+    subst (λ (g : Gathered). g.many ≡ false → 0 < length g.sides) (sym c.add_side-in-Last.ensures) (a_gathered_side_is_there c.in-Last.side c.sides.self)
 
 pub overflow_add-result : goal.overflow_add-result
 overflow_add-result c =
     omega (
       arith,
-      group_within c.args.bracket c.args.bytes.now c.sides.taken c.in-Last.side c.in-Last.len true c.sides.invariant.within c.in-Last.ensures,
+      front_side_ends_within_the_bytes c.args.bracket c.args.bytes.now c.sides.taken c.in-Last.side c.in-Last.len true c.sides.invariant.within
+          c.in-Last.ensures,
     )

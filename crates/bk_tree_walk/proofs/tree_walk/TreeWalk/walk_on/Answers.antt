@@ -2,8 +2,8 @@ use Rattle.std.proofs.Common.{[], subst, sym, ◌-◌, ◌∙◌, ◌≡◌, ◌
 use Rattle.bk_tree_walk.specs.Search.{IsReady, IsSearchState, SearchState, StepLeadsTo}
 use Rattle.bk_tree_walk.specs.declared.Went.{Went}
 use Rattle.bk_tree_walk.specs.declared.Went.TheVariants.{Met, On}
-use Rattle.bk_tree_walk.proofs.StateLaws.{count_few, leads_over, signs_few, stand_anew, stays_down, stays_put, walked_back, walked_back_stand, walked_down}
-use Rattle.bk_tree_walk.proofs.StateLaws.{walked_entry, walked_to}
+use Rattle.bk_tree_walk.proofs.StateLaws.{count_few, leads_over, next_move_has_at_most_18_signs, stand_anew, stays_down, stays_put, walked_back}
+use Rattle.bk_tree_walk.proofs.StateLaws.{walked_back_stand, walked_down, walked_entry, walked_to}
 use Rattle.bk_catalogue.specs.Catalogue.{IsEntry}
 use Rattle.bk_tree_walk.proofs.tree_walk.TreeWalk.walk_on.Goals.{else-is_members, then-is_members}
 use Rattle.std.proofs.lemmas.List.{length-append}
@@ -18,7 +18,7 @@ pub skip-requires-clause-count : goal.skip-requires-clause-count
 skip-requires-clause-count g c = count_few _ c.self.invariant (subst IsReady (sym c.self.view_is) c.requires)
 
 pub skip-requires-clause-signs : goal.skip-requires-clause-signs
-skip-requires-clause-signs g c = signs_few _ c.self.invariant (subst IsReady (sym c.self.view_is) c.requires)
+skip-requires-clause-signs g c = next_move_has_at_most_18_signs _ c.self.invariant (subst IsReady (sym c.self.view_is) c.requires)
 
 pub skip-requires-clause-small : goal.skip-requires-clause-small
 skip-requires-clause-small g c = (subst IsReady (sym c.self.view_is) c.requires).few

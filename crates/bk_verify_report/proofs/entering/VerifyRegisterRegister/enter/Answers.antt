@@ -6,17 +6,17 @@ use Rattle.bk_tiling.specs.Tiling.{Tiling}
 use Rattle.bk_report.specs.ListLines.{refused_line}
 use Rattle.bk_answer.specs.Item.{IsLaidLine}
 use Rattle.bk_ports.specs.WrittenAnswer.{HasOutcome, IsAnswerBegun}
-use Rattle.bk_verify_report.proofs.Entered.{begun_one, written_none, written_one}
+use Rattle.bk_verify_report.proofs.Entered.{begun_one, line_entered_without_a_piece, written_one}
 use Rattle.bk_verify_report.specs.ListLine.{CountsAreBelow, EntersLine, MayWantAt, no_item, refuses}
 use Rattle.bk_verify_report.specs.declared.entering.Verifying.{Verifying}
-use Rattle.bk_verify_report.specs.EmptyListLine.{still_ready}
+use Rattle.bk_verify_report.specs.EmptyIsPassedOver.{counts_below_next}
 use Rattle.bk_answer.proofs.Failing.{cause-of_error, cause-of_same}
 use Rattle.bk_verify_report.proofs.entering.VerifyRegisterRegister.enter.Goals as goal
 
 pub returns-in-Ok-None-clause-outcome : goal.returns-in-Ok-None-clause-outcome
 returns-in-Ok-None-clause-outcome g c =
     let skip = subst (λ (o : Option (Bor Tiling)). IsLaidLine c.args.line.now (option_copied o)) c.in-Ok-None.field-0-is c.in-Ok-None.ensures.laid in
-    written_none c.args.self.now c.args.number c.args.line.now false c.self.inside.kept (g.O.Sink.written c.args.out.now)
+    line_entered_without_a_piece c.args.self.now c.args.number c.args.line.now false c.self.inside.kept (g.O.Sink.written c.args.out.now)
     (g.O.Sink.written c.args.out.now)
     (subst (λ (s : Verifying). EntersLine c.args.self.now c.args.number c.args.line.now (record { pieces = []; refused = false }) s)
     (sym c.self.view_is) (no_item skip)) refl
@@ -52,7 +52,7 @@ returns-in-Ok-None-clause-cause g c = cause-of_same refl
 
 pub returns-in-Ok-None-clause-ready : goal.returns-in-Ok-None-clause-ready
 returns-in-Ok-None-clause-ready g c =
-    still_ready c.self.inside.kept c.args.number (subst (λ (s : Verifying). CountsAreBelow s c.args.number) (sym c.self.view_is) c.requires.ready)
+    counts_below_next c.self.inside.kept c.args.number (subst (λ (s : Verifying). CountsAreBelow s c.args.number) (sym c.self.view_is) c.requires.ready)
 
 pub returns-in-Ok-Some-clause-outcome : goal.returns-in-Ok-Some-clause-outcome
 returns-in-Ok-Some-clause-outcome g c =

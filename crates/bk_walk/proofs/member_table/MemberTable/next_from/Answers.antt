@@ -4,7 +4,7 @@ use Rattle.std.proofs.Common.{arith, subst, sym, ℕ, ◌<◌, ◌≡◌}
 use Rattle.bk_packed.specs.KeptNumbers.{AreAscendingNumbers, IsFirstFrom, Numbers}
 use Rattle.bk_walk.specs.Finding.{Finding, HasOnlyMembers}
 use Rattle.bk_walk.specs.Members.{HasNoneFrom, IsNextNumber, IsWhole}
-use Rattle.bk_walk.proofs.WholeTables.{next_number, none_from}
+use Rattle.bk_walk.proofs.WholeTables.{first_kept_is_the_next_number, no_number_from_a_bound_above_all_kept}
 use Rattle.bk_walk.proofs.member_table.MemberTable.next_from.Goals as goal
 
 pub table-requires : goal.table-requires
@@ -21,11 +21,12 @@ if_next : (t : Finding) (numbers : Numbers) (bound : ℕ) (found : Option ℕ) �
     → IfSome found (IsFirstFrom numbers.kept bound) → IfSome found (IsNextNumber t bound)
 if_next t numbers bound None same whole only first = tt
 if_next t numbers bound (Some x) same whole only first =
-    next_number t bound x whole only (subst (λ (n : Numbers). IsFirstFrom n.kept bound x) same first)
+    first_kept_is_the_next_number t bound x whole only (subst (λ (n : Numbers). IsFirstFrom n.kept bound x) same first)
 
 if_none : (t : Finding) (numbers : Numbers) (bound : ℕ) (found : Option ℕ) → numbers ≡ t.numbers → IsWhole t
     → IfNone found (AllByRecursion (λ y. y < bound) numbers.kept) → IfNone found (HasNoneFrom t bound)
-if_none t numbers bound None same whole below = none_from t bound whole (subst (λ (n : Numbers). AllByRecursion (λ y. y < bound) n.kept) same below)
+if_none t numbers bound None same whole below = no_number_from_a_bound_above_all_kept t bound whole
+    (subst (λ (n : Numbers). AllByRecursion (λ y. y < bound) n.kept) same below)
 if_none t numbers bound (Some x) same whole below = tt
 
 pub returns-clause-next : goal.returns-clause-next

@@ -2,12 +2,12 @@ use Rattle.std.proofs.Common.{Bool, None, Some, [], ap, arith, false, refl, subs
 use Rattle.bk_walk.proofs.Answering.{finds_of, kept_at_end, kept_at_word, kept_ended, members_order, next_member, none_after, steps_to_end, steps_to_word}
 use Rattle.bk_tree_walk.proofs.MemberEntries.{same_entry}
 use Rattle.bk_tree_walk.proofs.SearchLoop.{counts_known, counts_none, counts_then}
-use Rattle.bk_catalogue.specs.Tree.{IsAtMostTree}
+use Rattle.bk_catalogue.specs.Tree.{IsAtMostTree, PushesGrow}
 use Rattle.bk_catalogue.specs.Following.{HasNoneAfter}
 use Rattle.bk_tiling.specs.Tiling.{Tiling}
 use Rattle.bk_code.specs.Code.{code_of}
 use Rattle.bk_tree_walk.specs.Search.{Finds, place_of}
-use Rattle.bk_members.specs.Walking.{IsNextMember, PushesGrow, WalkState}
+use Rattle.bk_members.specs.Walking.{IsNextMember, WalkState}
 use Rattle.bk_walk.proofs.walk.TabledWalkMembers.advance_in.Goals.{After-find_next}
 use Rattle.bk_walk.proofs.walk.TabledWalkMembers.advance_in.Goals as goal
 

@@ -6,7 +6,7 @@ use Rattle.bk_tiling.specs.Refusal.{HaveSides, ShareNoCell}
 use Rattle.bk_tiling.specs.Scale.{moved_square}
 use Rattle.bk_pair.specs.Pair.{laid_squares}
 use Rattle.bk_pair.proofs.LaidSquares.{squares_stand_apart, have_sides, kept_square, laid_items, parts_make_square, room_left}
-use Rattle.bk_pair.proofs.laid.Goals as goal
+use Rattle.bk_pair.proofs.joined_square.Goals as goal
 
 pub push_moved-requires-2-clause-room : goal.push_moved-requires-2-clause-room
 push_moved-requires-2-clause-room c =
