@@ -19,7 +19,8 @@ import subprocess
 import sys
 import tempfile
 
-HERE = os.path.dirname(os.path.abspath(__file__))
+from resources import compiled
+
 NINE = "[18,15][7,8][14,4][10,1][9]"
 TOWER = "[1]" * 200
 LADDER = "101 " + " ".join(f"{node}-{node + 1} {node}-{node + 1}" for node in range(100))
@@ -57,9 +58,12 @@ class Run:
             stderr=subprocess.DEVNULL,
             text=True,
             check=False,
-            env={"LD_PRELOAD": shim, "REFUSED": str(refused), "COUNTED": counted},
+            cwd=folder,
+            env={"LD_PRELOAD": f"./{os.path.basename(shim)}", "REFUSED": str(refused), "COUNTED": counted},
         )
         self.status, self.text = ran.returncode, ran.stdout
+        if not os.path.exists(counted):
+            sys.exit(f"{program} says no number of allocations: status {ran.returncode}")
         with open(counted, encoding="utf-8") as file:
             self.allocations = int(file.read())
 
@@ -107,12 +111,11 @@ def print_counts(program, shim, folder):
 
 
 def main(words):
-    if len(words) != 1:
+    if len(words) != 1 or not os.path.isfile(words[0]) or not os.access(words[0], os.X_OK):
         sys.exit(__doc__)
     program = os.path.abspath(words[0])
     with tempfile.TemporaryDirectory() as folder:
-        shim = f"{folder}/refuse_memory.so"
-        subprocess.run(["gcc", "-O2", "-shared", "-fPIC", "-o", shim, f"{HERE}/refuse_memory.c"], check=True)
+        shim = compiled("refuse_memory", folder, "-shared", "-fPIC")
         tables = [print_endings(program, shim, folder), print_counts(program, shim, folder)]
     return 0 if all(tables) else 1
 

@@ -12,9 +12,10 @@ of the search were called, how often, and ends with 1.
 import argparse
 import collections
 import re
-import subprocess
 import sys
 import tempfile
+
+from resources import built_program, counted, number_from_one, print_head, print_row
 
 # Where the search and what it calls are.
 SEARCH = re.compile(r"bk_(free_search|found|packed|play|short|walk)::")
@@ -23,11 +24,8 @@ SEARCH = re.compile(r"bk_(free_search|found|packed|play|short|walk)::")
 def called(command):
     """Returns the number of calls of each function in the run of a command, and the number of instructions."""
     with tempfile.NamedTemporaryFile("r") as told:
-        counting = ["valgrind", "--tool=callgrind", f"--callgrind-out-file={told.name}", *command]
-        run = subprocess.run(counting, stdout=subprocess.DEVNULL, stderr=subprocess.PIPE, text=True, check=False)
-        if run.returncode != 0:
-            sys.exit(f"{' '.join(counting)}: status {run.returncode}")
-        return calls_in(told), int(re.search(r"Collected : (\d+)", run.stderr)[1])
+        instructions = counted(command, told=told.name)
+        return calls_in(told), instructions
 
 
 def calls_in(lines):
@@ -39,9 +37,9 @@ def calls_in(lines):
             names[named[2]] = re.sub(r"'\d+$", "", named[3])
         if named and named[1] == "cfn":
             callee = named[2]
-        counted = re.match(r"calls=(\d+)", line)
-        if counted:
-            calls[names[callee]] += int(counted[1])
+        times = re.match(r"calls=(\d+)", line)
+        if times:
+            calls[names[callee]] += int(times[1])
     return calls
 
 
@@ -53,17 +51,17 @@ def is_named(function, name):
 
 def words():
     parser = argparse.ArgumentParser(description=__doc__, formatter_class=argparse.RawDescriptionHelpFormatter)
-    parser.add_argument("program", metavar="PROGRAM")
+    parser.add_argument("program", type=built_program, metavar="PROGRAM")
     parser.add_argument("--function", default="meet_all", metavar="NAME")
-    parser.add_argument("--first", type=int, default=12, metavar="N")
-    parser.add_argument("--last", type=int, default=16, metavar="N")
+    parser.add_argument("--first", type=number_from_one, default=12, metavar="N")
+    parser.add_argument("--last", type=number_from_one, default=16, metavar="N")
     parser.add_argument("--class", dest="kind", choices=["perfect", "imperfect", "simple"], default="perfect", metavar="CLASS")
     return parser.parse_args()
 
 
 def main():
     asked = words()
-    print(f"| order | calls of `{asked.function}` | instructions |\n|---|---|---|", flush=True)
+    print_head(["order", f"calls of `{asked.function}`", "instructions"])
     for order in range(asked.first, asked.last + 1):
         calls, instructions = called([asked.program, "list", "--order", str(order), "--class", asked.kind])
         found = sum(number for function, number in calls.items() if is_named(function, asked.function))
@@ -72,7 +70,7 @@ def main():
                 if SEARCH.match(function):
                     print(f"{function}: {number:,}", file=sys.stderr)
             sys.exit(f"order {order}: no call of {asked.function}")
-        print(f"| {order} | {found:,} | {instructions:,} |", flush=True)
+        print_row([order, f"{found:,}", f"{instructions:,}"])
 
 
 if __name__ == "__main__":

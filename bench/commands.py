@@ -27,12 +27,16 @@ from dataclasses import dataclass
 from functools import lru_cache
 from math import isqrt
 
+from resources import built_program, code_of, counted, number_from_one, print_head, print_row
+
 # A repeated input isn't made longer than so many bytes.
 LONGEST_INPUT = 1 << 26
 # Callgrind takes about fifty times as long: it gets the lines for which PROGRAM takes so many seconds.
 SECONDS_COUNTED = 0.05
 # The status that says that the command line asks nothing.
 ASKS_NOTHING = 2
+# The statuses that say that each line was answered.
+ANSWERS = (0, 1)
 
 
 # ---- inputs ----
@@ -77,7 +81,7 @@ def rows(groups):
 
 
 def jumbled_squares(chance, width, height):
-    """Squares that fill a rectangle: each at the first free place from the top, of a side by chance. As levels, columns and sides."""
+    """Squares that fill a rectangle: each at the first free place from the top, of a side by chance. As columns, levels and sides."""
     depth = [0] * width
     while (level := min(depth)) < height:
         left = depth.index(level)
@@ -86,18 +90,7 @@ def jumbled_squares(chance, width, height):
             free += 1
         side = chance.randint(1, min(free, height - level, 5))
         depth[left:left + side] = [level + side] * side
-        yield level, left, side
-
-
-def code_of(squares):
-    """The code of squares in code order: a group ends where the next square isn't level with the last, or doesn't touch it."""
-    groups, place = [], None
-    for level, left, side in squares:
-        if (level, left) != place:
-            groups.append([])
-        groups[-1].append(str(side))
-        place = level, left + side
-    return "".join("[" + ",".join(group) + "]" for group in groups)
+        yield left, level, side
 
 
 @lru_cache(maxsize=None)
@@ -223,7 +216,7 @@ class Taken:
             self.wall = time.perf_counter() - start
         run.returncode = self.status = os.waitstatus_to_exitcode(status)
         self.processor = used.ru_utime + used.ru_stime
-        if self.status not in (0, 1, ASKS_NOTHING):
+        if self.status not in (*ANSWERS, ASKS_NOTHING):
             sys.exit(f"{' '.join(command)}: status {self.status}")
 
 
@@ -255,19 +248,16 @@ def least_times(programs, job, runs, path):
 def instructions(program, job, path):
     """The instructions of one run."""
     write_lines(path, job.lines)
-    with open(path, "rb") as lines:
-        run = subprocess.run(["valgrind", "--tool=callgrind", "--callgrind-out-file=/dev/null", *job.command(program)],
-                             stdin=lines, stdout=subprocess.DEVNULL, stderr=subprocess.PIPE, text=True)
-    return int(re.search(r"Collected : (\d+)", run.stderr).group(1))
+    return counted(job.command(program), path, allowed=ANSWERS)
 
 
 def instructions_a_line(program, job, seconds, path):
     """The instructions a line: over all lines of an input that stands once, else over as many as are quickly counted."""
     if not job.lines:
         return instructions(program, job, path) // job.count
-    few = min(job.count, max(1, int(job.count * SECONDS_COUNTED / seconds)))
-    counted = instructions(program, job.over(job.lines[:few]), path)
-    return (counted - instructions(program, job.over([]), path)) // few
+    few = min(job.count, max(1, int(job.count * SECONDS_COUNTED / max(seconds, 1e-6))))
+    whole = instructions(program, job.over(job.lines[:few]), path)
+    return (whole - instructions(program, job.over([]), path)) // few
 
 
 # ---- the table ----
@@ -298,17 +288,13 @@ def heads(asked):
     return titles + ["times as fast"] * bool(asked.other)
 
 
-def print_row(cells):
-    print("| " + " | ".join(cells) + " |", flush=True)
-
-
 def words():
     parser = argparse.ArgumentParser(description=__doc__, formatter_class=argparse.RawDescriptionHelpFormatter)
-    parser.add_argument("program", metavar="PROGRAM")
-    parser.add_argument("other", nargs="?", metavar="OTHER")
-    parser.add_argument("--command", action="append", metavar="NAME")
+    parser.add_argument("program", type=built_program, metavar="PROGRAM")
+    parser.add_argument("other", nargs="?", type=built_program, metavar="OTHER")
+    parser.add_argument("--command", action="append", choices=sorted({it.split()[0] for it in [*COMMANDS, *COMMANDS_ONCE, "list"]}), metavar="NAME")
     parser.add_argument("--seconds", type=float, default=0.5, metavar="S")
-    parser.add_argument("--runs", type=int, default=3, metavar="K")
+    parser.add_argument("--runs", type=number_from_one, default=3, metavar="K")
     parser.add_argument("--instructions", action="store_true")
     return parser.parse_args()
 
@@ -316,9 +302,7 @@ def words():
 def main():
     asked = words()
     programs = [asked.program] + [asked.other] * bool(asked.other)
-    titles = heads(asked)
-    print_row(titles)
-    print_row(["---"] * len(titles))
+    print_head(heads(asked))
     with tempfile.TemporaryDirectory() as folder:
         path = f"{folder}/lines"
         for job, may_repeat in jobs(asked.program, asked.command):

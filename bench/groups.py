@@ -9,14 +9,12 @@ again and again; rectangles of different sizes, each tiled by Euclid's algorithm
 that of an empty input as bytes an item, and the last line. The time is the least of three runs, or of one that took more than 10 s.
 """
 import argparse
-import os
 import resource
-import subprocess
 import sys
 import tempfile
 from math import gcd
 
-from resources import compiled, measured
+from resources import built_program, code_of, compiled, completed, number_from_one, print_head, print_row
 
 NINE = "[18,15][7,8][14,4][10,1][9]"
 # A run of more seconds isn't repeated.
@@ -53,61 +51,42 @@ def cut(width, height):
     return squares
 
 
-def code_of(squares):
-    """The code of squares by column, level and side."""
-    text = ""
-    last = None
-    for x, y, side in sorted(squares, key=lambda q: (q[1], q[0])):
-        text += "," if last == (y, x) else "][" if last else "["
-        text += str(side)
-        last = (y, x + side)
-    return text + "]"
-
-
-def catalogue(order, folder):
+def catalogue(peak, order, folder):
     """The codes of a catalogue, by the way through all 3-connected planar maps."""
-    run = subprocess.run([compiled("planar_maps", folder), str(order)], stdout=subprocess.PIPE, stderr=subprocess.DEVNULL, text=True, check=True)
-    return [line.split(" ")[2] for line in run.stdout.splitlines()]
-
-
-def counted(peak, program, command, path):
-    """What a run takes, which must end with status 0."""
-    run = measured(peak, [program, *command.split()], path)
-    if run.status != 0:
-        sys.exit(f"{command}: status {run.status}")
-    return run
+    run = completed(peak, [compiled("planar_maps", folder), str(order)])
+    return [line.split(" ")[2] for line in run.text.splitlines()] or sys.exit(f"order {order} has no members")
 
 
 def row(peak, program, command, name, codes):
     """A row of the table."""
+    asked = [program, *command.split()]
     with tempfile.NamedTemporaryFile("w", suffix=".txt") as file:
         file.write("".join(f"{code}\n" for code in codes))
         file.flush()
-        run = counted(peak, program, command, file.name)
+        run = completed(peak, asked, file.name)
         seconds = run.processor
         for _ in range(RUNS - 1):
             if seconds <= LONG:
-                seconds = min(seconds, counted(peak, program, command, file.name).processor)
-    empty = counted(peak, program, command, os.devnull)
-    items, last = len(codes), run.text.splitlines()[-1]
+                seconds = min(seconds, completed(peak, asked, file.name).processor)
+    empty = completed(peak, asked)
+    items, last = len(codes), (run.text.splitlines() or ["no line"])[-1]
     memory = 1024 * (run.kilobytes - empty.kilobytes) / items
-    print(f"| `{command}` | {name} | {items:,} | {seconds:.2f} | {1e6 * seconds / items:.1f} | {memory:,.0f} | `{last}` |", flush=True)
+    print_row([f"`{command}`", name, f"{items:,}", f"{seconds:.2f}", f"{1e6 * seconds / items:.1f}", f"{memory:,.0f}", f"`{last}`"])
     return seconds
 
 
 def main():
     parser = argparse.ArgumentParser(description=__doc__.partition("\n")[0])
-    parser.add_argument("--order", type=int, default=16)
-    parser.add_argument("--items", type=int, default=16_384)
-    parser.add_argument("program")
+    parser.add_argument("--order", type=number_from_one, default=16)
+    parser.add_argument("--items", type=number_from_one, default=16_384)
+    parser.add_argument("program", type=built_program)
     words = parser.parse_args()
     resource.setrlimit(resource.RLIMIT_CORE, (0, 0))
-    print("| command | items | number | seconds | microseconds an item | bytes an item | last line |")
-    print("|---|---|---|---|---|---|---|")
+    print_head(["command", "items", "number", "seconds", "microseconds an item", "bytes an item", "last line"])
     with tempfile.TemporaryDirectory() as folder:
         peak = compiled("peak_memory", folder)
         inputs = [
-            (f"order {words.order}", catalogue(words.order, folder)),
+            (f"order {words.order}", catalogue(peak, words.order, folder)),
             ("of different sizes", of_different_sizes(words.items)),
             ("of one size", [NINE] * words.items),
         ]

@@ -7,17 +7,16 @@ PROGRAM is the built program, crates/bk_main/out/bk_main. The entries are the fi
 with each number of squares at the top. The times are of the processor, the least of K runs, which take turns.
 """
 import argparse
+import sys
 import tempfile
 
-from resources import compiled, measured
+from resources import built_program, compiled, completed, measured, number_from_one, print_head, print_row
 
 
 def words_listed(peak, program, order):
     """The words of the members of an order, ascending."""
-    run = measured(peak, [program, "list", "--order", str(order)])
-    if run.status != 0:
-        raise SystemExit(f"{program} list --order {order}: status {run.status}")
-    return [line.split(" ; ")[1] for line in run.text.splitlines() if not line.startswith(";")]
+    run = completed(peak, [program, "list", "--order", str(order)])
+    return [line.split(" ; ")[1] for line in run.text.splitlines() if not line.startswith(";")] or sys.exit(f"order {order} has no members")
 
 
 def count_of(word):
@@ -45,9 +44,9 @@ def least(peak, commands, runs):
 def main():
     """Prints the table."""
     parser = argparse.ArgumentParser(description=__doc__, formatter_class=argparse.RawDescriptionHelpFormatter)
-    parser.add_argument("program", metavar="PROGRAM")
-    parser.add_argument("--order", type=int, default=16, metavar="N")
-    parser.add_argument("--runs", type=int, default=5, metavar="K")
+    parser.add_argument("program", type=built_program, metavar="PROGRAM")
+    parser.add_argument("--order", type=number_from_one, default=16, metavar="N")
+    parser.add_argument("--runs", type=number_from_one, default=5, metavar="K")
     given = parser.parse_args()
     with tempfile.TemporaryDirectory() as folder:
         peak = compiled("peak_memory", folder)
@@ -57,10 +56,9 @@ def main():
         for name, place in places(words):
             rows.append((f"one, after {name}", [*whole, "--limit", "1", "--from", words[place]]))
         times = least(peak, [command for _, command in rows], given.runs)
-    print(f"| order {given.order} | seconds | of the whole |")
-    print("|---|---|---|")
+    print_head([f"order {given.order}", "seconds", "of the whole"])
     for (name, _), seconds in zip(rows, times):
-        print(f"| {name} | {seconds:.3f} | {100 * seconds / times[0]:.0f} % |")
+        print_row([name, f"{seconds:.3f}", f"{100 * seconds / times[0]:.0f} %"])
 
 
 if __name__ == "__main__":

@@ -10,7 +10,7 @@ import argparse
 import statistics
 import tempfile
 
-from resources import compiled, counted, measured
+from resources import built_program, compiled, completed, counted, number_from_one, print_head, print_row
 
 
 def times_of(peak, commands, runs):
@@ -18,34 +18,27 @@ def times_of(peak, commands, runs):
     times = [[] for _ in commands]
     for _ in range(runs):
         for command, its in zip(commands, times):
-            run = measured(peak, command)
-            if run.status != 0:
-                raise SystemExit(f"{' '.join(command)}: status {run.status}")
-            its.append(1000 * run.processor)
+            its.append(1000 * completed(peak, command).processor)
     return times
 
 
 def main():
     """Prints the table, a line for each order."""
     parser = argparse.ArgumentParser(description=__doc__, formatter_class=argparse.RawDescriptionHelpFormatter)
-    parser.add_argument("before", metavar="BEFORE")
-    parser.add_argument("after", metavar="AFTER")
-    parser.add_argument("--orders", type=int, nargs="+", default=range(2, 12), metavar="N")
-    parser.add_argument("--runs", type=int, default=200, metavar="K")
+    parser.add_argument("before", type=built_program, metavar="BEFORE")
+    parser.add_argument("after", type=built_program, metavar="AFTER")
+    parser.add_argument("--orders", type=number_from_one, nargs="+", default=range(2, 12), metavar="N")
+    parser.add_argument("--runs", type=number_from_one, default=200, metavar="K")
     given = parser.parse_args()
-    print("| order | least before | after | median before | after | instructions before | after |")
-    print("|---|---|---|---|---|---|---|")
+    print_head(["order", "least before", "after", "median before", "after", "instructions before", "after"])
     with tempfile.TemporaryDirectory() as folder:
         peak = compiled("peak_memory", folder)
         for order in given.orders:
             commands = [[program, "list", "--order", str(order)] for program in (given.before, given.after)]
             before, after = times_of(peak, commands, given.runs)
             counts = [counted(command) for command in commands]
-            print(
-                f"| {order} | {min(before):.3f} | {min(after):.3f} | {statistics.median(before):.3f} | {statistics.median(after):.3f} "
-                f"| {counts[0]:,} | {counts[1]:,} |",
-                flush=True,
-            )
+            times = (min(before), min(after), statistics.median(before), statistics.median(after))
+            print_row([order, *(f"{it:.3f}" for it in times), *(f"{it:,}" for it in counts)])
 
 
 if __name__ == "__main__":

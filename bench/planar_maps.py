@@ -13,7 +13,7 @@ import argparse
 import sys
 import tempfile
 
-from resources import compiled, measured
+from resources import built_program, compiled, completed, number_from_one, print_head, print_row
 
 # The numbers of simple perfect squared rectangles by order (Bouwkamp and Duijvestijn).
 PERFECT = {9: 2, 10: 6, 11: 22, 12: 67, 13: 213}
@@ -28,9 +28,7 @@ class Least:
         self.wall = self.processor = self.user = float("inf")
         self.kilobytes = 0
         for _ in range(runs):
-            run = measured(peak, command)
-            if run.status != 0:
-                sys.exit(f"{' '.join(command)}: status {run.status}")
+            run = completed(peak, command)
             self.lines = [line.partition(" ;")[0] for line in run.text.splitlines() if not line.startswith(";")]
             self.wall, self.user = min(self.wall, run.wall), min(self.user, run.user)
             self.processor = min(self.processor, run.processor)
@@ -51,6 +49,7 @@ def try_numbers(peak, maps):
 
 
 def row(peak, program, order, asked):
+    """The cells of an order."""
     maps = Least(peak, [program, str(order), asked.kind], asked.runs)
     cells = [order, len(maps.lines), *maps.cells()]
     if asked.program:
@@ -63,17 +62,13 @@ def likeness(ones, others):
     return "yes" if ones == others else "in another order" if sorted(ones) == sorted(others) else "NO"
 
 
-def print_row(cells):
-    print("| " + " | ".join(map(str, cells)) + " |", flush=True)
-
-
 def words():
     parser = argparse.ArgumentParser(description=__doc__, formatter_class=argparse.RawDescriptionHelpFormatter)
-    parser.add_argument("program", nargs="?", metavar="PROGRAM")
-    parser.add_argument("--first", type=int, default=13, metavar="N")
-    parser.add_argument("--last", type=int, default=16, metavar="N")
+    parser.add_argument("program", nargs="?", type=built_program, metavar="PROGRAM")
+    parser.add_argument("--first", type=number_from_one, default=13, metavar="N")
+    parser.add_argument("--last", type=number_from_one, default=16, metavar="N")
     parser.add_argument("--class", dest="kind", choices=["perfect", "imperfect", "simple"], default="perfect", metavar="CLASS")
-    parser.add_argument("--runs", type=int, default=3, metavar="K")
+    parser.add_argument("--runs", type=number_from_one, default=3, metavar="K")
     return parser.parse_args()
 
 
@@ -85,8 +80,7 @@ def main():
         heads = ["order", "members", "maps: wall s", "processor s", "user s", "peak MiB"]
         if asked.program:
             heads += ["list: wall s", "processor s", "user s", "peak MiB", "same codes"]
-        print_row(heads)
-        print_row(["---"] * len(heads))
+        print_head(heads)
         for order in range(asked.first, asked.last + 1):
             print_row(row(peak, maps, order, asked))
 

@@ -1,17 +1,17 @@
 #!/usr/bin/env python3
 """Times `bouwkamp verify` over a shuffled list of all members of an order, each in its eight images and by several factors.
 
-Usage: bench/verify.py PROGRAM [ORDER]
+    bench/verify.py PROGRAM [ORDER]
 
-The list is made here from the codes that `list` writes. `check` over the same lines and `list` are timed beside it. The memory of a run is
-its largest resident set; an entry's is what a list with all entries takes more than one with none.
+PROGRAM is the built program, crates/bk_main/out/bk_main, and ORDER is by default 16. The list is made here from the codes that `list` writes. `check`
+over the same lines and `list` are timed beside it. The memory of a run is its largest resident set; an entry's is what a list with all entries takes
+more than one with none.
 """
-
+import argparse
 import random
-import sys
 import tempfile
 
-from resources import compiled, measured
+from resources import built_program, code_of, compiled, completed, measured, number_from_one
 
 
 def laid(code):
@@ -49,33 +49,26 @@ def images(width, height, squares):
                 yield [(y, x, s) for x, y, s in turned] if exchanged else turned
 
 
-def code_of(squares, factor):
-    """The code of squares, in brackets, each side by a factor."""
-    text = ""
-    last = None
-    for x, y, s in sorted(squares, key=lambda q: (q[1], q[0])):
-        text += "," if last == (y, x) else "][" if last else "["
-        text += str(s * factor)
-        last = (y, x + s)
-    return text + "]"
-
-
 def main():
-    program = sys.argv[1]
-    order = sys.argv[2] if len(sys.argv) > 2 else "16"
+    parser = argparse.ArgumentParser(description=__doc__, formatter_class=argparse.RawDescriptionHelpFormatter)
+    parser.add_argument("program", type=built_program, metavar="PROGRAM")
+    parser.add_argument("order", nargs="?", type=number_from_one, default=16, metavar="ORDER")
+    asked = parser.parse_args()
+    order, verify = asked.order, [asked.program, "verify", "--order", str(asked.order)]
     with tempfile.TemporaryDirectory() as folder:
         peak = compiled("peak_memory", folder)
-        listing = measured(peak, [program, "list", "--order", order])
+        listing = completed(peak, [asked.program, "list", "--order", str(order)])
         codes = [line.split(" ")[2] for line in listing.text.splitlines() if not line.startswith(";")]
         with open(f"{folder}/lines", "w", encoding="utf-8") as file:
             file.writelines(f"{line}\n" for line in shuffled_images(codes))
-        verifying = measured(peak, [program, "verify", "--order", order], file.name)
-        checking = measured(peak, [program, "check"], file.name)
-        empty = measured(peak, [program, "verify", "--order", order])
+        verifying = measured(peak, verify, file.name)
+        checking = completed(peak, [asked.program, "check"], file.name)
+        empty = measured(peak, verify)
     memory = 1024 * (verifying.kilobytes - empty.kilobytes) / max(1, len(codes))
     print(f"list --order {order}: {listing.processor:.2f} s, {len(codes)} members")
     print(f"check of {8 * len(codes)} lines: {checking.processor:.2f} s")
-    print(f"verify --order {order} of them: {verifying.processor:.2f} s, status {verifying.status}, {verifying.text.splitlines()[-1]}")
+    last = (verifying.text.splitlines() or ["no line"])[-1]
+    print(f"verify --order {order} of them: {verifying.processor:.2f} s, status {verifying.status}, {last}")
     print(f"verify against check and list together: {verifying.processor / (listing.processor + checking.processor):.2f}")
     print(f"memory at the peak: {verifying.kilobytes} KB with {len(codes)} entries kept, {empty.kilobytes} KB with none, {memory:.0f} bytes an entry")
 

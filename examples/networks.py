@@ -11,6 +11,7 @@ the network beside it is named.
 """
 import random
 import re
+import signal
 import sys
 from fractions import Fraction
 
@@ -147,6 +148,11 @@ COMMANDS = {"between": (between, 2), "renumber": (renumber, 1), "resistance": (r
 
 
 def main(words):
+    # (behind `| head` the script ends when nobody reads on)
+    signal.signal(signal.SIGPIPE, signal.SIG_DFL)
+    # (some versions of Python read only numbers of 4,300 digits)
+    if hasattr(sys, "set_int_max_str_digits"):
+        sys.set_int_max_str_digits(0)
     command, count = COMMANDS.get(words[0] if words else "", (None, 0))
     if not command or len(words) != count + 1 or not all(re.fullmatch(r"\d+", it, re.ASCII) for it in words[1:]):
         sys.exit(__doc__)

@@ -47,7 +47,7 @@ def free_memory():
         return next((1024 * int(line.split()[1]) for line in file if line.startswith("MemAvailable:")), MEMORY_OF_A_CHECK)
 
 
-def told(seconds):
+def minutes_and_seconds(seconds):
     """Returns a time as a person writes it."""
     minutes, seconds = divmod(round(seconds), 60)
     return f"{minutes} min {seconds:02} s" if minutes else f"{seconds} s"
@@ -69,7 +69,8 @@ class Progress:
 
     def so_far(self):
         names = self.at_work
-        return f"{self.done} of {self.count} done, {told(time.monotonic() - self.began)}" + (f", proving {' '.join(names)}" if names else "")
+        time_so_far = minutes_and_seconds(time.monotonic() - self.began)
+        return f"{self.done} of {self.count} done, {time_so_far}" + (f", proving {' '.join(names)}" if names else "")
 
     def is_done(self, name, is_proved):
         self.done += is_proved

@@ -10,7 +10,7 @@
 - docs/CLAIM.md shows the definitions that what it claims stands on, as they are now (scripts/claim.py).
 - What a public contract rests on stands in specs/Lib.antt under what the crate says (scripts/headings.py).
 - No line is wider than 120 columns, but for those of tables.
-- What the scripts of scripts/ and bench/ import is there (scripts/imports.py).
+- What the scripts of scripts/, bench/ and examples/ import is there (scripts/imports.py).
 
 Prints what differs, and at the end how many examples and names were tried and how many differ; the status is 1 if something does. With --write what
 is made is made anew first.
@@ -24,6 +24,7 @@ import functools
 import os
 import re
 import shutil
+import signal
 import subprocess
 import sys
 import tempfile
@@ -31,9 +32,9 @@ import tempfile
 from claim import wrong_claim
 from headings import wrong_headings
 from imports import wrong_imports
-from proving import PROGRAM, is_right
+from proving import PROGRAM, can_be_tried
 from share import FILES, rows
-from sources import PARTS, TOP, files_of, groups, named_by_crate, text_of
+from sources import PARTS, TOP, files_of, groups, named_by_crate, text_of, write_text
 
 WIDEST = 120
 # An example that takes longer is a fault.
@@ -77,9 +78,21 @@ class Runner:
         if re.fullmatch(r"[A-Z]\w*=\S+", command):
             self.assigned.append(command)
             return ""
-        words = ["bash", "-c", "\n".join([*self.assigned, command])]
-        how = {"stdout": subprocess.PIPE, "stderr": subprocess.STDOUT, "text": True, "errors": "replace", "timeout": SECONDS, "check": False}
-        return subprocess.run(words, cwd=self.folder, env=self.env, input=text, **how).stdout
+        return output_of(["bash", "-c", "\n".join([*self.assigned, command])], text, cwd=self.folder, env=self.env)
+
+
+def output_of(command, text, **how):
+    """Returns what a command prints over this input. It has a session of its own, so that all it started ends with it if it takes too long."""
+    streams = {"stdin": subprocess.PIPE, "stdout": subprocess.PIPE, "stderr": subprocess.STDOUT, "text": True, "errors": "replace"}
+    with subprocess.Popen(command, start_new_session=True, **streams, **how) as child:
+        try:
+            return child.communicate(text, timeout=SECONDS)[0]
+        except subprocess.TimeoutExpired:
+            os.killpg(child.pid, signal.SIGKILL)
+            return f"{child.communicate()[0]}(nothing more after {SECONDS} seconds)\n"
+        except KeyboardInterrupt:
+            os.killpg(child.pid, signal.SIGKILL)
+            raise
 
 
 def blocks(text):
@@ -281,25 +294,39 @@ def wrong_files(is_written):
     """Says which files aren't as they would be made now; or makes them."""
     for path, text, wanted in made():
         if text != wanted and is_written:
-            os.makedirs(os.path.dirname(f"{TOP}/{path}"), exist_ok=True)
-            with open(f"{TOP}/{path}", "w", encoding="utf-8") as file:
-                file.write(wanted)
+            write_text(path, wanted)
         elif text != wanted:
             yield f"{path} would be another now: scripts/check_docs.py --write"
 
 
-def main(words):
-    given, tried = [it for it in words if not it.startswith("--")], {"examples": 0, "names": 0}
-    found = [*wrong_files("--write" in words), *wrong_claim("--write" in words), *wrong_names(tried), *wrong_inventories(), *wrong_headings(), *wide_lines(), *wrong_imports()]
-    program = given[0] if given else PROGRAM
-    if os.access(program, os.X_OK) and (given or is_right()):
-        found += wrong_examples(program, tried)
+def differences(is_written, given, tried):
+    """Says all that differs, and counts what was tried. What is made is made anew first, if it is to be."""
+    yield from wrong_files(is_written)
+    yield from wrong_claim(is_written)
+    yield from wrong_names(tried)
+    yield from wrong_inventories()
+    yield from wrong_headings()
+    yield from wide_lines()
+    yield from wrong_imports()
+    if can_be_tried(given):
+        yield from wrong_examples(given or PROGRAM, tried)
     else:
-        found.append(f"{program} isn't built from the sources as they are (./bouwkamp help builds it), so no example was tried")
-    for it in found:
-        print(it)
-    print(f"{tried['examples']} examples, {tried['names']} names, {len(found)} differ")
-    return 1 if found else 0
+        yield f"{given or PROGRAM} isn't built from the sources as they are (./bouwkamp help builds it), so no example was tried"
+
+
+def main(words):
+    given, tried, count = [it for it in words if it != "--write"], {"examples": 0, "names": 0}, 0
+    if len(given) > 1 or any(it.startswith("-") for it in given):
+        sys.exit(__doc__)
+    try:
+        for count, it in enumerate(differences("--write" in words, "".join(given), tried), 1):
+            print(it, flush=True)
+    except BrokenPipeError:
+        # (nobody reads on, as behind `| head`)
+        os.dup2(os.open(os.devnull, os.O_WRONLY), sys.stdout.fileno())
+        return 1
+    print(f"{tried['examples']} examples, {tried['names']} names, {count} differ")
+    return 1 if count else 0
 
 
 if __name__ == "__main__":

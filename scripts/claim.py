@@ -12,7 +12,8 @@ import functools
 import re
 import sys
 
-from sources import TOP, files_of, named_by_crate, text_of
+from running import heed_closed_pipes
+from sources import files_of, named_by_crate, text_of, write_text
 
 PAGE = "docs/CLAIM.md"
 BEGIN, END = "<!-- claim: begin -->\n", "<!-- claim: end -->\n"
@@ -24,16 +25,22 @@ WORD = re.compile(r"[^\W\d]['\w]*|[^\s\w(){}\[\];,.:\"'`]+")
 DECLARED = re.compile(r"Rattle\.(bk_\w+)\.specs\.declared\.(?:\w+\.)*?(\w+?)(?:\.TheVariants)?")
 
 
+def names_in(text, imports):
+    """Returns what the names that a text imports stand for: for each the module and its name there."""
+    found = {}
+    for module, items in imports.findall(text):
+        for item in filter(None, (it.strip() for it in items.split(","))):
+            first, *other = item.split(" as ")
+            found[(other or [first])[0].strip()] = (module, first.strip())
+    return found
+
+
 class Module:
     """A file of definitions: the comment at its head, its definitions in order, each with its comment, and what its names mean."""
 
     def __init__(self, path):
-        self.path, self.names, self.texts = path, {}, {}
         text = text_of(path)
-        for base, items in USE.findall(text):
-            for item in filter(None, (it.strip() for it in items.split(","))):
-                first, *other = item.split(" as ")
-                self.names[(other or [first])[0].strip()] = (base, first.strip())
+        self.path, self.names, self.texts = path, names_in(text, USE), {}
         for block in text.split("\n\n"):
             head = HEAD.search(block)
             if head:
@@ -99,10 +106,10 @@ def uses(module, name):
 
 def below(root):
     """Returns the definitions under one, those first that stand on nothing, and the names of the standard library that they use."""
-    crate, *path, name = root.split(".")
+    crate, *path, name = root.split(".") if "." in root else ("", root)
     module = modules().get(".".join(["Rattle", crate, "specs", *path]))
     if not module or name not in module.texts:
-        raise LookupError(f"there is no {name} in crates/{crate}/specs/{'/'.join(path)}.antt")
+        raise LookupError(f"there is no definition {root}: CRATE.FILE.NAME, as bk_top.Running.Lists")
     order, seen, library = [], set(), set()
 
     def visit(one):
@@ -190,9 +197,7 @@ def wrong_claim(is_written):
     if not begin or not end:
         yield f"{PAGE}: the marks of the definitions aren't there"
     elif is_written:
-        text = by_hand + begin + shown() + end + behind
-        with open(f"{TOP}/{PAGE}", "w", encoding="utf-8") as file:
-            file.write(text)
+        write_text(PAGE, by_hand + begin + shown() + end + behind)
     elif made != shown():
         yield f"{PAGE}: the definitions are others now: scripts/claim.py"
     yield from wrong_quotes(by_hand)
@@ -200,12 +205,18 @@ def wrong_claim(is_written):
 
 
 def main(words):
-    roots = [it for it in words if not it.startswith("--")]
+    heed_closed_pipes()
+    roots = [it for it in words if it != "--text"]
+    if any(it.startswith("-") for it in roots) or words and not roots:
+        sys.exit(__doc__)
     if not roots:
         found = [*wrong_claim(True)]
-        print("\n".join(found))
+        print("\n".join(found or [f"{PAGE} is written"]))
         return 1 if found else 0
-    order = list(dict.fromkeys(it for root in roots for it in below(root)[0]))
+    try:
+        order = list(dict.fromkeys(it for root in roots for it in below(root)[0]))
+    except LookupError as why:
+        sys.exit(why.args[0])
     if "--text" in words:
         print("\n\n".join(f"-- {module.path}\n{module.texts[name]}" for module, name in order))
     crates = {}

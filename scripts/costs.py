@@ -9,6 +9,7 @@ The seconds are an estimate, as scripts/build.py makes it: by scripts/seconds.tx
 """
 import sys
 
+from running import heed_closed_pipes
 from sources import LINES_A_SECOND, above, files_of, lines_of, text_of, works_of
 
 HEAD = ("crate", "seconds", "below", "with them", "above", "with them", "src", "specs", "proofs", "edits", "tests")
@@ -39,6 +40,7 @@ def rows(names):
 
 
 def main(names):
+    heed_closed_pipes()
     unknown = [it for it in names if it not in above()]
     if unknown:
         sys.exit(f"crates.txt has no crate {unknown[0]}")

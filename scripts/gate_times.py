@@ -9,14 +9,15 @@ Each run proves all from nothing: what a toolchain keeps of earlier runs isn't u
 import os
 import re
 import resource
+import shutil
 import subprocess
 import sys
 import textwrap
 import time
 
-from sources import TOP
+from sources import TOP, text_of, write_text
 
-PAGE = f"{TOP}/docs/GATE.md"
+PAGE = "docs/GATE.md"
 BEGIN, END = "<!-- times: begin -->\n", "<!-- times: end -->\n"
 # No line of a document is longer.
 WIDTH = 120
@@ -49,7 +50,7 @@ def summary(last, wall):
     """Returns the lines for the page: how long a run took, and how it ended."""
     used = resource.getrusage(resource.RUSAGE_CHILDREN)
     spent = used.ru_utime + used.ru_stime
-    told = f"One run of `rt ci`, from nothing, on {time.strftime('%d %B %Y')}, on {len(os.sched_getaffinity(0))} processors: {wall / 60:.0f} minutes, "
+    told = f"One run of `rt ci`, from nothing, on {time.strftime('%-d %B %Y')}, on {len(os.sched_getaffinity(0))} processors: {wall / 60:.0f} minutes, "
     told += f"{spent / 60:.0f} processor minutes, with {told_by('version').split()[0]}. It ended with:"
     yield textwrap.fill(told, WIDTH, break_on_hyphens=False) + "\n\n"
     yield from (textwrap.fill(it, WIDTH, initial_indent="    ", subsequent_indent="    ", break_on_hyphens=False) + "\n" for it in last)
@@ -57,13 +58,17 @@ def summary(last, wall):
 
 def write(text):
     """Writes the text between the marks of the page."""
-    with open(PAGE, encoding="utf-8") as file:
-        front, _, rest = file.read().partition(BEGIN)
-    with open(PAGE, "w", encoding="utf-8") as file:
-        file.write(front + BEGIN + text + END + rest.partition(END)[2])
+    front, _, rest = text_of(PAGE).partition(BEGIN)
+    write_text(PAGE, front + BEGIN + text + END + rest.partition(END)[2])
 
 
-def main():
+def main(words):
+    if words:
+        sys.exit(__doc__)
+    if not shutil.which("rt"):
+        sys.exit("there is no `rt` on the PATH")
+    if not os.access(f"{TOP}/{PAGE}", os.W_OK):
+        sys.exit(f"{PAGE} can't be written")
     status, last, done, wall = run_gate()
     write("".join(summary(last, wall)))
     for crate, at in sorted(done.items(), key=lambda it: it[1]):
@@ -72,4 +77,4 @@ def main():
 
 
 if __name__ == "__main__":
-    sys.exit(main())
+    sys.exit(main(sys.argv[1:]))

@@ -12,23 +12,13 @@ import os
 import re
 import sys
 
-from claim import WORD, Module, uses, where
+from claim import WORD, Module, names_in, uses, where
 from sources import files_of, named_by_crate, text_of
 
 KEPT = "-- How its code keeps it."
 IMPORT = re.compile(r"ghost use (Rattle\.[\w.]+)\.\{([^}]*)\}")
 OWNER = re.compile(r"(?:pub )?(impl|trait)(?:<[^{]*?>)?\s+(?:[\w<>, ]+ (for) )?(\w+)")
 FUNCTION = re.compile(r"^( *)(pub )?(?:const )?fn (\w+)[^{;]*?\n((?:(?!\1[{}])(?!.*;$).*\n)*)", re.MULTILINE)
-
-
-def names_in(text):
-    """Returns what the names that a file of code imports from definitions stand for: for each the file and its name there."""
-    found = {}
-    for module, items in IMPORT.findall(text):
-        for item in filter(None, (it.strip() for it in items.split(","))):
-            first, *other = item.split(" as ")
-            found[(other or [first])[0].strip()] = (module, first.strip())
-    return found
 
 
 def exported_by(crate):
@@ -43,7 +33,7 @@ def public_contracts(crate):
     exported = exported_by(crate)
     for path in files_of(crate, "src", ".rt"):
         text = text_of(path)
-        names, owner = names_in(text), None
+        names, owner = names_in(text, IMPORT), None
         for block in re.split(r"^(?=(?:pub )?(?:impl|trait)\b)|(?<=^\}\n)", text, flags=re.MULTILINE):
             owner = OWNER.match(block)
             for _, is_public, name, clauses in FUNCTION.findall(block):

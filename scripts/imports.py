@@ -1,11 +1,11 @@
 """What the scripts take from one another must be there.
 
-Of each script of scripts/ and bench/ every import is looked up: in the file of this name beside the script, or else in the standard library.
+Of each script of scripts/, bench/ and examples/ every import is looked up: in the file of this name beside the script, or else in the standard library.
 """
 import ast
 import glob
-import importlib.util
 import os
+import sys
 
 from sources import TOP, text_of
 
@@ -28,10 +28,10 @@ def imported(path):
 
 def wrong_imports():
     """Says which scripts import what isn't there."""
-    for path in sorted(os.path.relpath(it, TOP) for folder in ("scripts", "bench") for it in glob.glob(f"{TOP}/{folder}/*.py")):
+    for path in sorted(os.path.relpath(it, TOP) for folder in ("scripts", "bench", "examples") for it in glob.glob(f"{TOP}/{folder}/*.py")):
         for module, names in imported(path):
             beside = f"{os.path.dirname(path)}/{module}.py"
             if os.path.exists(f"{TOP}/{beside}"):
                 yield from (f"{path}: {beside} has no {it}" for it in names if it not in defined(beside))
-            elif importlib.util.find_spec(module.partition(".")[0]) is None:
+            elif module.partition(".")[0] not in sys.stdlib_module_names:
                 yield f"{path}: there is no module {module}"

@@ -14,7 +14,8 @@ import subprocess
 import sys
 from collections import Counter
 
-from sources import TOP
+from running import heed_closed_pipes
+from sources import TOP, named_by_crate
 
 
 def files_in(folder):
@@ -34,7 +35,9 @@ def modules_of(crate):
     # (a folder that isn't there would be filled with what other checkouts keep on this machine)
     shutil.rmtree(f"{folder}/out/incremental", ignore_errors=True)
     os.makedirs(f"{folder}/out/incremental")
-    subprocess.run(["rt", "check", "--jobs", "1"], cwd=folder, stdin=subprocess.DEVNULL, check=True)
+    status = subprocess.run(["rt", "check", "--jobs", "1"], cwd=folder, stdin=subprocess.DEVNULL, check=False).returncode
+    if status != 0:
+        sys.exit(f"`rt check` in crates/{crate}: status {status}")
     files, found = files_in(f"{folder}/out/incremental"), Counter()
     for (before, _), (after, path) in zip(files, files[1:]):
         found[module_of(path)] += after - before
@@ -42,6 +45,15 @@ def modules_of(crate):
 
 
 def main(words):
+    if len(words) not in (1, 2) or not all(it.isdecimal() for it in words[1:]):
+        sys.exit(__doc__)
+    if words[0] not in named_by_crate():
+        sys.exit(f"crates.txt has no crate {words[0]}")
+    if not shutil.which("rt"):
+        sys.exit("there is no `rt` on the PATH")
+    if not os.access(f"{TOP}/crates/{words[0]}", os.W_OK):
+        sys.exit(f"crates/{words[0]} can't be written")
+    heed_closed_pipes()
     modules = modules_of(words[0])
     kinds, named = Counter(), re.compile(r"-proofs\..+\.(Lts|Answers|Proof)$")
     for module, seconds in modules.items():

@@ -178,6 +178,11 @@ def is_right():
     return is_built(read_crates(Toolchain())[-1])
 
 
+def can_be_tried(given):
+    """Returns whether a program that is named can be run; or, if none is, whether that of this checkout is right."""
+    return os.path.isfile(given or PROGRAM) and os.access(given or PROGRAM, os.X_OK) and (bool(given) or is_right())
+
+
 def build(program, toolchain, log):
     """Proves the program, builds and links it, and puts it in the place of the one before. Returns whether that was done."""
     made, new = f"{PROGRAM}.o", f"{PROGRAM}.new"

@@ -1,4 +1,4 @@
-"""How the build runs commands, waits for its turn, and ends when a signal stops it."""
+"""How the build runs commands, waits for its turn, and ends when a signal stops it; and how other scripts do when nobody reads on."""
 import contextlib
 import fcntl
 import os
@@ -25,6 +25,11 @@ def stop(number, _):
     for it in SIGNALS:
         signal.signal(it, signal.SIG_IGN)
     raise Stopped(number)
+
+
+def heed_closed_pipes():
+    """Lets a script whose output nobody reads any more, as behind `| head`, end by the signal that says so. It must write to no command's input."""
+    signal.signal(signal.SIGPIPE, signal.SIG_DFL)
 
 
 def tell(text):

@@ -1,5 +1,6 @@
 """The crates of the repository, as crates.txt and their folders show them: names, groups, what each stands on, and files."""
 import os
+import sys
 
 TOP = os.path.dirname(os.path.dirname(os.path.abspath(__file__)))
 # The files of a crate, by folder and ending.
@@ -16,6 +17,16 @@ def text_of(path):
     """Returns the text of a file, by its path from the top of the repository."""
     with open(f"{TOP}/{path}", encoding="utf-8") as file:
         return file.read()
+
+
+def write_text(path, text):
+    """Writes a file, by its path from the top of the repository, with the folders above it. Ends the script if that can't be done."""
+    try:
+        os.makedirs(os.path.dirname(f"{TOP}/{path}"), exist_ok=True)
+        with open(f"{TOP}/{path}", "w", encoding="utf-8") as file:
+            file.write(text)
+    except OSError as why:
+        sys.exit(f"{path}: {why.strerror}")
 
 
 def named_by_crate():

@@ -7,7 +7,8 @@ import subprocess
 import sys
 from dataclasses import dataclass
 
-TOP = os.path.dirname(os.path.dirname(os.path.abspath(__file__)))
+from sources import TOP
+
 NOBODY = 65534
 # All that the launcher and the stand-ins call, beside python3.
 TOOLS = "sh cat dirname find mkdir mv printf readlink sed sha256sum sleep".split()
@@ -108,7 +109,7 @@ class Place:
     """A folder with a checkout, a stand-in for the toolchain, and the tools that are on the PATH."""
 
     def __init__(self, room):
-        self.room, self.top, self.kit = room, f"{room}/{ODD}/checkout", f"{room}/kit"
+        self.room, self.top, self.kit, self.children = room, f"{room}/{ODD}/checkout", f"{room}/kit", []
         for name in TOOLS + ["chmod"]:
             os.makedirs(f"{room}/tools", exist_ok=True)
             os.symlink(shutil.which(name), f"{room}/tools/{name}")
@@ -145,7 +146,15 @@ class Place:
         given = {"PATH": self.path(*path), "TMPDIR": f"{self.room}/scratch", **env}
         how = {"stdin": subprocess.PIPE, "stdout": subprocess.PIPE, "stderr": subprocess.PIPE, "start_new_session": True}
         how["preexec_fn"] = heed_interrupts
-        return subprocess.Popen([*user, call or f"{self.top}/bouwkamp", *words], cwd=at or self.room, env=given, text=True, **how)
+        self.children.append(subprocess.Popen([*user, call or f"{self.top}/bouwkamp", *words], cwd=at or self.room, env=given, text=True, **how))
+        return self.children[-1]
+
+    def end(self):
+        """Ends what a case that failed has left running."""
+        for child in self.children:
+            if child.returncode is None:
+                os.killpg(child.pid, signal.SIGKILL)
+                child.communicate()
 
     def call(self, *words, **how):
         """Calls the launcher on an input, and returns what it came to."""

@@ -384,10 +384,13 @@ def try_case(case):
     """Tries a case in a folder of its own. Returns what is wrong, or None."""
     with tempfile.TemporaryDirectory(prefix="launcher.") as room:
         os.chmod(room, 0o755)
+        place = Place(room)
         try:
-            case(Place(room))
+            case(place)
         except (Failed, subprocess.TimeoutExpired) as why:
             return str(why)
+        finally:
+            place.end()
     return None
 
 
@@ -395,6 +398,8 @@ def main(words):
     is_other = can_be_another()
     cases = [*CASES, *([read_only] if is_other or os.geteuid() else []), *(AS_ANOTHER if is_other else [])]
     cases = [it for it in cases if not words or any(word in it.__name__ for word in words)]
+    if not cases:
+        sys.exit(f"no case has one of the words {' '.join(words)}")
     wrong = 0
     for case in cases:
         why = try_case(case)

@@ -18,7 +18,7 @@ import subprocess
 import sys
 from dataclasses import dataclass
 
-from proving import PROGRAM, is_right
+from proving import PROGRAM, can_be_tried
 
 INPUT, OUTPUT, ERRORS = 0, 1, 2
 USAGE = "usage: bouwkamp COMMAND [--NAME VALUE]...\n"
@@ -35,6 +35,8 @@ SMALL_STACK = 320 << 10
 # So many seconds of a processor are more than ten times what the greatest catalogue takes, and less than a tenth of what it would take if each member
 # were searched for anew, or if no table of members were kept.
 FEW_SECONDS = 5
+# A case that takes longer is ended, and so differs.
+SECONDS = 120
 # The greatest catalogue takes hardly twice as long as one search for all members.
 MOST_SEARCHES = 10
 
@@ -94,8 +96,12 @@ def run(program, case):
     for descriptor in streams:
         if descriptor != subprocess.PIPE:
             os.close(descriptor)
-    out, err = child.communicate(case.text.encode())
-    return child.returncode, (out or b"").decode(), (err or b"").decode()
+    try:
+        out, err = child.communicate(case.text.encode(), timeout=SECONDS)
+    except subprocess.TimeoutExpired:
+        child.kill()
+        out, err = child.communicate()
+    return child.returncode, (out or b"").decode(errors="replace"), (err or b"").decode(errors="replace")
 
 
 def run_on_line_feeds(program, count):
@@ -108,7 +114,7 @@ def run_on_line_feeds(program, count):
     except BrokenPipeError:
         pass
     out, err = child.communicate()
-    return child.returncode, out.decode(), err.decode()
+    return child.returncode, out.decode(errors="replace"), err.decode(errors="replace")
 
 
 def run_within(program, *arguments, stack=None, text=""):
@@ -119,7 +125,7 @@ def run_within(program, *arguments, stack=None, text=""):
         if stack:
             resource.setrlimit(resource.RLIMIT_STACK, (stack, stack))
 
-    ran = subprocess.run([program, *arguments], input=text, capture_output=True, text=True, preexec_fn=limit, check=False)
+    ran = subprocess.run([program, *arguments], input=text, capture_output=True, text=True, errors="replace", preexec_fn=limit, check=False)
     return ran.returncode, ran.stdout, ran.stderr
 
 
@@ -150,7 +156,7 @@ def searches(program):
     """Returns as how many searches the greatest catalogue takes, beside what it may take. Its first entry takes one search for all members; with a
     search for each member the catalogue would take thousands."""
     one = min(processor_seconds(program, "list", "--order", "16", "--limit", "1") for _ in range(3))
-    many = processor_seconds(program, "list", "--order", "16") / one
+    many = processor_seconds(program, "list", "--order", "16") / max(one, 1e-6)
     few = f"as long as at most {MOST_SEARCHES} searches"
     return [("the time of list --order 16", few, few if many <= MOST_SEARCHES else f"as long as {many:.0f} searches, or longer")]
 
@@ -162,9 +168,12 @@ def short(said):
     return tuple(it if isinstance(it, int) or len(it) <= WIDEST else f"{it[:WIDEST]}.. ({len(it)} bytes)" for it in said)
 
 
-def main():
-    program = sys.argv[1] if len(sys.argv) > 1 else PROGRAM
-    if not os.access(program, os.X_OK) or len(sys.argv) < 2 and not is_right():
+def main(words):
+    given = "".join(words[:1])
+    if len(words) > 1 or given.startswith("-"):
+        sys.exit(__doc__)
+    program = os.path.abspath(given or PROGRAM)
+    if not can_be_tried(given):
         sys.exit(f"{program} isn't built from the sources as they are (./bouwkamp help builds it)\n0 cases, 1 differ")
     tried = [(case.name, (case.status, case.out, case.err), run(program, case)) for case in CASES]
     tried.append(("as many line feeds as are taken", (0, "", ""), run_on_line_feeds(program, MOST_BYTES)))
@@ -179,4 +188,4 @@ def main():
 
 
 if __name__ == "__main__":
-    sys.exit(main())
+    sys.exit(main(sys.argv[1:]))

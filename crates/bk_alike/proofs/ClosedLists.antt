@@ -9,7 +9,7 @@ use Rattle.bk_ports.specs.declared.Failed.{Failed}
 use Rattle.bk_ports.proofs.OtherOutputs.{IsStop, stops_as, whole_behind}
 use Rattle.bk_ports.specs.Ending.{EndsWith, HasVerdict, IsReadWhole, Streams, streams_told}
 use Rattle.bk_ports.specs.Entering.{AreAllEntered, entering_from, entries_of}
-use Rattle.bk_ports.specs.Faults.{CountsTell, Faults}
+use Rattle.bk_ports.specs.Faults.{CountsTell, faults_told}
 use Rattle.bk_ports.specs.Reply.{text_of}
 use Rattle.bk_ports.specs.declared.Ended.{Ended}
 use Rattle.bk_ports.specs.declared.Ended.TheVariants.{NoMemory, NoneRefused, ReadFailed, SomeRefused, TooMany, WriteFailed}
@@ -118,13 +118,9 @@ has_verdict WriteFailed v = absurd v
 has_verdict NoMemory v = absurd v
 has_verdict TooMany v = absurd v
 
--- the failed reads and writes, before a run and after it
-abbrev pub faults_of : ℕ → ℕ → ℕ → ℕ → Faults
-faults_of read read_after write write_after = record { read = read; read_after = read_after; write = write; write_after = write_after }
-
 module _ (read read_after write between now : ℕ) where
   -- no count rises at the lines of such a run
-  no_fault : (ended : Ended) → IsVerdict ended → CountsTell ended (faults_of read read_after write between) → (read_after ≡ read) × (between ≡ write)
+  no_fault : (ended : Ended) → IsVerdict ended → CountsTell ended (faults_told read read_after write between) → (read_after ≡ read) × (between ≡ write)
   no_fault NoneRefused v h = h
   no_fault SomeRefused v h = h
   no_fault ReadFailed v h = absurd v
@@ -133,14 +129,14 @@ module _ (read read_after write between now : ℕ) where
   no_fault TooMany v h = absurd v
 
   -- none where what is wanted was written
-  pub well_told : (ended : Ended) → CountsTell ended (faults_of read read_after write between) → (r : Result (Unit {0}) Failed)
-      → HasCause between now r → r ≡ Ok tt → CountsTell ended (faults_of read read_after write now)
-  well_told ended h r cause e = subst (λ (n : ℕ). CountsTell ended (faults_of read read_after write n))
+  pub well_told : (ended : Ended) → CountsTell ended (faults_told read read_after write between) → (r : Result (Unit {0}) Failed)
+      → HasCause between now r → r ≡ Ok tt → CountsTell ended (faults_told read read_after write now)
+  well_told ended h r cause e = subst (λ (n : ℕ). CountsTell ended (faults_told read read_after write n))
       (sym (subst (λ (w : Result (Unit {0}) Failed). OnOk w (now ≡ between)) e cause.ok)) h
 
   -- where what is wanted was not written, the counts of faults tell that a write failed
-  pub badly_told : (ended : Ended) → IsVerdict ended → CountsTell ended (faults_of read read_after write between) → (r : Result (Unit {0}) Failed)
-      → HasCause between now r → (f : Failed) → r ≡ Err f → CountsTell WriteFailed (faults_of read read_after write now)
+  pub badly_told : (ended : Ended) → IsVerdict ended → CountsTell ended (faults_told read read_after write between) → (r : Result (Unit {0}) Failed)
+      → HasCause between now r → (f : Failed) → r ≡ Err f → CountsTell WriteFailed (faults_told read read_after write now)
   badly_told ended v h r cause f e =
       let calm = no_fault ended v h in (
         calm.0,

@@ -17,7 +17,7 @@ use Rattle.bk_ports.specs.Lines.{kept_front}
 use Rattle.bk_ports.specs.Reply.{Reply, some_refused}
 use Rattle.bk_alike.specs.Listed.{HasRefusedLine, Listed, ListsLine, keeps, listing_start, no_more, refuses, skipped}
 use Rattle.bk_alike.specs.Listed.{with_item}
-use Rattle.bk_alike.specs.ListingLaw.{LinesHaveOneListing}
+use Rattle.bk_alike.specs.OneListing.{LinesHaveOneListing}
 
 -- a line has one tiling
 line_tiling : (line : List ℕ) (t u : Tiling) → HasTiling line t → HasTiling line u → t ≡ u

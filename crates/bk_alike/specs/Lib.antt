@@ -2,7 +2,7 @@
 pub mod Alike
 pub mod GroupsEnd
 pub mod Listed
-pub mod ListingLaw
+pub mod OneListing
 pub mod Pairs
 -- How its code keeps it.
 pub mod EmptyIsSkipped

@@ -82,8 +82,8 @@ impl Alike {
         }
     }
 
-    /// Keeps the canonical tiling of a tiling with its line. `Full` comes exactly where 16,384 items are kept; a
-    /// refusal changes nothing.
+    /// Keeps the canonical tiling of a tiling with its line, as the last item. `Full` comes exactly if 16,384 items are
+    /// kept, and `NoMemory` only if memory is wanting. A refusal changes nothing.
     pub fn add(&mut self, line: u64, tiling: &Tiling) -> Result<(), AddFault>
         ensures full { result ≡ Err AddFault.Full ↔ (MOST_ITEMS ≤ length self.old) }
         ensures kept { OnOk result ((c : Tiled) × IsCanonicalOf tiling.now c
@@ -114,7 +114,7 @@ impl Alike {
         self.items.len()
     }
 
-    /// The item at a place, from 0.
+    /// The item at a place, from 0: its line, and its canonical tiling. There must be an item at the place.
     pub fn item(&self, i: usize) -> (u64, &KeptTiling)
         requires { i < length self.now }
         ensures { (item : _) × (slice_get self.now i ≡ Some item) × (result.0 ≡ item.line)
@@ -131,7 +131,8 @@ impl Alike {
         self.groups.len()
     }
 
-    /// The size of a group. Groups are numbered from 0 in the order of their first items.
+    /// The size of a group: the width and the height of its canonical tilings. Groups are numbered from 0 in the order
+    /// of their first items, and there must be a group of this number.
     pub fn size(&self, g: usize) -> (u64, u64)
         requires { g < length (alike_groups self.now) }
         ensures { slice_get (sizes self.now) g ≡ Some result }
@@ -142,7 +143,8 @@ impl Alike {
         }
     }
 
-    /// The items of a group, as places from 0, in the order of their lines.
+    /// The items of a group, as ascending places from 0. Groups are numbered as for `size`, and there must be a group
+    /// of this number.
     pub fn members(&self, g: usize) -> &[u32]
         requires { g < length (alike_groups self.now) }
         ensures { slice_get (alike_groups self.now) g ≡ Some result.now }
@@ -151,7 +153,8 @@ impl Alike {
         group.as_slice()
     }
 
-    /// The items of a size, as places from 0, in the order of their lines. The size is looked up by its hash.
+    /// The items of a size, as ascending places from 0: none, if no canonical tiling has the size. The size is looked
+    /// up by its hash.
     pub fn of_size(&self, size: (u64, u64)) -> &[u32]
         ensures value { result.now ≡ group_of self.now size }
         ensures few { length self.now ≤ MOST_ITEMS }

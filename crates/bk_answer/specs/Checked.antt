@@ -1,5 +1,6 @@
--- What `check` accepts, told of tilings alone: `[2,1][1]` and the row `3 3 2 2 1 1` are accepted, since a tiling 3 by 2
--- of three squares has this code; `2x3 [2,1][1]` is not, since that tiling has another size.
+-- What `check` accepts, in terms of tilings: a line is accepted exactly if a tiling has the code, the order and the
+-- size that it states. So are `[2,1][1]` and the row `3 3 2 2 1 1`, of a tiling 3 by 2 of three squares; `2x3 [2,1][1]`
+-- isn't, since that tiling has another size.
 -- Example (CodeAnswerExamples): each answer to `[2,1][1]` begins with `ok`; that to `2x3 [2,1][1]` doesn't, so no
 -- tiling has what that line states.
 use Rattle.std.specs.List.{concat}

@@ -13,7 +13,8 @@ use Rattle.bk_answer.specs.declared.command.Command.{Command}
 use Rattle.bk_answer.specs.declared.command.Command.TheVariants.{Memory, Plain}
 use Rattle.bk_answer.specs.declared.command.MemoryCommand.TheVariants.{Flow, Solve, Word}
 
-empty_has_none : HasItem [] Skip
+-- an empty line has no item
+pub empty_has_none : HasItem [] Skip
 empty_has_none = record { short = lit≤ tt; meaning = ([], [], refl, tt, inl refl); few = lit≤ tt }
 
 pub no_answer_to_empty : (command : Command) → AnswersLine command [] [] false

@@ -40,8 +40,9 @@ impl Desk {
 }
 
 /// The tiling that a line of codes speaks of, by Bouwkamp's notation (1946-47) or as a row of a table, or `None` where
-/// it has no item. It is laid on the desk. A line is refused exactly where no tiling has the code, the order and the
-/// size that it states, or it is no line of at most 8,192 bytes and 200 sides; the first cause is told.
+/// it has no item. It is laid on the desk. A line is refused exactly where it has more than 8,192 bytes or more than
+/// 200 sides, is outside the grammar, or no tiling has the code, the order and the size that it states. The first cause
+/// is told.
 pub fn lay_line<'a>(line: &[u8], desk: &'a mut Desk) -> Result<Option<&'a Tiling>, Refused>
     ensures laid { IfOk result (λ laid. IsLaidLine line.now (option_copied laid)) }
     ensures refused { IfErr result (IsLineRefused line.now) }

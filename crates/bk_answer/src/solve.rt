@@ -39,6 +39,7 @@ pub(crate) fn answer_word_line<O: Sink>(
     };
     match read_word(alloc, &line[start..end]) {
         Ok(word) => {
+            // From this read the proof has it that there are at most 200 squares.
             let _few = word.order();
             answer_word(alloc, &word, desk, buffer, out)
         }

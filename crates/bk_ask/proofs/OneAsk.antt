@@ -1,20 +1,20 @@
 -- Words ask one thing: the first one tells the command, and each option is read in one way.
 use Rattle.std.specs.Prelude.{List, Option, [], codes, true, ℕ, ◌∷◌, ◌≡◌}
 use Rattle.std.specs.Str.{bytes_eq}
-use Rattle.std.proofs.Common.{ap, lit<, subst, sym, ◌∙◌}
+use Rattle.std.proofs.Common.{ap, subst, sym, ◌∙◌}
 use Rattle.std.proofs.lemmas.Slice.Eq.{bytes_eq-Decides}
 use Rattle.bk_word.specs.Word.{Word}
 use Rattle.bk_word.specs.declared.Class.{Class}
 use Rattle.bk_word.specs.declared.Class.TheVariants.{Perfect}
 use Rattle.bk_ask.specs.Asked.{Asks, AsksListing, AsksPair, AsksTrial, AsksVerify, OptionsSay, command_name}
-use Rattle.bk_ask.specs.OptionValues.{IsClassName, IsCursor, IsKindName, IsNumberWithin}
+use Rattle.bk_ask.specs.OptionValues.{IsClassName, IsCount, IsCursor, IsKindName, IsLimit, IsOrder, IsSeed}
 use Rattle.bk_ask.specs.Options.{NamesDiffer, options_in}
 use Rattle.bk_ask.specs.declared.Ask.{Ask}
 use Rattle.bk_ask.specs.declared.Ask.TheVariants as asks
 use Rattle.bk_pair.specs.declared.Kind.{Kind}
 use Rattle.bk_pair.specs.declared.Kind.TheVariants as kinds
 use Rattle.bk_ask.proofs.OptionLaws.{given_once, given_or_once, may_have_once}
-use Rattle.bk_ask.proofs.ValueLaws.{one_class, one_cursor, one_kind, one_number}
+use Rattle.bk_ask.proofs.ValueLaws.{one_class, one_count, one_cursor, one_kind, one_limit, one_order, one_seed}
 
 -- two names are one, by a test of their bytes
 abbrev pub IsOneName : List ℕ → List ℕ → Type 0
@@ -32,30 +32,26 @@ listing_once : (words : List (List ℕ)) (order order' : ℕ) (class class' : Cl
 listing_once words order order' class class' from from' limit limit' a b =
     let once : NamesDiffer (options_in words) = a.options.once in
     let orders : order ≡ order' =
-    given_once (options_in words) (codes "--order") (IsNumberWithin 2 16) (one_number 2 16 (lit< tt)) order order' once a.has_order b.has_order in
+    given_once (options_in words) (codes "--order") IsOrder one_order order order' once a.has_order b.has_order in
     let classes : class ≡ class' =
     given_or_once (options_in words) (codes "--class") IsClassName Perfect one_class class class' once a.has_class b.has_class in
     let cursors : from ≡ from' = may_have_once (options_in words) (codes "--from") IsCursor one_cursor from from' once a.has_from b.has_from in
     let limits : limit ≡ limit' =
-    may_have_once (options_in words) (codes "--limit") (IsNumberWithin 0 1_000_000_000) (one_number 0 1_000_000_000 (lit< tt)) limit limit' once
-    a.has_limit b.has_limit in
+    may_have_once (options_in words) (codes "--limit") IsLimit one_limit limit limit' once a.has_limit b.has_limit in
     cc
 
 trial_once : (words : List (List ℕ)) (seed seed' count count' : ℕ) → AsksTrial words seed count → AsksTrial words seed' count'
     → asks.Trial seed count ≡ asks.Trial seed' count'
 trial_once words seed seed' count count' a b =
     let once : NamesDiffer (options_in words) = a.options.once in
-    let seeds : seed ≡ seed' =
-    given_once (options_in words) (codes "--seed") (IsNumberWithin 0 18_446_744_073_709_551_615) (one_number 0 18_446_744_073_709_551_615 (lit< tt))
-    seed seed' once a.has_seed b.has_seed in
-    let counts : count ≡ count' =
-    given_once (options_in words) (codes "--count") (IsNumberWithin 0 100_000) (one_number 0 100_000 (lit< tt)) count count' once a.has_count b.has_count in
+    let seeds : seed ≡ seed' = given_once (options_in words) (codes "--seed") IsSeed one_seed seed seed' once a.has_seed b.has_seed in
+    let counts : count ≡ count' = given_once (options_in words) (codes "--count") IsCount one_count count count' once a.has_count b.has_count in
     cc
 
 verify_once : (words : List (List ℕ)) (order order' : ℕ) → AsksVerify words order → AsksVerify words order' → asks.Verify order ≡ asks.Verify order'
 verify_once words order order' a b =
     ap asks.Verify
-    (given_once (options_in words) (codes "--order") (IsNumberWithin 2 16) (one_number 2 16 (lit< tt)) order order' a.options.once a.has_order b.has_order)
+    (given_once (options_in words) (codes "--order") IsOrder one_order order order' a.options.once a.has_order b.has_order)
 
 pair_once : (words : List (List ℕ)) (kind kind' : Kind) → AsksPair words kind → AsksPair words kind' → asks.Pair kind ≡ asks.Pair kind'
 pair_once words kind kind' a b =

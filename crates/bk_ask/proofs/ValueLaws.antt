@@ -1,19 +1,37 @@
 -- The value of an option means one thing.
 use Rattle.std.specs.Prelude.{List, cond, length, nat_eq, refl, ℕ, ◌<◌, ◌^◌, ◌≡◌}
-use Rattle.std.proofs.Common.{ap, arith, sym, ◌∙◌}
+use Rattle.std.proofs.Common.{ap, arith, lit<, sym, ◌∙◌}
 use Rattle.std.proofs.lemmas.Fmt.{decimal_injective}
 use Rattle.bk_word.specs.Word.{Word}
 use Rattle.bk_word.specs.declared.Class.{Class}
 use Rattle.bk_word.specs.declared.Class.TheVariants.{Imperfect, Perfect, Simple}
+use Rattle.bk_word.specs.declared.TheConstants.{LARGEST_LISTED_ORDER, LEAST_LISTED_ORDER}
 use Rattle.bk_word.proofs.WordsRead.{one_word}
-use Rattle.bk_ask.specs.OptionValues.{IsClassName, IsCursor, IsKindName, IsNumberWithin, class_name, kind_name}
+use Rattle.bk_ask.specs.OptionValues.{IsClassName, IsCount, IsCursor, IsKindName, IsLimit, IsNumberWithin, IsOrder, IsSeed, class_name, kind_name}
+use Rattle.bk_ask.specs.declared.command_options.TheConstants.{GREATEST_SEED, MOST_CODES, MOST_ENTRIES}
 use Rattle.bk_pair.specs.declared.Kind.{Kind}
 use Rattle.bk_pair.specs.declared.Kind.TheVariants as kinds
 
 -- bytes mean one number at most
-pub one_number : (least most : ℕ) → most < 2 ^ 64 → (bytes : List ℕ) (a b : ℕ) → IsNumberWithin least most bytes a → IsNumberWithin least most bytes b → a ≡ b
+one_number : (least most : ℕ) → most < 2 ^ 64 → (bytes : List ℕ) (a b : ℕ) → IsNumberWithin least most bytes a → IsNumberWithin least most bytes b → a ≡ b
 one_number least most fits bytes a b first second =
     decimal_injective a b (omega (arith, first.at_most)) (omega (arith, second.at_most)) (sym first.text ∙ second.text)
+
+-- bytes mean one order at most
+pub one_order : (bytes : List ℕ) (a b : ℕ) → IsOrder bytes a → IsOrder bytes b → a ≡ b
+one_order = one_number LEAST_LISTED_ORDER LARGEST_LISTED_ORDER (lit< tt)
+
+-- bytes mean one limit at most
+pub one_limit : (bytes : List ℕ) (a b : ℕ) → IsLimit bytes a → IsLimit bytes b → a ≡ b
+one_limit = one_number 0 MOST_ENTRIES (lit< tt)
+
+-- bytes mean one seed at most
+pub one_seed : (bytes : List ℕ) (a b : ℕ) → IsSeed bytes a → IsSeed bytes b → a ≡ b
+one_seed = one_number 0 GREATEST_SEED (lit< tt)
+
+-- bytes mean one count at most
+pub one_count : (bytes : List ℕ) (a b : ℕ) → IsCount bytes a → IsCount bytes b → a ≡ b
+one_count = one_number 0 MOST_CODES (lit< tt)
 
 -- bytes mean one cursor at most
 pub one_cursor : (bytes : List ℕ) (v w : Word) → IsCursor bytes v → IsCursor bytes w → v ≡ w

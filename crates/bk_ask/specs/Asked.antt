@@ -5,12 +5,10 @@ use Rattle.std.specs.Prelude.{List, Option, [], codes, ℕ, ◌∷◌, ◌≡◌
 use Rattle.bk_word.specs.Word.{Word}
 use Rattle.bk_word.specs.declared.Class.{Class}
 use Rattle.bk_word.specs.declared.Class.TheVariants.{Perfect}
-use Rattle.bk_word.specs.declared.TheConstants.{LARGEST_LISTED_ORDER}
 use Rattle.bk_ask.specs.Options.{AreOptions, Given, IsGivenOr, MayHave, options_in}
-use Rattle.bk_ask.specs.OptionValues.{IsClassName, IsCursor, IsKindName, IsNumberWithin}
+use Rattle.bk_ask.specs.OptionValues.{IsClassName, IsCount, IsCursor, IsKindName, IsLimit, IsOrder, IsSeed}
 use Rattle.bk_ask.specs.declared.Ask.{Ask}
 use Rattle.bk_ask.specs.declared.Ask.TheVariants as asks
-use Rattle.bk_ask.specs.declared.command_options.TheConstants.{GREATEST_SEED, MOST_CODES, MOST_ENTRIES}
 use Rattle.bk_pair.specs.declared.Kind.{Kind}
 use Rattle.bk_pair.specs.declared.Kind.TheVariants as kinds
 
@@ -32,27 +30,28 @@ command_name asks.Alike = codes "alike"
 command_name (asks.Pair kind) = codes "pair"
 command_name asks.Help = codes "help"
 
--- list: an order from 2 to 16; and it may have a class, which is else perfect, a word after which to start, and a limit
+-- list: an order from 2 to 16; and it may have a class, without which it is perfect, a word after which to start, and
+-- a limit
 pub record AsksListing (words : List (List ℕ)) (order : ℕ) (class : Class) (from : Option Word)
     (limit : Option ℕ) : Type 0 where
   pub options : AreOptions (codes "--order" ∷ codes "--class" ∷ codes "--from" ∷ codes "--limit" ∷ []) words
-  pub has_order : Given (options_in words) (codes "--order") (IsNumberWithin 2 LARGEST_LISTED_ORDER) order
+  pub has_order : Given (options_in words) (codes "--order") IsOrder order
   pub has_class : IsGivenOr (options_in words) (codes "--class") IsClassName Perfect class
   pub has_from : MayHave (options_in words) (codes "--from") IsCursor from
-  pub has_limit : MayHave (options_in words) (codes "--limit") (IsNumberWithin 0 MOST_ENTRIES) limit
+  pub has_limit : MayHave (options_in words) (codes "--limit") IsLimit limit
 
 -- trial: a seed and a count
 pub record AsksTrial (words : List (List ℕ)) (seed count : ℕ) : Type 0 where
   pub options : AreOptions (codes "--seed" ∷ codes "--count" ∷ []) words
-  pub has_seed : Given (options_in words) (codes "--seed") (IsNumberWithin 0 GREATEST_SEED) seed
-  pub has_count : Given (options_in words) (codes "--count") (IsNumberWithin 0 MOST_CODES) count
+  pub has_seed : Given (options_in words) (codes "--seed") IsSeed seed
+  pub has_count : Given (options_in words) (codes "--count") IsCount count
 
 -- verify: an order from 2 to 16
 pub record AsksVerify (words : List (List ℕ)) (order : ℕ) : Type 0 where
   pub options : AreOptions (codes "--order" ∷ []) words
-  pub has_order : Given (options_in words) (codes "--order") (IsNumberWithin 2 LARGEST_LISTED_ORDER) order
+  pub has_order : Given (options_in words) (codes "--order") IsOrder order
 
--- pair: it may have a kind, which is else perfect
+-- pair: it may have a kind, without which it is perfect
 pub record AsksPair (words : List (List ℕ)) (kind : Kind) : Type 0 where
   pub options : AreOptions (codes "--kind" ∷ []) words
   pub has_kind : IsGivenOr (options_in words) (codes "--kind") IsKindName kinds.Perfect kind

@@ -6,7 +6,8 @@ use Rattle.bk_word.specs.Word.{Word, order_of}
 use Rattle.bk_word.specs.WordText.{IsTextOf}
 use Rattle.bk_word.specs.declared.Class.{Class}
 use Rattle.bk_word.specs.declared.Class.TheVariants.{Imperfect, Perfect, Simple}
-use Rattle.bk_word.specs.declared.TheConstants.{LARGEST_LISTED_ORDER}
+use Rattle.bk_word.specs.declared.TheConstants.{LARGEST_LISTED_ORDER, LEAST_LISTED_ORDER}
+use Rattle.bk_ask.specs.declared.command_options.TheConstants.{GREATEST_SEED, MOST_CODES, MOST_ENTRIES}
 use Rattle.bk_pair.specs.declared.Kind.{Kind}
 use Rattle.bk_pair.specs.declared.Kind.TheVariants as kinds
 
@@ -15,6 +16,22 @@ pub record IsNumberWithin (least most : ℕ) (bytes : List ℕ) (n : ℕ) : Type
   pub at_least : least ≤ n
   pub at_most : n ≤ most
   pub text : bytes ≡ decimal n
+
+-- the order of a catalogue, from 2 to 16
+abbrev pub IsOrder : List ℕ → ℕ → Type 0
+IsOrder = IsNumberWithin LEAST_LISTED_ORDER LARGEST_LISTED_ORDER
+
+-- how many entries are listed at most: from 0 to a thousand million
+abbrev pub IsLimit : List ℕ → ℕ → Type 0
+IsLimit = IsNumberWithin 0 MOST_ENTRIES
+
+-- a seed of trial codes: each number of 64 bits
+abbrev pub IsSeed : List ℕ → ℕ → Type 0
+IsSeed = IsNumberWithin 0 GREATEST_SEED
+
+-- how many trial codes are tried, from 0 to 100,000
+abbrev pub IsCount : List ℕ → ℕ → Type 0
+IsCount = IsNumberWithin 0 MOST_CODES
 
 -- the text of a word of an order of at most 16
 pub record IsCursor (bytes : List ℕ) (w : Word) : Type 0 where

@@ -10,8 +10,8 @@ pub record NamedValue : Type 0 where
   pub value : List ℕ
 
 -- the two words of an option
-abbrev pub words_of : NamedValue → List (List ℕ)
-words_of p = p.name ∷ p.value ∷ []
+abbrev pub option_words : NamedValue → List (List ℕ)
+option_words p = p.name ∷ p.value ∷ []
 
 -- words, cut into options: each first one is a name, the next one its value. A last word without a value is in none
 abbrev pub options_in : List (List ℕ) → List NamedValue
@@ -30,7 +30,7 @@ NamesDiffer (p ∷ options) = IsLeftOut options p.name × NamesDiffer options
 
 -- the words are options in any order: none is left over, each name is one of these, and none stands twice
 pub record AreOptions (names words : List (List ℕ)) : Type 0 where
-  pub whole : words ≡ flat_map words_of (options_in words)
+  pub whole : words ≡ flat_map option_words (options_in words)
   pub known : AllByRecursion (λ p. Contains names p.name) (options_in words)
   pub once : NamesDiffer (options_in words)
 

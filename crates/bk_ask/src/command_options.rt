@@ -6,27 +6,26 @@ ghost use Rattle.bk_word.specs.declared.Class.{Class as ClassOf};
 ghost use Rattle.bk_pair.specs.declared.Kind.{Kind as KindOf};
 ghost use Rattle.bk_ask.specs.Asked.{Asks, AsksNothing};
 ghost use Rattle.bk_ask.specs.Options.{Given, IsGivenOr, MayHave, NamesDiffer, options_in};
-ghost use Rattle.bk_ask.specs.declared.command_options.TheConstants.{GREATEST_ORDER, LEAST_ORDER, MOST_ENTRIES};
-ghost use Rattle.bk_ask.specs.OptionValues.{IsClassName, IsCursor, IsKindName, IsNumberWithin};
+ghost use Rattle.bk_ask.specs.OptionValues.{IsClassName, IsCursor, IsKindName, IsLimit, IsNumberWithin, IsOrder};
 
 use crate::options::{are_options, value_of};
-use crate::values::{class_named, cursor_in, kind_named, number_within};
+use crate::values::{class_named, cursor_of, kind_named, number_within};
 use crate::{Ask, Kind};
-use bk_word::{Class, LARGEST_LISTED_ORDER, Word};
+use bk_word::{Class, LARGEST_LISTED_ORDER, LEAST_LISTED_ORDER, Word};
 use std::alloc::Global;
 
 // The orders of catalogues.
-const LEAST_ORDER: u64 = 2;
+const LEAST_ORDER: u64 = LEAST_LISTED_ORDER as u64;
 
 const GREATEST_ORDER: u64 = LARGEST_LISTED_ORDER as u64;
 
-// At most so many entries are listed, where a limit is asked.
+// The greatest limit that may be asked.
 const MOST_ENTRIES: u64 = 1_000_000_000;
 
 // Each number of 64 bits is a seed.
 const GREATEST_SEED: u64 = u64::MAX;
 
-// At most so many trial codes are tried.
+// The most trial codes that may be asked.
 const MOST_CODES: u64 = 100_000;
 
 // What `list` asks with these options.
@@ -38,9 +37,9 @@ pub(crate) fn listing(alloc: Global, options: &[String]) -> Option<Ask>
         return None;
     }
     let order = order_given(options)?;
-    let class = class_in(options)?;
+    let class = class_given(options)?;
     let from = cursor_given(alloc, options)?;
-    let limit = limit_in(options)?;
+    let limit = limit_given(options)?;
     Some(Ask::List {
         order,
         class,
@@ -82,7 +81,7 @@ pub(crate) fn pair(options: &[String]) -> Option<Ask>
     if !are_options(&["--kind"], options) {
         return None;
     }
-    let kind = kind_in(options)?;
+    let kind = kind_given(options)?;
     Some(Ask::Pair { kind })
 }
 
@@ -90,9 +89,9 @@ pub(crate) fn pair(options: &[String]) -> Option<Ask>
 fn order_given(options: &[String]) -> Option<u8>
     requires { NamesDiffer (options_in (map string_bytes options.now)) }
     ensures some { let read = options_in (map string_bytes options.now) in
-        IfSome result (Given read (codes "--order") (IsNumberWithin LEAST_ORDER GREATEST_ORDER)) }
+        IfSome result (Given read (codes "--order") IsOrder) }
     ensures none { let read = options_in (map string_bytes options.now) in
-        IfNone result ((n : ℕ) → Given read (codes "--order") (IsNumberWithin LEAST_ORDER GREATEST_ORDER) n → ⊥) }
+        IfNone result ((n : ℕ) → Given read (codes "--order") IsOrder n → ⊥) }
 {
     Some(number_given(options, "--order", LEAST_ORDER, GREATEST_ORDER)? as u8)
 }
@@ -109,7 +108,7 @@ fn number_given(options: &[String], name: &str, least: u64, most: u64) -> Option
 }
 
 // The class, which is perfect where none is named. None if it has another name.
-fn class_in(options: &[String]) -> Option<Class>
+fn class_given(options: &[String]) -> Option<Class>
     requires { NamesDiffer (options_in (map string_bytes options.now)) }
     ensures some { let read = options_in (map string_bytes options.now) in
         IfSome result (IsGivenOr read (codes "--class") IsClassName Class.Perfect) }
@@ -123,7 +122,7 @@ fn class_in(options: &[String]) -> Option<Class>
 }
 
 // The kind of pairs, which is the perfect one where none is named. None if it has another name.
-fn kind_in(options: &[String]) -> Option<Kind>
+fn kind_given(options: &[String]) -> Option<Kind>
     requires { NamesDiffer (options_in (map string_bytes options.now)) }
     ensures some { let read = options_in (map string_bytes options.now) in
         IfSome result (IsGivenOr read (codes "--kind") IsKindName Kind.Perfect) }
@@ -144,19 +143,19 @@ fn cursor_given(alloc: Global, options: &[String]) -> Option<Option<Word>>
         IfNone result ((from : Option Moves) → MayHave read (codes "--from") IsCursor from → ⊥) }
 {
     match value_of(options, "--from") {
-        Some(text) => Some(Some(cursor_in(alloc, text)?)),
+        Some(text) => Some(Some(cursor_of(alloc, text)?)),
         None => Some(None),
     }
 }
 
 // How many entries to list at most, if that is said. None if its text has no meaning.
-fn limit_in(options: &[String]) -> Option<Option<u64>>
+fn limit_given(options: &[String]) -> Option<Option<u64>>
     requires { NamesDiffer (options_in (map string_bytes options.now)) }
     ensures some { let read = options_in (map string_bytes options.now) in
-        IfSome result (MayHave read (codes "--limit") (IsNumberWithin 0 MOST_ENTRIES)) }
+        IfSome result (MayHave read (codes "--limit") IsLimit) }
     ensures none { let read = options_in (map string_bytes options.now) in
         IfNone result ((limit : Option ℕ)
-        → MayHave read (codes "--limit") (IsNumberWithin 0 MOST_ENTRIES) limit → ⊥) }
+        → MayHave read (codes "--limit") IsLimit limit → ⊥) }
 {
     match value_of(options, "--limit") {
         Some(text) => Some(Some(number_within(0, MOST_ENTRIES, text)?)),

@@ -71,11 +71,11 @@ pub enum Ask {
 /// `images`, `net`, `flow`, `word`, `solve`, `draw`, `dual`, `alike` and `help` stand alone. After `list`, `trial`,
 /// `verify` and `pair` come pairs of a name and a value, in any order and each name at most once.
 ///
-/// `list` has `--order` with 2 to 16, and may have `--class` with `perfect`, `imperfect` or `simple`, which is else
-/// `perfect`, `--from` with the text of a word of order at most 16, and `--limit` with 0 to 1,000,000,000. `trial` has
-/// `--seed` with 0 to 18,446,744,073,709,551,615 and `--count` with 0 to 100,000. `verify` has `--order` with 2 to 16.
-/// `pair` may have `--kind` with `perfect` or `any`, which is else `perfect`. A number is `0`, or digits without a
-/// leading 0 and without a sign.
+/// `list` has `--order` with 2 to 16. It may have `--class` with `perfect`, `imperfect` or `simple`, and without it the
+/// class is `perfect`; `--from` with the text of a word of order at most 16; and `--limit` with 0 to 1,000,000,000.
+/// `trial` has `--seed` with 0 to 18,446,744,073,709,551,615 and `--count` with 0 to 100,000. `verify` has `--order`
+/// with 2 to 16. `pair` may have `--kind` with `perfect` or `any`, and without it the kind is `perfect`. A number is
+/// `0`, or digits without a leading 0 and without a sign.
 ///
 /// `None` comes exactly where the words ask nothing. It takes no memory. The form is our own.
 pub fn asked(alloc: Global, words: &[String]) -> Option<Ask>

@@ -32,7 +32,7 @@ fn begins_number(text: &str) -> bool
 }
 
 // The word whose text it is, where its order is at most 16. It takes no memory.
-pub(crate) fn cursor_in(alloc: Global, text: &str) -> Option<Word>
+pub(crate) fn cursor_of(alloc: Global, text: &str) -> Option<Word>
     ensures some { IfSome result (IsCursor text.now) }
     ensures none { IfNone result ((w : Moves) → IsCursor text.now w → ⊥) }
 {

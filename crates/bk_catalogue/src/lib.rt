@@ -25,7 +25,7 @@ pub use lines::{begins_on_line, line_bound};
 pub use member_laws::{corners_are_no_longer, each_simple_tiling_is_listed_once};
 pub use qualifying::{is_simple_of, qualifies};
 pub use singles::single_valleys;
-pub use tally::{TALLY_LIMIT, closing_bound, first_above, first_over, unders_behind};
+pub use tally::{TALLY_LIMIT, closing_bound, first_over, unders_behind};
 pub use tree_laws::{
     a_legal_word_is_one, at_least_adds, each_part_of_the_tree_has_a_count, the_tree_count_is_most,
     the_tree_count_is_one, tree_counts_add,

@@ -41,8 +41,8 @@ pub fn line_bound(signs: &[Sign], sizes: &[u8], ends: &[u8], lines: &[bool]) -> 
     most.max(aboves + line_closing(ends, start, sizes[signs.len()], 0, lines))
 }
 
-// One where a line bounds the segment of so many of the squares from a place on, in front of a segment of as many as is
-// said next, or ended on it.
+// 1 if the left edge of one of a segment's squares lies on a line, or that of the segment behind it, else 0. The
+// segment has `size` of the squares, from the place `start` on, and the one behind it the `next` squares after these.
 fn line_closing(ends: &[u8], start: usize, size: u8, next: u8, lines: &[bool]) -> usize
     requires { start + size + next ≤ length ends.now }
     ensures few { result ≤ 1 }

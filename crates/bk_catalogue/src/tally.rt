@@ -3,7 +3,6 @@
 
 ghost use Rattle.std.specs.Prelude.{IfNone, IfSome, List, [], count_by, drop, length, take, ◌++◌, ◌+◌, ◌<◌, ◌^◌, ◌∷◌};
 ghost use Rattle.std.specs.Prelude.{◌≡◌, ◌≤◌};
-ghost use Rattle.bk_word.specs.Outline.{valley_place};
 ghost use Rattle.bk_word.specs.Signs.{is_under};
 ghost use Rattle.bk_word.specs.declared.Sign.{Sign as SeenSign};
 ghost use Rattle.bk_catalogue.specs.ClosingBound.{closing_bound as bound_of};
@@ -12,7 +11,7 @@ ghost use Rattle.bk_catalogue.specs.declared.tally.TheConstants.{TALLY_LIMIT};
 
 use bk_word::Sign;
 
-/// Fewer signs than so many are counted at once, and there is less room for what must be closed.
+/// The signs that are counted at once are fewer than this, and the room for what must be closed is less.
 pub const TALLY_LIMIT: usize = 1000;
 
 // The closing bound of signs, and how many of them are above.
@@ -98,20 +97,6 @@ pub fn first_over(before: &[Sign], signs: &[Sign], room: usize) -> Option<usize>
         }
     }
     None
-}
-
-/// The place of the first sign above, or how many signs there are: where the leftmost valley stands.
-pub fn first_above(signs: &[Sign]) -> usize
-    ensures value { result ≡ valley_place signs.now }
-    ensures within { result ≤ length signs.now }
-{
-    for (i, sign) in signs.iter().enumerate() {
-        match *sign {
-            Sign::Above => return i,
-            Sign::Even | Sign::Under => {}
-        }
-    }
-    signs.len()
 }
 
 /// How many signs are under behind the one at the place.

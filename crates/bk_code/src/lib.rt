@@ -73,7 +73,8 @@ impl Code {
         }
     }
 
-    /// Appends a group of these sides, from left to right.
+    /// Appends a group of these sides, from left to right. There must be one or more, each 1 to 999,999,999,999,999,
+    /// and room for them.
     pub fn add_group(&mut self, sides: &[u64])
         requires some { 0 < length sides.now }
         requires sides { AllByRecursion IsSide sides.now }
@@ -86,7 +87,7 @@ impl Code {
         self.starts.push(start);
     }
 
-    /// Appends a group of one side.
+    /// Appends a group of one side, which is 1 to 999,999,999,999,999. There must be room for it.
     pub fn begin_group(&mut self, first: u64)
         requires side { IsSide first }
         requires room { length (flat self.old) < MOST_SQUARES }
@@ -97,7 +98,8 @@ impl Code {
         self.sides.push(first);
     }
 
-    /// Appends a side to the last group.
+    /// Appends a side, which is 1 to 999,999,999,999,999, to the last group. There must be a group, and room for the
+    /// side.
     pub fn push_side(&mut self, side: u64)
         requires some { 0 < length self.old }
         requires side { IsSide side }

@@ -11,13 +11,12 @@ use Rattle.bk_tiling.proofs.Members.{one_at}
 use Rattle.bk_tiling.proofs.PuttingInOrder.{from_order, in_order}
 use Rattle.bk_tiling.proofs.TilingGroups.{one_there}
 use Rattle.bk_tiling.proofs.TilingLaws.{side_of}
-use Rattle.bk_tiling.specs.CodeOrder.{InCodeOrder, comes_before}
+use Rattle.bk_tiling.specs.CodeOrder.{InCodeOrder, comes_before, is_no_later}
 use Rattle.bk_tiling.specs.Tiling.{IsOneOf, IsTiling, Tiling}
 use Rattle.bk_tiling.specs.declared.Square.{Square}
 use Rattle.bk_sym.proofs.Images.{from_map, in_map}
 use Rattle.bk_sym.specs.Image.{image, image_square}
 use Rattle.bk_sym.specs.declared.Turn.TheVariants.{Swap}
-use Rattle.bk_net.specs.CellOrder.{is_no_later}
 use Rattle.std.specs.Prelude.{pos, ℤ, ◌-ℤ◌}
 use Rattle.bk_tiling.proofs.Places.{at_place, later_place}
 use Rattle.bk_net.specs.Diagram.{node_levels}

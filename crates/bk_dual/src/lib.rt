@@ -12,9 +12,9 @@ ghost use Rattle.bk_tiling.specs.Tiling.{IsOneOf, order};
 mod laws;
 
 use arrayvec::ArrayVec;
-use bk_net::{Net, is_no_later, net_of};
+use bk_net::{Net, net_of};
 use bk_sym::{Turn, image};
-use bk_tiling::{MOST_SQUARES, Square, Tiling};
+use bk_tiling::{MOST_SQUARES, Square, Tiling, is_no_later};
 pub use laws::nodes_and_crossings;
 
 /// The dual diagram of a tiling (Brooks, Smith, Stone and Tutte 1940): the Smith diagram of the tiling with columns and

@@ -30,7 +30,8 @@ pub fn no_small_net_is_wide()
     ensures { NoSmallNetIsWide }
 {}
 
-/// The total and the currents of the primitive flow of such a net are at most 2^34 in magnitude.
+/// The total and the currents of the primitive flow of a net of at most 16 wires without a loose node are at most 2^34
+/// in magnitude.
 pub fn small_nets_have_small_flows()
     ensures { SmallNetsHaveSmallFlows }
 {}

@@ -6,7 +6,7 @@ use Rattle.bk_found.specs.Placing.{AreKnownLines, AreLevels, AreSmallNumbers, En
 use Rattle.bk_found.specs.ToldCorners.{Lines}
 
 -- the nodes and currents of the wires of 2u.1e, the lines at the left of its squares, and where these end
-abbrev lines_3x2 : Lines
+abbrev pub lines_3x2 : Lines
 lines_3x2 = record {
   wires = (0, 2) ∷ (0, 1) ∷ (1, 2) ∷ [];
   currents = pos 2 ∷ pos 1 ∷ pos 1 ∷ [];
@@ -79,7 +79,7 @@ not_below_2 ends = let below : 2 < 2 = (ends 0 (lit< tt)).1 in omega (arith, bel
 -- ---- lines at the left
 
 -- lines 0 and 1 are the walls, and line 2 is the one behind the first square: each left line was there before its square
-lefts_3x2 : AreKnownLines lines_3x2.lefts
+pub lefts_3x2 : AreKnownLines lines_3x2.lefts
 lefts_3x2 zero h = lit< tt
 lefts_3x2 (suc zero) h = lit< tt
 lefts_3x2 (suc (suc zero)) h = lit< tt

@@ -5,22 +5,12 @@ use Rattle.std.proofs.lemmas.Int.{ints}
 use Rattle.bk_tiling.proofs.ExampleTilings.{rectangle_3x2}
 use Rattle.bk_layout.specs.Normal.{Counts, counts_of}
 use Rattle.bk_found.specs.KnownLines.{IsCandidate}
-use Rattle.bk_found.specs.Placing.{AreKnownLines, AreSmallNumbers, EndWithin, IsSmallNumber}
+use Rattle.bk_found.specs.Placing.{AreSmallNumbers, EndWithin, IsSmallNumber}
 use Rattle.bk_found.specs.Ties.{AreTiesOf}
-use Rattle.bk_found.specs.ToldCorners.{AreLongest, AreLongestTold, Lines}
+use Rattle.bk_found.specs.ToldCorners.{AreLongest, AreLongestTold}
+use Rattle.bk_found.proofs.PlacingExamples.{lefts_3x2, lines_3x2}
 use Rattle.bk_found.specs.declared.corners.Longest.{Longest}
 use Rattle.bk_found.specs.declared.ties.Ties.{Ties}
-
--- 2u.1e with the currents 2, 1, 1
-abbrev lines : Lines
-lines = record {
-  wires = (0, 2) ∷ (0, 1) ∷ (1, 2) ∷ [];
-  currents = pos 2 ∷ pos 1 ∷ pos 1 ∷ [];
-  lefts = 0 ∷ 2 ∷ 2 ∷ [];
-  rights = pos 2 ∷ pos 3 ∷ pos 3 ∷ [];
-  total = pos 3;
-  last = 2;
-}
 
 -- the levels of its nodes
 abbrev levels : List ℤ
@@ -30,13 +20,13 @@ small : (most n : ℕ) → n ≤ most → IsSmallNumber most (pos n)
 small most n h = (omega (arith, ints), omega (arith, ints, h))
 
 -- so much is known of it before its squares are placed
-known : IsCandidate lines levels
+known : IsCandidate lines_3x2 levels
 known = record {
   few = lit≤ tt;
   wires = refl;
   currents = refl;
   rights = refl;
-  lines = lefts;
+  lines = lefts_3x2;
   ends = ends;
   small_currents = currents;
   small_rights = rights;
@@ -44,25 +34,19 @@ known = record {
   small_total = small (2 ^ 34) 3 (lit≤ tt);
 }
   where
-    lefts : AreKnownLines lines.lefts
-    lefts zero h = lit< tt
-    lefts (suc zero) h = lit< tt
-    lefts (suc (suc zero)) h = lit< tt
-    lefts (suc (suc (suc k))) h = absurd (omega (arith, h))
-
-    ends : EndWithin 17 lines.wires
+    ends : EndWithin 17 lines_3x2.wires
     ends zero h = (lit< tt, lit< tt)
     ends (suc zero) h = (lit< tt, lit< tt)
     ends (suc (suc zero)) h = (lit< tt, lit< tt)
     ends (suc (suc (suc k))) h = absurd (omega (arith, h))
 
-    currents : AreSmallNumbers (2 ^ 34) lines.currents
+    currents : AreSmallNumbers (2 ^ 34) lines_3x2.currents
     currents zero h = small (2 ^ 34) 2 (lit≤ tt)
     currents (suc zero) h = small (2 ^ 34) 1 (lit≤ tt)
     currents (suc (suc zero)) h = small (2 ^ 34) 1 (lit≤ tt)
     currents (suc (suc (suc k))) h = absurd (omega (arith, h))
 
-    rights : AreSmallNumbers (17 * 2 ^ 34) lines.rights
+    rights : AreSmallNumbers (17 * 2 ^ 34) lines_3x2.rights
     rights zero h = small (17 * 2 ^ 34) 2 (lit≤ tt)
     rights (suc zero) h = small (17 * 2 ^ 34) 3 (lit≤ tt)
     rights (suc (suc zero)) h = small (17 * 2 ^ 34) 3 (lit≤ tt)
@@ -77,7 +61,7 @@ known = record {
 abbrev corners : Longest
 corners = record { top = 2; bottom = 2; left = 2; right = 1 }
 
-told_corners : AreLongestTold lines 3 corners
+told_corners : AreLongestTold lines_3x2 3 corners
 told_corners = record { top = refl; bottom = refl; left = refl; right = refl }
 
 -- they are those of the squares as they are placed

@@ -14,6 +14,11 @@ use bk_word::INLINE_ORDER;
 // A net of so many wires and one node more, without a loose node.
 pub(crate) const NODES: usize = INLINE_ORDER + 1;
 
+// The numbers of the walls among the lines.
+const LEFT_WALL: u8 = 0;
+
+const RIGHT_WALL: u8 = 1;
+
 // How far the nodes lie under the first, by the currents of the wires, each of which leads down from a node whose level
 // is known from those before.
 pub(crate) fn levels_of(wires: &[(u16, u16)], currents: &[i64]) -> [i64; NODES]
@@ -58,8 +63,8 @@ pub(crate) fn line_place(line: u8, rights: &[i64], total: i64) -> i64
     ensures { result ≡ line_place total rights.now line }
 {
     match line {
-        0 => 0,
-        1 => total,
+        LEFT_WALL => 0,
+        RIGHT_WALL => total,
         _ => rights[usize::from(line) - 2],
     }
 }

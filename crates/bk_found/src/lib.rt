@@ -12,6 +12,6 @@ mod ties;
 mod turning;
 
 pub use laws::the_candidate_is_the_tiling;
-pub use placing::{Placed, leaf};
+pub use placing::{Placed, candidate_of};
 pub use ties::Ties;
 pub use turning::{best_turn, lying_size, turned_squares};

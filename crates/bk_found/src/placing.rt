@@ -42,10 +42,11 @@ pub struct Placed {
     pub squares: ArrayVec<Square, INLINE_ORDER>,
 }
 
-/// The squares of the one normal tiling of the class that the complete word can meet: they are placed by the one flow
-/// of the word's net and by the lines at their left. Each tiling in lowest terms, of the class, which is met by the
-/// word is found. Where it is told which counts of the word tie, images that lose by their corners are passed over.
-pub fn leaf(skel: &SmallSkel, lefts: &[u8], ties: Ties, class: Class) -> Option<Placed>
+/// The candidate of a complete word, which hangs at most 16 squares. They are placed by the one flow of the word's net
+/// and by the lines at their left, whose numbers `lefts` has, as a board has them. Each tiling in lowest terms, of the
+/// class, which is met by the word is found. A tie that is said must hold: then images that lose by their corners are
+/// passed over.
+pub fn candidate_of(skel: &SmallSkel, lefts: &[u8], ties: Ties, class: Class) -> Option<Placed>
     requires complete { IsComplete skel.now }
     requires few { order_of skel.now ≤ INLINE_ORDER }
     requires lefts { lefts.now ≡ lefts_of skel.now }
@@ -79,11 +80,10 @@ pub fn leaf(skel: &SmallSkel, lefts: &[u8], ties: Ties, class: Class) -> Option<
     if loses_by_corners(&candidate, width, height, ties) {
         return None;
     }
-    let squares = squares_at(&candidate);
     Some(Placed {
         width,
         height,
-        squares,
+        squares: squares_at(&candidate),
     })
 }
 

@@ -1,15 +1,12 @@
 //! How many moves a word has left at most, and how many signs of its next move are even at least.
 
 ghost use Rattle.std.specs.Prelude.{IsTrue, cond, nat_lt, ◌*◌, ◌+◌, ◌/◌, ◌<◌, ◌≡◌, ◌≤◌};
-ghost use Rattle.bk_word.specs.Outline.{has_left_wall, has_right_wall};
-ghost use Rattle.bk_word.specs.Play.{outline_of};
 ghost use Rattle.bk_word.specs.Word.{order_of};
 ghost use Rattle.bk_free_search.specs.AskedSigns.{AreEvensNeeded, AreMovesLeft};
 ghost use Rattle.bk_free_search.specs.declared.counts.TheConstants.{MANY};
 ghost use Rattle.bk_word.specs.declared.TheConstants.{LARGEST_ORDER};
 
 use crate::board::Board;
-use crate::counts::one_if;
 
 /// How many moves are left after the next one, and how many signs of this one are even at least.
 #[derive(Drop)]
@@ -18,24 +15,21 @@ pub(crate) struct Ahead {
     pub(crate) evens: usize,
 }
 
-/// What is ahead of a board, whose leftmost valley has walls beside it or not, as is said, in words of the order.
-pub(crate) fn look_ahead(board: &Board, order: u8, left_wall: bool, right_wall: bool) -> Ahead
+/// What is ahead of a board in words of the order.
+pub(crate) fn look_ahead(board: &Board, order: u8) -> Ahead
     requires few { order_of board.now ≤ LARGEST_ORDER }
-    requires left { left_wall ≡ has_left_wall (outline_of board.now) }
-    requires right { right_wall ≡ has_right_wall (outline_of board.now) }
     ensures moves { AreMovesLeft order board.now result.moves }
     ensures evens { AreEvensNeeded order board.now result.evens }
 {
     let counts = board.counts();
     let moves = usize::from(counts.moves) + 1;
-    let left = usize::from(counts.left) + one_if(left_wall);
-    let right = usize::from(counts.right) + one_if(right_wall);
+    let (left, right) = board.at_walls_then();
     let most = most_then(order, counts.moves, counts.top, left.max(right));
     let segments = board.skel().signs().len() + 1;
     let moves_left = most.saturating_sub(moves);
-    // A move takes at most three of the squares and segments that are left, or two at a wall, and with more squares at
-    // the left wall some moves must hang at the right one. What is left over then, an even sign each of the next move
-    // has to take: it joins a segment to the move.
+    // The moves behind the next one take at most three of the squares and open segments each, and only two at a wall.
+    // If more squares lie at the left wall than at the right one, some of these moves must hang at the right wall.
+    // What they can't take must be joined to the next move, by one even sign each.
     let to_take = usize::from(order) + 3 * moves + segments + left.saturating_sub(right);
     Ahead {
         moves: moves_left,

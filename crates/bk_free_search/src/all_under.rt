@@ -73,11 +73,11 @@ fn look_after(board: &Board, m: &SmallMove) -> After
     ensures few { (result.left ≤ LARGEST_COUNT + 1) × (result.right ≤ LARGEST_COUNT + 1) × (result.signs ≤ FEW) }
 {
     let counts = board.counts();
-    let (left_wall, right_wall) = board.skel().walls();
+    let (left, right) = board.at_walls_then();
     After {
         top: top_after(counts.moves, counts.top, m.count),
-        left: usize::from(counts.left) + one_if(left_wall),
-        right: usize::from(counts.right) + one_if(right_wall),
+        left,
+        right,
         signs: board.skel().signs().len() + usize::from(m.count) - 1 - evens_in(m.signs.as_slice()),
     }
 }

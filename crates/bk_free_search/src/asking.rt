@@ -91,7 +91,7 @@ pub(crate) fn stand_beside(board: &Board, order: u8) -> Beside
     let marks = marks_of(board);
     let before = before_valley(board, marks, &valley);
     let behind = behind_valley(board, marks, place);
-    let ahead = look_ahead(board, order, left_wall, right_wall);
+    let ahead = look_ahead(board, order);
     let needs = needs_of(&before, &behind, ahead.moves);
     Beside {
         left_wall,

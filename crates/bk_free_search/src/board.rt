@@ -5,6 +5,7 @@ ghost use Rattle.std.specs.Prelude.{IsTrue, [], cond, length, nat_eq, take, ℕ,
 ghost use Rattle.bk_word.specs.Outline.{IsLegalMove};
 ghost use Rattle.bk_word.specs.Play.{IsLegal, outline_of};
 ghost use Rattle.bk_word.specs.Word.{order_of};
+ghost use Rattle.bk_layout.specs.BeforeNextMove.{left_squares_then, right_squares_then};
 ghost use Rattle.bk_layout.specs.LineNumbers.{left_end, lefts_of, right_end, square_lines};
 ghost use Rattle.bk_free_search.specs.BoardOutlines.{IsBoardOutline};
 ghost use Rattle.bk_free_search.specs.Joining.{TouchOneOf};
@@ -17,8 +18,8 @@ ghost use Rattle.bk_free_search.specs.declared.counts.TheConstants.{LARGEST_COUN
 ghost use Rattle.bk_free_search.specs.declared.line_set.TheConstants.{MOST_LINES};
 ghost use Rattle.bk_word.specs.declared.TheConstants.{INLINE_ORDER};
 
-use crate::counts::Counts;
-use crate::line_set::LineSet;
+use crate::counts::{Counts, one_if};
+use crate::line_set::{LEFT_WALL, LineSet, RIGHT_WALL};
 use crate::node_lines::{NewSquares, has_pair, node_lines};
 use crate::sides::{left_of_first, lines_of, push_lefts, push_rights, right_of_last};
 use bk_play::{SmallMove, SmallOutline, SmallSkel};
@@ -150,6 +151,19 @@ impl Board {
         }
     }
 
+    /// How many squares lie at the left wall and at the right one after the next move, which hangs one at each wall
+    /// that stands beside the leftmost valley.
+    pub(crate) fn at_walls_then(&self) -> (usize, usize)
+        ensures left { result.0 ≡ left_squares_then self.now }
+        ensures right { result.1 ≡ right_squares_then self.now }
+        ensures few { (result.0 ≤ LARGEST_COUNT + 1) × (result.1 ≤ LARGEST_COUNT + 1) }
+    {
+        let (left_wall, right_wall) = self.skel.walls();
+        let left = usize::from(self.left);
+        let right = usize::from(self.right);
+        (left + one_if(left_wall), right + one_if(right_wall))
+    }
+
     /// The lines at the left of the squares of these numbers, from 1.
     pub(crate) fn lines_left_of(&self, squares: &[u8]) -> LineSet
         requires { AreSquares squares.now (order_of self.now) }
@@ -184,7 +198,8 @@ impl Board {
         right_of_last(self.rights.as_slice(), squares)
     }
 
-    /// Whether a line of each set touch one closed node. The two walls don't count.
+    /// Whether one closed node touches a line of the first set and a line of the second one, and these two lines aren't
+    /// the two walls.
     pub(crate) fn touch_one(&self, lefts: LineSet, rights: LineSet) -> bool
         ensures { IsTrue result → TouchOneOf self.now lefts rights }
     {
@@ -192,7 +207,7 @@ impl Board {
     }
 
     /// Plays a move, which must be legal, with at most 16 squares then.
-    pub fn push(&mut self, m: &SmallMove)
+    pub fn play(&mut self, m: &SmallMove)
         requires legal { IsLegalMove (outline_of self.old) m.now }
         requires few { order_of self.old + m.now.count ≤ INLINE_ORDER }
         ensures { self.new ≡ self.old ++ m.now ∷ [] }
@@ -212,8 +227,8 @@ impl Board {
         let lines = node_lines(self.lefts.as_slice(), self.rights.as_slice(), squares, &new);
         self.nodes.push(lines);
         self.first = first_after(self.first, behind, m.count);
-        self.left = at_wall_after(self.left, first, 0);
-        self.right = at_wall_after(self.right, last, 1);
+        self.left = at_wall_after(self.left, first, LEFT_WALL);
+        self.right = at_wall_after(self.right, last, RIGHT_WALL);
         self.skel.play(m);
     }
 }

@@ -1,6 +1,8 @@
-//! How many squares a word has, in all and at each side.
+//! How many squares a word has, in all and at each side; and bounds of what the search counts.
 
-ghost use Rattle.std.specs.Prelude.{cond, ◌≡◌};
+ghost use Rattle.std.specs.Prelude.{IsTrue, cond, ◌↔◌, ◌≡◌};
+ghost use Rattle.bk_layout.specs.Normal.{IsHalf};
+ghost use Rattle.bk_free_search.specs.SeenCounts.{seen_counts};
 
 /// How many squares and moves a word has, how many squares hang from the top and stand in its first open segment, and
 /// how many lie at each wall.
@@ -12,6 +14,16 @@ pub struct Counts {
     pub bottom: u8,
     pub left: u8,
     pub right: u8,
+}
+
+impl Counts {
+    /// Whether the moves are half of one more than the squares.
+    #[inline]
+    pub fn is_half(&self) -> bool
+        ensures { IsTrue result ↔ IsHalf (seen_counts self.now) }
+    {
+        2 * usize::from(self.moves) == usize::from(self.squares) + 1
+    }
 }
 
 /// The largest of the counts of a word, which are bytes.

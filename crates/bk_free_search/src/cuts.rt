@@ -9,8 +9,8 @@ ghost use Rattle.bk_layout.specs.NetWord.{IsNetBarren};
 
 use bk_play::{SmallSkel, ValleyPlace};
 
-/// The least count of a next move that isn't barren: one square hangs under no segment of just one, and the first move
-/// is none of one.
+/// A count below which each next move is barren: 2 if the leftmost valley has one square, since one square hangs under
+/// no segment of just one, otherwise 1.
 pub(crate) fn least_count(skel: &SmallSkel, valley: &ValleyPlace) -> u8
     requires word { IsLegal skel.now }
     requires valley { IsValleyPlace skel.now valley.now }

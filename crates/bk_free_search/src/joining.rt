@@ -1,4 +1,5 @@
-//! Moves of one square by which no word goes on, for what they join: told before they are played.
+//! Moves of one square by which no word goes on, because of the segments that they join. It is known before they are
+//! played.
 #![tactic(auto)]
 
 ghost use Rattle.std.specs.Prelude.{IsTrue, Some, [], length, slice_get, ◌++◌, ◌<◌, ◌∷◌, ◌≡◌, ◌≤◌};

@@ -12,7 +12,6 @@ ghost use Rattle.bk_layout.specs.NormalCuts.{IsNormalBarren};
 
 use crate::ahead::are_most_moves;
 use crate::board::Board;
-use crate::counts::one_if;
 use crate::joining::joins_parted;
 use bk_play::{SmallMove, SmallSkel, open_side};
 use bk_short::Short;
@@ -61,9 +60,7 @@ fn bars_counts(board: &Board, order: u8) -> bool
 {
     let counts = board.counts();
     let skel = board.skel();
-    let (left_wall, right_wall) = skel.walls();
-    let left = usize::from(counts.left) + one_if(left_wall);
-    let right = usize::from(counts.right) + one_if(right_wall);
+    let (left, right) = board.at_walls_then();
     if usize::from(counts.top) + skel.valley_squares().len() < skel.ends().len() + 1 {
         return true;
     }

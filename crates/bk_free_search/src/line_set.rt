@@ -1,4 +1,4 @@
-//! Sets of lines, by their numbers.
+//! Sets of lines by their numbers, and sets of places of segments or squares, which are kept the same way.
 
 ghost use Rattle.std.specs.Prelude.{IsTrue, true, ℕ, ◌<◌, ◌≡◌, ◌⊎◌};
 ghost use Rattle.bk_free_search.specs.NodeLines.{Has};
@@ -7,7 +7,13 @@ ghost use Rattle.bk_free_search.specs.declared.line_set.TheConstants.{MOST_LINES
 /// A set keeps the lines with numbers below this.
 pub(crate) const MOST_LINES: usize = 32;
 
-/// A set of lines, of which it keeps those with low numbers.
+/// The number of the left wall among the lines.
+pub(crate) const LEFT_WALL: u8 = 0;
+
+/// The number of the right wall among the lines.
+pub(crate) const RIGHT_WALL: u8 = 1;
+
+/// A set of lines, of which it keeps those with low numbers. A set of places is kept as if these were lines.
 #[derive(Clone, Copy, Default, Drop)]
 pub(crate) struct LineSet {
     pub(crate) bits: u32,

@@ -19,7 +19,7 @@ ghost use Rattle.bk_word.specs.declared.TheConstants.{INLINE_ORDER};
 
 use crate::board::Board;
 use crate::line_set::{LineSet, MOST_LINES, no_line, with_place};
-use crate::top_lines::places_on_lines;
+use crate::top_lines::{is_top_line, places_on_lines};
 use bk_play::ValleyPlace;
 
 /// The places of marked segments of a board.
@@ -76,7 +76,7 @@ pub(crate) fn is_left_on_line(board: &Board, valley: &ValleyPlace) -> bool
     ensures { IsTrue result → begins_on_line (edges_on_lines board.now) (valley_of (outline_of board.now)) ≡ true }
 {
     let line = board.left_end(&board.skel().ends()[valley.start..valley.end]);
-    2 <= line && line <= board.first()
+    is_top_line(board.first(), line)
 }
 
 /// Whether the segment at a place, one of those that a set keeps, is among the marked ones.

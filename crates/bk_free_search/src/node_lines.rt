@@ -7,7 +7,7 @@ ghost use Rattle.bk_free_search.specs.TopLines.{AreSquares};
 ghost use Rattle.bk_free_search.specs.declared.line_set.TheConstants.{MOST_LINES};
 ghost use Rattle.bk_word.specs.declared.TheConstants.{INLINE_ORDER};
 
-use crate::line_set::{LineSet, joined_lines, no_line, with_line};
+use crate::line_set::{LEFT_WALL, LineSet, RIGHT_WALL, joined_lines, no_line, with_line};
 use crate::sides::line_at;
 
 /// The squares that a move hangs: how many were hung before them, how many they are, and between which two lines they
@@ -98,25 +98,25 @@ fn left_wall_of(lines: LineSet) -> LineSet
     ensures { (line : ℕ) → Has result line → Has lines line }
 {
     LineSet {
-        bits: lines.bits & 1,
+        bits: lines.bits & (1 << LEFT_WALL),
     }
 }
 
-// The lines but for the left wall, which is line 0.
+// The lines but for the left wall.
 fn but_left_wall(lines: LineSet) -> LineSet
     ensures { (line : ℕ) → Has result line → Has lines line × (line ≡ 0 → ⊥) }
 {
     LineSet {
-        bits: lines.bits & 0xffff_fffe,
+        bits: lines.bits & !(1 << LEFT_WALL),
     }
 }
 
-// The lines but for the right wall, which is line 1.
+// The lines but for the right wall.
 fn but_right_wall(lines: LineSet) -> LineSet
     ensures { (line : ℕ) → Has result line → Has lines line × (line ≡ 1 → ⊥) }
 {
     LineSet {
-        bits: lines.bits & 0xffff_fffd,
+        bits: lines.bits & !(1 << RIGHT_WALL),
     }
 }
 

@@ -46,8 +46,8 @@ pub trait Leaves {
         ensures fixed { fixed self.new ≡ fixed self.old };
 }
 
-/// Meets each word that is sought: complete, of the order, by rule R, and with no beginning that no word of a normal
-/// layout has. What no meeting changes is as it was.
+/// Meets each word that is sought: complete, of the order, which is from 3 to 16, by rule R, and with no beginning that
+/// no word of a normal layout has. What no meeting changes is as it was.
 pub fn search<S: Leaves>(leaves: &mut S, order: u8)
     requires least { 3 ≤ order }
     requires most { order ≤ LARGEST_LISTED_ORDER }
@@ -301,7 +301,7 @@ impl Search {
             return;
         }
         let before = self.board.outline();
-        self.board.push(&begun.m);
+        self.board.play(&begun.m);
         self.meet_all(leaves);
         self.board.take_back(&before);
     }

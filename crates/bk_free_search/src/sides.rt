@@ -9,7 +9,7 @@ ghost use Rattle.bk_free_search.specs.Rights.{last_right};
 ghost use Rattle.bk_free_search.specs.TopLines.{AreSquares};
 ghost use Rattle.bk_word.specs.declared.TheConstants.{INLINE_ORDER, LARGEST_ORDER};
 
-use crate::line_set::{LineSet, no_line, with_line};
+use crate::line_set::{LEFT_WALL, LineSet, RIGHT_WALL, no_line, with_line};
 use bk_short::Short;
 use bk_word::INLINE_ORDER;
 
@@ -20,7 +20,7 @@ pub(crate) fn left_of_first(lefts: &[u8], squares: &[u8]) -> u8
 {
     match squares.first() {
         Some(square) => line_at(lefts, *square),
-        None => 0,
+        None => LEFT_WALL,
     }
 }
 
@@ -30,7 +30,7 @@ pub(crate) fn right_of_last(rights: &[u8], squares: &[u8]) -> u8
     ensures { result ≡ last_right rights.now squares.now }
 {
     if squares.is_empty() {
-        return 1;
+        return RIGHT_WALL;
     }
     line_at(rights, squares[squares.len() - 1])
 }

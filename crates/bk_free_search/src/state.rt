@@ -1,4 +1,4 @@
-//! What a search hands on.
+//! The search's state: its board, the move that is being made, and what is done at a complete word.
 
 ghost use Rattle.std.specs.Prelude.{List, [], length, ℕ, ◌++◌, ◌+◌, ◌-◌, ◌<◌, ◌∷◌, ◌≡◌, ◌≤◌};
 ghost use Rattle.bk_word.specs.Play.{IsComplete};
@@ -126,7 +126,7 @@ pub(crate) fn meet_with_last<S: Leaves>(board: &mut Board, order: u8, leaves: &m
         None => return,
     };
     let before = board.outline();
-    board.push(&last);
+    board.play(&last);
     meet_closed(board, leaves);
     board.take_back(&before);
 }

@@ -32,9 +32,9 @@ fn on_line(lefts: &[u8], first: u8, square: u8) -> bool
     is_top_line(first, lefts[usize::from(square) - 1])
 }
 
-// Whether the line of this number begins between two squares of a first move of so many. Such lines have the numbers
-// from 2 on, and are one less than the squares; a wall's number wraps to a great one.
-fn is_top_line(first: u8, line: u8) -> bool
+/// Whether the line of this number begins between two squares of a first move of so many. Such lines have the numbers
+/// from 2 on, and are one less than the squares; a wall's number wraps to a great one.
+pub(crate) fn is_top_line(first: u8, line: u8) -> bool
     ensures { result ≡ is_top_line first line }
 {
     line.wrapping_sub(2) < first.saturating_sub(1)

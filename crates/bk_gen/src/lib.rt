@@ -27,8 +27,8 @@ pub use trial_line::trial;
 /// The rectangle to start with is, by v modulo 3, `[18,15][7,8][14,4][10,1][9]`, `[36,33][5,28][25,9,2][7][16]` or
 /// `[25,17,23][11,6][5,24][22,3][19]`. Then squares are attached, step by step from 0. Where v and the step are odd,
 /// the square has the width as its side, and is put below where bit `step` modulo 64 of v is 0, and above where it is
-/// 1. Else it has the height as its side, and is put at the right where that bit is 0, and at the left where it is 1.
-/// This ends where there are 200 squares, or where the next side would be above 999,999,999,999,999. The trial codes
+/// 1. Otherwise it has the height as its side, and is put at the right where that bit is 0, and at the left where it is
+/// 1. This ends where there are 200 squares, or where the next side would be above 999,999,999,999,999. The trial codes
 /// are our own.
 pub fn sample(seed: u64, k: u32) -> Code
     ensures { result ≡ sample seed k }

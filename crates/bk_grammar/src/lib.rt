@@ -10,7 +10,7 @@ ghost use Rattle.bk_grammar.specs.declared.TheConstants.{LONGEST_NUMBER_TEXT};
 use arrayvec::ArrayVec;
 use itoa::Buffer;
 
-/// An answer has at most so many bytes: the longest is that of `flow`, with 8,241.
+/// The most bytes of an answer. The longest is that of `flow`, with 8,241.
 pub const ANSWER_ROOM: usize = 9000;
 
 /// No number is written in more bytes: so many digits has the greatest.

@@ -2,11 +2,12 @@
 use Rattle.std.specs.List.{splice}
 use Rattle.std.specs.Prelude.{map, pos, replicate, ℤ, ◌≢◌}
 use Rattle.std.specs.Str.{bytes_eq}
-use Rattle.std.proofs.Common.{Bool, List, [], add-one, ap, append_assoc, arith, drop, eqb-true, false, length, length-append, length-take, refl, set}
+use Rattle.std.proofs.Common.{Bool, List, [], add-one, ap, append_assoc, arith, drop, eqb-true, false, get_or, length, length-append, length-take, refl, set}
 use Rattle.std.proofs.Common.{slice_index_or, slice_range, suc, sym, take, take_all, true, zero, ℕ, ◌++◌, ◌+◌, ◌-◌, ◌<◌, ◌==◌, ◌∙◌, ◌∷◌, ◌≡◌, ◌≤◌}
 use Rattle.std.proofs.Math.Seq.{take-suc-set}
 use Rattle.std.proofs.lemmas.Bool.{true≢false}
-use Rattle.std.proofs.lemmas.List.{drop-append-le, drop-drop, drop-take, drop_at, length-drop, take-append-drop, take-append-le, take_at}
+use Rattle.std.proofs.lemmas.List.{drop-append-le, drop-drop, drop-take, drop_at, length-drop, map_push, take-append-drop, take-append-le, take_at}
+use Rattle.std.proofs.lemmas.List.{take_more}
 use Rattle.std.proofs.lemmas.Slice.Eq.{bytes_eq-Decides}
 
 -- to drop nothing leaves a list as it is
@@ -51,6 +52,18 @@ pub take-set_map_step : {A X : Type 0} (f : A → X) (ws zs : List X) (j : ℕ) 
 take-set_map_step {A} {X} f ws zs j z pending v h is e = ap (λ (n : ℕ). take n (set ws j v) ++ map f pending) (add-one j)
     ∙ ap (λ (front : List X). front ++ map f pending) (take-suc-set ws j v h) ∙ append_assoc (take j ws) (v ∷ []) (map f pending)
     ∙ (λ i. take j ws ++ (is i ∷ map f pending)) ∙ e
+
+-- a list to which the images of the first k items of another were pushed, and then the next image, has those of the first k + 1 behind what it began with
+pub pushed_more : {A B : Type 0} (xs : List A) (k : ℕ) (d : A) (f : A → B) (first old new : List B) → k < length xs → new ≡ old ++ f (get_or xs k d) ∷ []
+    → old ≡ first ++ map f (take k xs) → new ≡ first ++ map f (take (k + 1) xs)
+pushed_more {A} {B} xs k d f first old new below is so_far =
+    is ∙ ap (λ (l : List B). l ++ f (get_or xs k d) ∷ []) so_far ∙ append_assoc first (map f (take k xs)) (f (get_or xs k d) ∷ [])
+    ∙ ap (λ (l : List B). first ++ l) (sym (ap (map f) (take_more xs k d below) ∙ map_push f (take k xs) (get_or xs k d)))
+
+-- a list to which the images of the first k items of another were pushed, which has no more than k, has all of them behind what it began with
+pub pushed_all : {A B : Type 0} (xs ys : List A) (k : ℕ) (f : A → B) (first all : List B) → length xs ≤ k → xs ≡ ys → all ≡ first ++ map f (take k xs)
+    → all ≡ first ++ map f ys
+pushed_all xs ys k f first all none same so_far = so_far ∙ ap (λ l. first ++ map f l) (take_all k xs none ∙ same)
 
 -- a list written up to a place and one item more, before the rest
 pub take-set_append : (ws : List ℤ) (i : ℕ) (z : ℤ) (zs : List ℤ) → i < length ws → take (i + 1) (set ws i z) ++ zs ≡ take i ws ++ (z ∷ zs)

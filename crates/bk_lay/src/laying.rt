@@ -48,9 +48,9 @@ impl Laying {
         self.outline.begin(tiling.width());
     }
 
-    /// Lays the squares of the tiling's next move, and says whether there is one. The move stands in `m` then and goes
-    /// on from those before it; where there is none more, these are the word, and `m` is left as it is. What stood in
-    /// `m` before says nothing.
+    /// Lays the squares of the tiling's next move, and says whether there is one. The tiling must be the one that was
+    /// begun. The move stands in `m` then and goes on from those before it; where there is none more, these are the
+    /// word, and `m` is left as it is. What stood in `m` before says nothing.
     pub fn next_in(&mut self, tiling: &Tiling, m: &mut Move) -> bool
         requires { IsLaidSoFar tiling.now self.old }
         ensures next { IsTrue result → (w : Moves) → IsLaidTo tiling.now w self.old

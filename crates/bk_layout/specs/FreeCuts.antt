@@ -1,6 +1,6 @@
--- What a search through free words may pass over: the words that begin with certain moves, because no layout of a
--- simple tiling has such a word. It is said of sound layouts and not of tilings, since the words that a search meets
--- also belong to layouts in which squares of the tiling are reversed. Each cut is one law that ends in `IsFreeBarren`.
+-- What a search through free words may pass over: the words that begin with certain moves, because no sound layout has
+-- such a word. It is said of sound layouts and not of tilings, since the words that a search meets also belong to
+-- layouts in which squares of the tiling are reversed. Each cut is one law that ends in `IsFreeBarren`.
 -- Statements alone; each is proved apart.
 -- Example (NodeCutExamples): no word of a sound layout begins with 3aa.2ue.1ea.
 use Rattle.std.specs.Prelude.{Contains, [], length, ℕ, ◌++◌, ◌+◌, ◌<◌, ◌∷◌, ◌≡◌, ◌≢◌, ◌≤◌}

@@ -221,11 +221,12 @@ pub fn what_is_normal_barren()
     // Where one square is left, a word of a normal layout goes on by that, even with the segments at both its sides.
     ensures one_square_goes_on_even { OneSquareGoesOnEven }
 
-    // Where all signs are under, no word of a normal layout of just half of one more than its squares moves goes on so
-    // that more squares stand at the right wall than at the top.
+    // Take a word of a normal layout whose moves are just half of one more than its squares, and moves after which all
+    // signs are under and no more moves are left than segments. The word doesn't go on from these so that more squares
+    // stand at the right wall than at the top.
     ensures all_under_at_right_is_normal_barren { AllUnderAtRightIsNormalBarren }
 
-    // No word of a normal layout is one of just half of one more than its squares moves with more squares at the right
+    // No word of a normal layout whose moves are just half of one more than its squares has more squares at the right
     // wall than at the top.
     ensures too_many_at_right_is_normal_barren { TooManyAtRightIsNormalBarren }
 

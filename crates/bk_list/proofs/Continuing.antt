@@ -1,4 +1,4 @@
--- A listing that was cut goes on from the word of its last entry.
+-- A listing that was stopped goes on from the word of its last entry.
 use Rattle.std.specs.List.{AllByRecursion}
 use Rattle.std.proofs.Common.{Contains, List, None, Some, [], inl, inr, length, ℕ, ◌++◌, ◌∷◌, ◌≡◌, ◌⊎◌}
 use Rattle.std.proofs.lemmas.List.Elements.{Contains-append_left, Contains-append_right}

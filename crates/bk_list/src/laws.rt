@@ -1,12 +1,12 @@
-//! What is proved of listings: how they end, how one goes on where another was cut, and that a whole one is the
+//! What is proved of listings: how they end, how one goes on where another stopped, and that a whole one is the
 //! catalogue.
 
 ghost use Rattle.bk_list.specs.ListingLaws.{AListingGoesOn, AWholeListingIsTheCatalogue, NoListingEndsAtAWideWord};
 ghost use Rattle.bk_list.specs.Resuming.{NothingIsMissing, OnlyNamedOnesAreMissing, RunsGoOn};
 ghost use Rattle.bk_list.specs.StoppedListing.{EachListingEndsInOneOfThreeWays};
 
-/// A listing that was cut goes on from the word of its last entry: the entries of the first, then those of the second,
-/// are the entries of one listing without a limit, which ends as the second does.
+/// A listing that was stopped goes on from the word of its last entry: the entries of the first, then those of the
+/// second, are the entries of one listing without a limit, which ends as the second does.
 pub fn a_listing_goes_on()
     ensures { AListingGoesOn }
 {}

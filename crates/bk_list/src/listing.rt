@@ -21,7 +21,7 @@ use std::sync::ledger::Ledger;
 /// (`no_listing_ends_at_a_wide_word`). The members then go on behind the last entry, so nothing beyond the limit was
 /// looked at.
 ///
-/// The order is at most 16. If a write fails, `Failed` comes, and a beginning of a listing stands written. It takes no
+/// The order is at most 16. If a write fails the answer is `Failed`, and what was written begins a listing. It takes no
 /// memory. The catalogue's subject is that of Bouwkamp and Duijvestijn; words and their order are our own.
 ///
 /// A step is a push of a move. A listing that ends because there are no more members takes at most as many steps as

@@ -3,7 +3,7 @@
 ghost use Rattle.std.specs.Prelude.{IsTrue, None, Some, [], false, ◌-◌, ◌∷◌, ◌≡◌, ◌≤◌, ◌↔◌};
 ghost use Rattle.bk_code.specs.Code.{code_of};
 ghost use Rattle.bk_word.specs.Word.{order_of};
-ghost use Rattle.bk_word.specs.declared.TheConstants.{LARGEST_LISTED_ORDER};
+ghost use Rattle.bk_word.specs.declared.TheConstants.{LARGEST_LISTED_ORDER, LEAST_LISTED_ORDER};
 ghost use Rattle.bk_catalogue.specs.Following.{HasNoneAfter, start_cursor};
 ghost use Rattle.bk_catalogue.specs.Tree.{IsAtMostTree, PushesGrow};
 ghost use Rattle.bk_members.specs.Walking.{IsNextMember, WalkState};
@@ -57,7 +57,7 @@ pub trait Members: Drop {
     /// The members after the given word, or after the word of no moves. The order is 2 to 16, and that of the word at
     /// most 16; the word need not be legal, complete or of the catalogue's order.
     fn after(alloc: Global, order: u8, class: Class, from: Option<Word>) -> Self
-        requires least { 2 ≤ order }
+        requires least { LEAST_LISTED_ORDER ≤ order }
         requires most { order ≤ LARGEST_LISTED_ORDER }
         requires few { order_of (start_cursor from) ≤ LARGEST_LISTED_ORDER }
         ensures { at result ≡ record {

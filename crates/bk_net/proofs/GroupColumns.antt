@@ -5,14 +5,14 @@ use Rattle.std.proofs.lemmas.Bool.{cases_lt}
 use Rattle.std.proofs.lemmas.Option.{slice_get_within}
 use Rattle.bk_tiling.proofs.Cells.{counted_one, covers_from, one_counted, over_from}
 use Rattle.bk_tiling.proofs.Rows.{chain_within}
-use Rattle.bk_tiling.proofs.TilingLaws.{cell_once, side_of, within_of}
+use Rattle.bk_tiling.proofs.TilingLaws.{a_square_over_each_cell, cell_once, side_of, within_of}
 use Rattle.bk_tiling.specs.Column.{covers_column}
 use Rattle.bk_tiling.specs.Tiling.{IsOneOf, IsTiling, Tiling, covers}
 use Rattle.bk_tiling.specs.declared.Square.{Square}
 use Rattle.bk_tiling.proofs.Groups.{IsRow}
 use Rattle.bk_tiling.proofs.TilingGroups.{one_there}
 use Rattle.bk_tiling.specs.SquareGroups.{square_groups}
-use Rattle.bk_net.proofs.GroupSquares.{a_square_over_each_cell, get_index, group_of, in_group, square_below_begins_at_the_bottom, top_of}
+use Rattle.bk_net.proofs.GroupSquares.{get_index, group_of, in_group, square_below_begins_at_the_bottom, top_of}
 use Rattle.bk_net.proofs.NodeBelow.{below_from, below_to, has_node_below}
 use Rattle.bk_net.proofs.SmithLists.{in_total, out_at, out_total}
 use Rattle.bk_net.specs.Diagram.{node_below}

@@ -3,8 +3,8 @@ use Rattle.std.proofs.Common.{List, Some, [], ap, arith, inl, inr, refl, slice_g
 use Rattle.std.proofs.Common.{◌∷◌, ◌≡◌, ◌≤◌, ◌⊎◌}
 use Rattle.std.proofs.lemmas.Bool.{cases_lt}
 use Rattle.bk_laws.proofs.AllOfLists.{all-slice_get}
-use Rattle.bk_tiling.proofs.Cells.{counted_one, covers_from, in_all, over_from}
-use Rattle.bk_tiling.proofs.TilingLaws.{cell_once, side_of}
+use Rattle.bk_tiling.proofs.Cells.{covers_from, in_all, over_from}
+use Rattle.bk_tiling.proofs.TilingLaws.{side_of}
 use Rattle.bk_tiling.specs.Tiling.{IsOneOf, IsTiling, Tiling, covers}
 use Rattle.bk_tiling.specs.declared.Square.{Square}
 use Rattle.bk_tiling.proofs.Groups.{AllIn, IsGroup, IsRow, groups_row, row_of}
@@ -19,10 +19,6 @@ get_index (y ∷ xs) zero x e = cc
 get_index (y ∷ xs) (suc k) x e = get_index xs k x e
 
 module _ (t : Tiling) (tiling : IsTiling t) where
-  -- over each cell of the tiling lies a square
-  pub a_square_over_each_cell : (i j : ℕ) → i < t.width → j < t.height → (q : Square) × IsOneOf q t.squares × (covers i j q ≡ true)
-  a_square_over_each_cell i j a b = counted_one (covers i j) t.squares (omega (arith, cell_once t tiling i j a b))
-
   -- a square over a cell just below a square's bottom begins there
   pub square_below_begins_at_the_bottom : (q r : Square) (i : ℕ) → IsOneOf q t.squares → q.x ≤ i → i < q.x + q.s → IsOneOf r t.squares
       → covers i (q.y + q.s) r ≡ true

@@ -5,13 +5,13 @@ use Rattle.std.proofs.lemmas.Bool.{cases_lt}
 use Rattle.std.proofs.lemmas.Bool.Decides.{nat_tests}
 use Rattle.bk_laws.proofs.ListPlaces.{get_some}
 use Rattle.bk_tiling.proofs.Cells.{count-cons, counted_one, covers_from, none_counted, one_counted, over_from}
-use Rattle.bk_tiling.proofs.TilingLaws.{cell_once, side_of, within_of}
+use Rattle.bk_tiling.proofs.TilingLaws.{a_square_over_each_cell, cell_once, side_of, within_of}
 use Rattle.bk_tiling.specs.Column.{covers_column}
 use Rattle.bk_tiling.specs.Tiling.{IsOneOf, IsTiling, Tiling, covers}
 use Rattle.bk_tiling.specs.declared.Square.{Square}
 use Rattle.bk_tiling.proofs.Groups.{IsRow, row_of}
 use Rattle.bk_tiling.specs.SquareGroups.{square_groups}
-use Rattle.bk_net.proofs.GroupSquares.{a_square_over_each_cell, get_index, group_of, level_is, row_is, square_below_begins_at_the_bottom, top_of}
+use Rattle.bk_net.proofs.GroupSquares.{get_index, group_of, level_is, row_is, square_below_begins_at_the_bottom, top_of}
 use Rattle.bk_net.proofs.SmithLists.{HasGroup, has_group}
 use Rattle.bk_net.specs.Diagram.{group_level, node_below}
 

@@ -13,19 +13,18 @@ use Rattle.bk_tiling.proofs.Members.{one_at}
 use Rattle.bk_tiling.proofs.Places.{at_place, later_place}
 use Rattle.bk_tiling.proofs.Scaling.{before_cases}
 use Rattle.bk_tiling.proofs.TilingGroups.{one_there}
-use Rattle.bk_tiling.proofs.TilingLaws.{side_of, within_of}
-use Rattle.bk_tiling.specs.CodeOrder.{comes_before}
+use Rattle.bk_tiling.proofs.TilingLaws.{a_square_over_each_cell, side_of, within_of}
+use Rattle.bk_tiling.specs.CodeOrder.{comes_before, is_no_later}
 use Rattle.bk_tiling.specs.Column.{covers_column}
 use Rattle.bk_tiling.specs.KeptTiling.{IsKept}
 use Rattle.bk_tiling.specs.SquareGroups.{square_groups}
 use Rattle.bk_tiling.specs.Tiling.{IsOneOf, IsTiling, Tiling, covers}
 use Rattle.bk_tiling.specs.declared.Square.{Square}
-use Rattle.bk_net.proofs.GroupSquares.{a_square_over_each_cell, row_is, square_below_begins_at_the_bottom}
+use Rattle.bk_net.proofs.GroupSquares.{row_is, square_below_begins_at_the_bottom}
 use Rattle.bk_net.proofs.NodeBelow.{below_from, has_node_below}
 use Rattle.bk_net.proofs.SidesFlow.{the_one_flow}
 use Rattle.bk_net.proofs.SmithLists.{HasGroup, count_at}
 use Rattle.bk_net.specs.Diagram.{node_below, smith_diagram}
-use Rattle.bk_net.specs.CellOrder.{is_no_later}
 use Rattle.bk_net.specs.GroupNumbers.{group_numbers}
 use Rattle.bk_net.proofs.SquareNumbers.{HasNumber, group_numbers_are_as_many_as_squares, has_number, no_later_from, no_later_to, wires_by, wires_by-at}
 use Rattle.bk_net.proofs.SquareNumbers.{wires_by-groups, wires_by-length}

@@ -9,12 +9,11 @@ use Rattle.std.proofs.lemmas.List.{length-append, length-map}
 use Rattle.bk_tiling.proofs.Groups.{row_of}
 use Rattle.bk_tiling.proofs.Members.{one_at}
 use Rattle.bk_tiling.proofs.Places.{later_place}
-use Rattle.bk_tiling.specs.CodeOrder.{InCodeOrder, comes_before}
+use Rattle.bk_tiling.specs.CodeOrder.{InCodeOrder, comes_before, is_no_later}
 use Rattle.bk_tiling.specs.Tiling.{IsOneOf}
 use Rattle.bk_tiling.specs.declared.Square.{Square}
 use Rattle.bk_net.proofs.Hanging.{numbers_from}
 use Rattle.bk_net.proofs.SmithLists.{group_wires}
-use Rattle.bk_net.specs.CellOrder.{is_no_later}
 
 -- ---- wires by squares
 

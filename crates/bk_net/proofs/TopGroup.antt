@@ -2,13 +2,13 @@
 use Rattle.std.proofs.Common.{List, Some, ap, arith, count_by, inl, inr, slice_get, subst, suc, true, ℕ, ◌-◌, ◌<◌, ◌∙◌, ◌∷◌, ◌≡◌, ◌≤◌, ◌⊎◌}
 use Rattle.std.proofs.lemmas.Bool.{cases_lt}
 use Rattle.bk_tiling.proofs.Cells.{covers_from, one_counted, over_from}
-use Rattle.bk_tiling.proofs.TilingLaws.{cell_once, side_of, wide_enough}
+use Rattle.bk_tiling.proofs.TilingLaws.{a_square_over_each_cell, cell_once, side_of, wide_enough}
 use Rattle.bk_tiling.specs.Tiling.{IsOneOf, IsTiling, Tiling, covers}
 use Rattle.bk_tiling.specs.declared.Square.{Square}
 use Rattle.bk_tiling.proofs.Groups.{IsRow, row_of}
 use Rattle.bk_tiling.proofs.TilingGroups.{known_groups}
 use Rattle.bk_tiling.specs.SquareGroups.{square_groups}
-use Rattle.bk_net.proofs.GroupSquares.{a_square_over_each_cell, first_in, get_index, group_of, in_group, row_is}
+use Rattle.bk_net.proofs.GroupSquares.{first_in, get_index, group_of, in_group, row_is}
 use Rattle.bk_net.proofs.GroupEdges.{below_height, end_within, first_one, not_left, not_right, some_width}
 use Rattle.bk_net.proofs.SmithLists.{count_at, count_row}
 

@@ -1,5 +1,4 @@
 -- What the crate says.
-pub mod CellOrder
 pub mod Diagram
 pub mod Flow
 pub mod KeptNet

@@ -2,7 +2,6 @@
 #![tactic(auto)]
 
 ghost use Rattle.std.specs.Prelude.{length, map, slice_index, ◌+◌, ◌<◌, ◌≡◌, ◌≢◌};
-ghost use Rattle.bk_net.specs.CellOrder.{is_no_later};
 ghost use Rattle.bk_net.specs.Diagram.{group_level, node_below, node_levels, smith_diagram};
 ghost use Rattle.bk_net.specs.Flow.{IsOneFlow};
 ghost use Rattle.bk_net.specs.GroupNumbers.{group_numbers};
@@ -13,7 +12,7 @@ ghost use Rattle.bk_tiling.specs.Tiling.{IsOneOf};
 
 use crate::{MOST_NODES, Net};
 use arrayvec::ArrayVec;
-use bk_tiling::{MOST_SQUARES, Square, Tiling};
+use bk_tiling::{MOST_SQUARES, Square, Tiling, is_no_later};
 
 /// The Smith diagram of a tiling, and the level of each node (Brooks, Smith, Stone and Tutte 1940). The nodes are the
 /// groups of the code and then the bottom, so squares that touch at one level hang from one node (our own rule). A
@@ -91,12 +90,4 @@ fn place_below(tiling: &Tiling, q: Square) -> usize
     let level = q.y + q.s;
     let after = squares.partition_point(|r| is_no_later(r, q.x, level));
     after - 1
-}
-
-/// Whether a square's corner comes no later than the cell in column `x` at level `y`, in the code order: from top to
-/// bottom and from left to right.
-pub fn is_no_later(r: &Square, x: u64, y: u64) -> bool
-    ensures { result ≡ is_no_later x y r.now }
-{
-    r.y < y || (r.y == y && r.x <= x)
 }

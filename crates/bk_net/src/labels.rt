@@ -1,7 +1,7 @@
 //! Which nodes of a net are joined by wires.
 #![tactic(auto)]
 
-ghost use Rattle.std.specs.Prelude.{length, slice_index, ◌<◌, ◌≡◌, ◌≤◌, ℕ};
+ghost use Rattle.std.specs.Prelude.{IfNone, IfSome, length, slice_index, ◌<◌, ◌≡◌, ◌≢◌, ◌≤◌, ℕ};
 ghost use Rattle.bk_net.specs.Labels.{AreLabels, EndsBelow, IsRelabelled, relabelled};
 
 use crate::MOST_NODES;
@@ -51,4 +51,14 @@ fn relabelled(label: u16, old: u16, new: u16) -> u16
     ensures { result ≡ relabelled old new label }
 {
     if label == old { new } else { label }
+}
+
+// The first place where another label stands.
+pub(crate) fn place_of_other(labels: &[u16], label: u16) -> Option<usize>
+    ensures none { IfNone result ((v : ℕ) → v < length labels.now → slice_index labels.now v ≡ label) }
+    ensures within { IfSome result (λ v. v < length labels.now) }
+    ensures other { IfSome result (λ v. slice_index labels.now v ≢ label) }
+    ensures before { IfSome result (λ v. (u : ℕ) → u < v → slice_index labels.now u ≡ label) }
+{
+    labels.iter().position(|it| *it != label)
 }

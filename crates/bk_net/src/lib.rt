@@ -12,18 +12,19 @@ mod read;
 mod reader;
 
 use arrayvec::ArrayVec;
-pub use diagram::{is_no_later, net_of};
-use labels::labels_of;
+use bk_tiling::MOST_SQUARES;
+pub use diagram::net_of;
+use labels::{labels_of, place_of_other};
 pub use laws::{a_joined_net_has_one_flow, a_net_line_has_one_meaning, sides_are_the_one_flow};
 pub use read::read_net;
 use std::marker::Model;
 use thiserror::Error;
 
-/// A net has at most so many nodes: one for each group of a tiling, and the bottom.
-pub const MOST_NODES: usize = 201;
+/// The most nodes of a net: one for each group of a tiling, and the bottom.
+pub const MOST_NODES: usize = MOST_SQUARES + 1;
 
-/// A net has at most so many wires.
-pub const MOST_WIRES: usize = 200;
+/// The most wires of a net: one for each square of a tiling.
+pub const MOST_WIRES: usize = MOST_SQUARES;
 
 /// A network of unit resistances: 2 to 201 nodes, numbered from 0, and at most 200 wires, each between two different
 /// nodes. The current goes in at node 0 and out at the last node (Brooks, Smith, Stone and Tutte 1940).
@@ -45,7 +46,7 @@ impl Model for Net {
 }
 
 impl Net {
-    /// A net of so many nodes, with no wires.
+    /// A net of `nodes` nodes, 2 to 201, with no wires.
     pub fn new(nodes: u16) -> Net
         requires some { 2 ≤ nodes }
         requires few { nodes ≤ MOST_NODES }
@@ -57,7 +58,8 @@ impl Net {
         }
     }
 
-    /// Appends a wire from one node to another. Its current counts as positive in this direction.
+    /// Appends a wire from one node of the net to another one. There must be room for it. Its current counts as
+    /// positive in this direction.
     pub fn add(&mut self, from: u16, to: u16)
         requires room { length self.old.wires < MOST_WIRES }
         requires from_node { from < self.old.nodes }
@@ -84,6 +86,7 @@ impl Net {
     {
         self.wires.as_slice()
     }
+
     /// The least node that is not joined to the last one by wires, whichever way they lead. There is none exactly where
     /// every node is joined to the last, and then a total fixes the flow (Kirchhoff).
     pub fn loose(&self) -> Option<u16>
@@ -93,12 +96,8 @@ impl Net {
         let nodes = self.nodes();
         let labels = labels_of(nodes, self.wires());
         let last = labels[usize::from(nodes - 1)];
-        for v in 0..nodes {
-            if labels[usize::from(v)] != last {
-                return Some(v);
-            }
-        }
-        None
+        let loose = place_of_other(labels.as_slice(), last)?;
+        Some(loose as u16)
     }
 }
 

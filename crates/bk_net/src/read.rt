@@ -1,7 +1,7 @@
 //! What a network line stands for.
 #![tactic(auto)]
 
-ghost use Rattle.std.specs.Prelude.{All, IfErr, IfNone, IfOk, IfSome, List, false, length, ◌≡◌, ◌≤◌, ℕ};
+ghost use Rattle.std.specs.Prelude.{All, IfErr, IfNone, IfOk, IfSome, IsTrue, List, false, length, ◌↔◌, ◌≡◌, ◌≤◌, ℕ};
 ghost use Rattle.bk_net.specs.GatheredWires.{IsNoNet, KeepsWires, and_wire};
 ghost use Rattle.bk_net.specs.NetLine.{IsNetLine, Item};
 ghost use Rattle.bk_net.specs.ReadNet.{IsFirstFault, IsKeptLine, IsNetFaultOf, IsNodeCount, JoinsNodes, net_line_of};
@@ -41,7 +41,7 @@ pub fn read_net(line: &[u8]) -> Result<NetLine, NetFault>
     }
 }
 
-// KeepsWires a wire, if there is one, where there is room. Whether there were more than are kept.
+// Keeps a wire, if there is one and there is room for it. Returns whether there were more wires than are kept.
 fn with_wire(
     wires: &mut ArrayVec<(u16, u16), MOST_WIRES>,
     many: bool,
@@ -80,17 +80,21 @@ fn net_item(nodes: u16, many: bool, wires: &[(u16, u16)]) -> Result<NetLine, Net
     })
 }
 
-// The first place, from 1, of a wire that names a node that is not there, or one node twice.
+// The place, from 1, of the first wire that names a node that is not there, or one node twice.
 fn first_fault(nodes: u16, wires: &[(u16, u16)]) -> Option<usize>
     ensures none { IfNone result (All (JoinsNodes nodes) wires.now) }
     ensures some { IfSome result (IsFirstFault nodes wires.now) }
 {
-    for (i, (from, to)) in wires.iter().enumerate() {
-        if *from >= nodes || *to >= nodes || *from == *to {
-            return Some(i + 1);
-        }
-    }
-    None
+    let before = wires.iter().position(|wire| !joins_nodes(nodes, *wire))?;
+    Some(before + 1)
+}
+
+// Whether a wire leads from one of the nodes to another one.
+fn joins_nodes(nodes: u16, wire: (u16, u16)) -> bool
+    ensures { IsTrue result ↔ JoinsNodes nodes wire }
+{
+    let (from, to) = wire;
+    from < nodes && to < nodes && from != to
 }
 
 // The net of so many nodes with these wires.

@@ -25,12 +25,19 @@ pub enum NetEnding {
 /// Where the reader of a line stands: the numbers are the number of nodes, and what was read of the wire at hand.
 #[derive(Clone, Copy)]
 pub enum Place {
+    /// Before all but blanks.
     Start,
+    /// Right behind a digit of the number of nodes.
     Count(u16),
+    /// Behind the number of nodes or a wire, and a blank.
     Between(u16),
+    /// Right behind a digit of the node where a wire begins.
     First(u16, u16),
+    /// Right behind the `-` of a wire.
     BehindDash(u16, u16),
+    /// Right behind a digit of the node where a wire ends.
     Second(u16, u16, u16),
+    /// Behind the `;` of a comment.
     Comment(NetEnding),
 }
 

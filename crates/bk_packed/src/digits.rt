@@ -10,7 +10,7 @@ ghost use Rattle.bk_word.specs.declared.TheConstants.{LARGEST_LISTED_ORDER};
 use arrayvec::ArrayVec;
 use bk_word::{Move, Sign};
 
-// A packed word has at most so many digits.
+// The most digits that a packed word has.
 pub(crate) const MOST_DIGITS: usize = 64;
 
 // The unit of the first of them, the power 63 of 4.

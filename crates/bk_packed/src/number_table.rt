@@ -1,4 +1,4 @@
-//! A table of numbers with room for so many.
+//! A table of numbers, which keeps the least ones when its room is full.
 #![tactic(auto)]
 
 ghost use Rattle.std.specs.List.{AllByRecursion};

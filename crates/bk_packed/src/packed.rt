@@ -71,7 +71,8 @@ impl Packed {
     }
 }
 
-/// The packed number of the skeleton's moves and one more, at most 16 squares in all.
+/// The packed number of the skeleton's moves and one more, which must be legal after them, with at most 16 squares in
+/// all.
 pub fn number_with(skel: &Skel, m: &Move) -> u128
     requires legal { IsLegal skel.now }
     requires next { IsLegalMove (outline_of skel.now) m.now }

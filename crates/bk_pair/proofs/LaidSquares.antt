@@ -54,6 +54,11 @@ square_tiles w h first second wide high one two =
     (split_stacked 0 0 h (w + h) (w + h) h w (omega arith) (omega arith))
     (upper_tiles w h first high one) (lower_tiles w h second wide two))
 
+-- a tiling has as many squares with columns and levels exchanged
+pub exchanged_order : (t : Tiling) → order (image Swap t) ≡ order t
+exchanged_order t =
+    in_code_order-length (map (image_square Swap t.width t.height) t.squares) ∙ length-map t.squares (image_square Swap t.width t.height)
+
 module _ (a b : Tiling) (kept : IsKept a) (turned : IsKept (image Swap b)) (can : CanBeLaid a b) where
   some_cells : (0 < a.width) × (0 < a.height)
   some_cells = let cells = tiles_cells a.width a.height a.squares kept.tiling.tiles in (cells.0, cells.1)
@@ -63,17 +68,13 @@ module _ (a b : Tiling) (kept : IsKept a) (turned : IsKept (image Swap b)) (can 
       subst (λ (h : ℕ). Tiles (sized h a.width) (image Swap b).squares) (sym can.size.height)
       (subst (λ (w : ℕ). Tiles (sized b.height w) (image Swap b).squares) (sym can.size.width) turned.tiling.tiles)
 
-  turned_order : length (image Swap b).squares ≡ order b
-  turned_order =
-      in_code_order-length (map (image_square Swap b.width b.height) b.squares) ∙ length-map b.squares (image_square Swap b.width b.height)
-
   few : length (laid_squares a b) ≡ order a + order b + 2
   few = omega (
     arith,
     length-append a.squares (corner_squares a ++ map (moved_square a.width a.height) (image Swap b).squares),
     length-append (corner_squares a) (map (moved_square a.width a.height) (image Swap b).squares),
     length-map (image Swap b).squares (moved_square a.width a.height),
-    turned_order,
+    exchanged_order b,
   )
 
   -- each square that is laid has a side that a square may have
@@ -112,37 +113,24 @@ moved_none (q ∷ squares) =
     λ i. record { x = x i; y = y i; s = q.s } ∷ moved_none squares i
 
 -- the squares that are put one after another
-pub laid_items : (a b t : Tiling) (w h : ℕ) (none first second third last : List Square) → w ≡ a.width → h ≡ a.height → t ≡ image Swap b → none ≡ []
+pub around_items : (a turned : Tiling) (w h : ℕ) (none first second third last : List Square) → w ≡ a.width → h ≡ a.height → none ≡ []
     → first ≡ none ++ map (moved_square 0 0) a.squares → second ≡ first ++ square_at w 0 h ∷ [] → third ≡ second ++ square_at 0 h w ∷ []
-    → last ≡ third ++ map (moved_square w h) t.squares → last ≡ laid_squares a b
-laid_items a b t w h none first second third last wide high turned empty one two three all =
+    → last ≡ third ++ map (moved_square w h) turned.squares
+    → last ≡ a.squares ++ (corner_squares a ++ map (moved_square a.width a.height) turned.squares)
+around_items a turned w h none first second third last wide high empty one two three all =
     all
-    ∙ ap (λ (l : List Square). l ++ map (moved_square w h) t.squares)
+    ∙ ap (λ (l : List Square). l ++ map (moved_square w h) turned.squares)
     (three ∙ ap (λ (l : List Square). l ++ square_at 0 h w ∷ []) (two ∙ ap (λ (l : List Square). l ++ square_at w 0 h ∷ [])
     (one ∙ ap (λ (l : List Square). l ++ map (moved_square 0 0) a.squares) empty ∙ moved_none a.squares)))
-    ∙ append_assoc (a.squares ++ square_at w 0 h ∷ []) (square_at 0 h w ∷ []) (map (moved_square w h) t.squares)
-    ∙ append_assoc a.squares (square_at w 0 h ∷ []) (square_at 0 h w ∷ map (moved_square w h) t.squares)
-    ∙ (λ i. a.squares ++ (square_at (wide i) 0 (high i) ∷ square_at 0 (high i) (wide i) ∷ map (moved_square (wide i) (high i)) (turned i).squares))
+    ∙ append_assoc (a.squares ++ square_at w 0 h ∷ []) (square_at 0 h w ∷ []) (map (moved_square w h) turned.squares)
+    ∙ append_assoc a.squares (square_at w 0 h ∷ []) (square_at 0 h w ∷ map (moved_square w h) turned.squares)
+    ∙ (λ i. a.squares ++ (square_at (wide i) 0 (high i) ∷ square_at 0 (high i) (wide i) ∷ map (moved_square (wide i) (high i)) turned.squares))
 
--- how many squares the second tiling adds
-pub room_left : (a b t : Tiling) (w h : ℕ) (none first second third : List Square) → t ≡ image Swap b → none ≡ [] → CanBeLaid a b
-    → first ≡ none ++ map (moved_square 0 0) a.squares → second ≡ first ++ square_at w 0 h ∷ [] → third ≡ second ++ square_at 0 h w ∷ []
-    → length third + order t ≤ 200
-room_left a b t w h none first second third turned empty can one two three = omega (
-  arith,
-  ap (λ (l : List Square). length l) empty,
-  ap (λ (l : List Square). length l) one,
-  ap (λ (l : List Square). length l) two,
-  ap (λ (l : List Square). length l) three,
-  length-append none (map (moved_square 0 0) a.squares),
-  length-map a.squares (moved_square 0 0),
-  length-append first (square_at w 0 h ∷ []),
-  length-append second (square_at 0 h w ∷ []),
-  ap (λ (t : Tiling). length t.squares) turned,
-  in_code_order-length (map (image_square Swap b.width b.height) b.squares),
-  length-map b.squares (image_square Swap b.width b.height),
-  can.few,
-)
+-- with the second tiling turned these are the squares of the two laid together
+pub around_turned : (a b turned : Tiling) (squares : List Square) → turned ≡ image Swap b
+    → squares ≡ a.squares ++ (corner_squares a ++ map (moved_square a.width a.height) turned.squares) → squares ≡ laid_squares a b
+around_turned a b turned squares is all =
+    all ∙ (λ i. a.squares ++ (corner_squares a ++ map (moved_square a.width a.height) (is i).squares))
 
 -- a square of a kept tiling stands at small numbers
 pub small_place : (t : Tiling) (k : ℕ) (d : Square) → IsKept t → k < length t.squares → ((slice_index_or t.squares k d).x ≤ 199999999999999800)

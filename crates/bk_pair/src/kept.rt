@@ -12,8 +12,8 @@ use std::alloc::{AllocError, Global};
 use std::cmp::Ordering;
 use std::marker::Model;
 
-/// A tiling in a list of just its length, with its squares by their sides, and its sides below 64 once more as the bits
-/// of a number. So whether it joins with another one is soon told. It is seen as the tiling.
+/// A tiling in memory of just its size: its squares by ascending sides, and those of the sides that are below 64 once
+/// more, as the bits of a number. So it is soon told whether it joins with another one. It is seen as the tiling.
 #[derive(Drop)]
 pub struct KeptTiling {
     width: u64,
@@ -110,7 +110,7 @@ impl KeptTiling {
     }
 }
 
-// Whether no side occurs twice among those of the squares, which stand by their sides, the width and the height.
+// Whether the sides of the squares, the width and the height are all different. The squares stand by ascending sides.
 fn stands_apart(width: u64, height: u64, squares: &[Square]) -> bool
     requires { AreSidesAscending squares.now }
     ensures { result ≡ stands_apart (tiling_of width height squares.now) }
@@ -127,7 +127,7 @@ fn stands_apart(width: u64, height: u64, squares: &[Square]) -> bool
     width != height
 }
 
-// Whether some side occurs among both squares, which stand by their sides.
+// Whether a square of one list has the same side as a square of the other. Both lists stand by ascending sides.
 fn have_common_side(first: &[Square], second: &[Square]) -> bool
     requires first { AreSidesAscending first.now }
     requires second { AreSidesAscending second.now }

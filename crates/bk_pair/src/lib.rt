@@ -8,7 +8,7 @@ ghost use Rattle.bk_tiling.specs.Scale.{moved_square};
 ghost use Rattle.bk_tiling.specs.Tiling.{order, sides_of};
 ghost use Rattle.bk_simple.specs.Simple.{IsPerfect};
 ghost use Rattle.bk_pair.specs.Pair.{ArePair, CanBeLaid, IsLayingFault, IsLeastShared, IsPairFault, IsSharedSide};
-ghost use Rattle.bk_pair.specs.Pair.{joined_square, pair_sides};
+ghost use Rattle.bk_pair.specs.Pair.{corner_squares, joined_square, pair_sides};
 
 mod kept;
 mod laws;
@@ -124,10 +124,26 @@ fn sorted_pair_sides(a: &Tiling, b: &Tiling) -> ArrayVec<u64, MOST_SQUARES>
     sides
 }
 
-/// The square that two tilings make which can be laid together as `lay_pair` lays them.
+/// The square of side width + height that two tilings make which can be laid together, as `lay_pair` lays them (Brooks,
+/// Smith, Stone and Tutte 1940).
 pub fn joined_square(a: &Tiling, b: &Tiling) -> Tiling
     requires { CanBeLaid a.now b.now }
     ensures { result ≡ joined_square a.now b.now }
+{
+    let side = a.width() + a.height();
+    let mut squares = around_corners(a, &image(b, Turn::Swap));
+    put_in_order(&mut squares);
+    Tiling::from_known(side, side, squares)
+}
+
+// The squares of a tiling, the two that fill the corners beside it, and those of another one, which is moved behind
+// both.
+fn around_corners(a: &Tiling, turned: &Tiling) -> ArrayVec<Square, MOST_SQUARES>
+    requires few { order a.now + order turned.now + 2 ≤ MOST_SQUARES }
+    requires wide { a.now.width ≤ LONGEST_SIDE }
+    requires high { a.now.height ≤ LONGEST_SIDE }
+    ensures { result.items ≡ a.now.squares
+        ++ (corner_squares a.now ++ map (moved_square a.now.width a.now.height) turned.now.squares) }
 {
     let (width, height) = (a.width(), a.height());
     let mut squares = ArrayVec::new();
@@ -142,9 +158,8 @@ pub fn joined_square(a: &Tiling, b: &Tiling) -> Tiling
         y: height,
         s: width,
     });
-    push_moved(&image(b, Turn::Swap), width, height, &mut squares);
-    put_in_order(&mut squares);
-    Tiling::from_known(width + height, width + height, squares)
+    push_moved(turned, width, height, &mut squares);
+    squares
 }
 
 // Appends the squares of a tiling, moved to the right and down.

@@ -140,9 +140,5 @@ fn beside(sizes: &[u8], wall: bool, place: usize) -> u8
 fn parting(moved: &[Sign]) -> usize
     ensures { result ≡ count_by parts moved.now }
 {
-    let mut parted = 0;
-    for sign in moved {
-        parted += usize::from(sign.parts());
-    }
-    parted
+    moved.iter().filter(|sign| sign.parts()).count()
 }

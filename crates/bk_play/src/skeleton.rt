@@ -29,7 +29,7 @@ use bk_word::{LARGEST_ORDER, Move, Sign};
 use std::marker::Model;
 use std::sync::ledger::Ledger;
 
-// The moves of a skeleton have at most so many signs: each at most one more than squares.
+// The most signs that the moves of a skeleton have: each at most one more than squares.
 pub(crate) const MOST_PLAYED_SIGNS: usize = 2 * LARGEST_ORDER;
 
 /// The leftmost valley of a skeleton: how many open segments stand at its left, whether it has a wall at its left and
@@ -200,6 +200,15 @@ impl Skel {
         )
     }
 
+    /// How many open segments stand at the left of the leftmost valley.
+    pub fn valley_place(&self) -> usize
+        ensures value { result ≡ valley_place (outline_of self.now).signs }
+        ensures within { result ≤ length (outline_of self.now).signs }
+    {
+        let (place, _) = self.valley_at();
+        place
+    }
+
     /// Whether the leftmost valley has a wall at its left, and at its right.
     pub fn walls(&self) -> (bool, bool)
         ensures left { result.0 ≡ has_left_wall (outline_of self.now) }
@@ -253,7 +262,7 @@ impl Skel {
         self.records.len()
     }
 
-    /// The move at place i, from 0.
+    /// The move at place i, from 0. There must be one.
     pub fn get(&self, i: usize) -> Move
         requires { i < length self.now }
         ensures { slice_get self.now i ≡ Some result }
@@ -263,7 +272,7 @@ impl Skel {
         m
     }
 
-    /// Makes of a move the one at place i, from 0, in the room that is there.
+    /// Makes of a move the one at place i, from 0, in the room that is there. There must be one at that place.
     pub fn read_move(&self, i: usize, m: &mut Move)
         requires { i < length self.now }
         ensures { slice_get self.now i ≡ Some m.new }
@@ -273,7 +282,7 @@ impl Skel {
         append(&mut m.signs, self.signs_at(i));
     }
 
-    /// How many squares the move at place i, from 0, hangs.
+    /// How many squares the move at place i, from 0, hangs. There must be one.
     pub fn count_at(&self, i: usize) -> u8
         requires { i < length self.now }
         ensures { (m : SeenMove) → slice_get self.now i ≡ Some m → result ≡ m.count }
@@ -281,13 +290,21 @@ impl Skel {
         self.record_at(i).count
     }
 
-    /// The signs of the move at place i, from 0.
+    /// The signs of the move at place i, from 0. There must be one.
     pub fn signs_at(&self, i: usize) -> &[Sign]
         requires { i < length self.now }
         ensures { (m : SeenMove) → slice_get self.now i ≡ Some m → result.now ≡ m.signs }
     {
         let noted = self.record_at(i);
         &self.played[usize::from(noted.from)..usize::from(noted.to)]
+    }
+
+    /// The record of the move at place i, from 0: what is kept of it. There must be one.
+    pub fn record_at(&self, i: usize) -> MoveRecord
+        requires { i < length self.now }
+        ensures { SaysWhere self.now i result }
+    {
+        self.records[i]
     }
 
     /// How many squares the moves hang.
@@ -353,15 +370,5 @@ fn take_last(records: &mut ArrayVec<MoveRecord, LARGEST_ORDER>) -> MoveRecord
     match records.pop() {
         Some(noted) => noted,
         None => unreachable!(),
-    }
-}
-
-impl Skel {
-    /// The record of the move at place i, from 0: what is kept of it.
-    pub fn record_at(&self, i: usize) -> MoveRecord
-        requires { i < length self.now }
-        ensures { SaysWhere self.now i result }
-    {
-        self.records[i]
     }
 }

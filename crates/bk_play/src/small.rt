@@ -35,7 +35,7 @@ const ROOM: usize = 2 * INLINE_ORDER;
 // copied behind these.
 const SIGNS_ROOM: usize = 2 * INLINE_ORDER + MOST_MOVE_SIGNS;
 
-// A move of at most 16 squares has at most so many signs.
+// The most signs that a move of at most 16 squares has.
 const MOST_MOVE_SIGNS: usize = INLINE_ORDER + 1;
 
 // The open segments. They are copied at one stroke.
@@ -139,7 +139,7 @@ impl SmallSkel {
         }
     }
 
-    /// Takes the last move back, before which the skeleton stood like this. There must be one.
+    /// Takes the last move back. There must be one, and `before` must be how the skeleton stood before it was played.
     #[inline(always)]
     pub fn take_back(&mut self, before: &SmallOutline)
         requires some { 0 < length self.old }

@@ -6,7 +6,7 @@ use Rattle.bk_ports.specs.CallLaws.{AfterAFailedCallTheOtherStreamIsLeft, EachLi
 use Rattle.bk_ports.specs.Calls.{Call, EndsAsSaid, GiveAllBytes, MakesCalls, Program, bytes_given, bytes_written, ends, failed_reads}
 use Rattle.bk_ports.specs.Calls.{failed_writes, faults_by, gave, gave_nothing, given_by, kept, reads, streams_by, took, writes, written_by}
 use Rattle.bk_ports.specs.Ending.{EndsWith, Output}
-use Rattle.bk_ports.specs.Faults.{CountsTell}
+use Rattle.bk_ports.specs.Faults.{CountsTell, faults_told}
 use Rattle.bk_ports.specs.Lines.{closed_lines}
 use Rattle.bk_ports.specs.declared.Ended.{Ended}
 use Rattle.bk_ports.specs.declared.Ended.TheVariants.{NoMemory, NoneRefused, ReadFailed, SomeRefused, TooMany, WriteFailed}
@@ -66,7 +66,7 @@ give_all_further (took bytes ∷ a) b rest ga gb none = give_all_further a b res
 give_all_further (kept bytes ∷ a) b rest ga gb none = give_all_further a b rest ga gb none
 
 -- no ending tells that both counts rose
-not_both : (ended : Ended) (r w : ℕ) → CountsTell ended (record { read = 0; read_after = r; write = 0; write_after = w }) → 1 ≤ r → 1 ≤ w → ⊥
+not_both : (ended : Ended) (r w : ℕ) → CountsTell ended (faults_told 0 r 0 w) → 1 ≤ r → 1 ≤ w → ⊥
 not_both NoneRefused r w tell a b = let e = tell.0 in omega (arith, e, a)
 not_both SomeRefused r w tell a b = let e = tell.0 in omega (arith, e, a)
 not_both ReadFailed r w tell a b = let e = tell.1 in omega (arith, e, b)

@@ -6,7 +6,7 @@ use Rattle.bk_ports.specs.ReadSize.{asked_count}
 use Rattle.bk_ports.specs.Deciding.{HasRefused}
 use Rattle.bk_ports.specs.Ending.{AreRead, EndsWith, Streams, streams_told}
 use Rattle.bk_ports.specs.Entering.{AreEntered, Entering, entering_from}
-use Rattle.bk_ports.specs.Faults.{CountsTell}
+use Rattle.bk_ports.specs.Faults.{CountsTell, faults_told}
 use Rattle.bk_ports.specs.declared.Ended.TheVariants.{ReadFailed, SomeRefused, WriteFailed}
 use Rattle.bk_ports.specs.Reply.{Reply}
 
@@ -77,5 +77,5 @@ asked_counts : (asked_count 0 ≡ 16384) × ((asked_count (2 ^ 30 - 10) ≡ 10) 
 asked_counts = (refl, (refl, refl))
 
 -- the third write fails, and no read
-one_write_failed : CountsTell WriteFailed (record { read = 0; read_after = 0; write = 2; write_after = 3 })
+one_write_failed : CountsTell WriteFailed (faults_told 0 0 2 3)
 one_write_failed = (refl, lit< tt)

@@ -1,5 +1,5 @@
 -- Where what one run writes is what another writes, the endings of the one are those of the other.
-use Rattle.std.proofs.Common.{Bool, List, Option, false, inl, inr, true, ℕ}
+use Rattle.std.proofs.Common.{Bool, List, Option, false, inl, inr, subst, sym, true, ℕ, ◌≡◌, ◌⊎◌}
 use Rattle.bk_ports.specs.Ending.{EndsWith, IsReadWhole, IsStoppedAt, OfWritten, Output, Streams, streams_told}
 use Rattle.bk_ports.specs.declared.Ended.{Ended}
 use Rattle.bk_ports.specs.declared.Ended.TheVariants.{NoMemory, NoneRefused, ReadFailed, SomeRefused, TooMany, WriteFailed}
@@ -21,6 +21,13 @@ abbrev pub IsStop : Ended → Type 0
 IsStop NoneRefused = ⊥
 IsStop SomeRefused = ⊥
 IsStop _ = Unit {0}
+
+-- a run that ends in one of these four ways stops
+pub stop_told : (ended : Ended) → (ended ≡ ReadFailed) ⊎ ((ended ≡ WriteFailed) ⊎ ((ended ≡ NoMemory) ⊎ (ended ≡ TooMany))) → IsStop ended
+stop_told ended (inl e) = subst IsStop (sym e) tt
+stop_told ended (inr (inl e)) = subst IsStop (sym e) tt
+stop_told ended (inr (inr (inl e))) = subst IsStop (sym e) tt
+stop_told ended (inr (inr (inr e))) = subst IsStop (sym e) tt
 
 -- what stands written of all lines is also something else that is said of them
 whole_as : (One Other : List (List ℕ) → OfWritten) (streams : Streams)

@@ -3,7 +3,7 @@
 -- Example (CallExamples): a program that reads twice before it answers the first line isn't one whose runs end as said.
 use Rattle.std.specs.Prelude.{◌≡◌, ℕ, ◌+◌, ◌≤◌, List, [], ◌∷◌, ◌++◌, Some, flat_map, length, take, ⊤}
 use Rattle.bk_ports.specs.Ending.{EndsWith, Output, Streams, streams_told}
-use Rattle.bk_ports.specs.Faults.{CountsTell, Faults}
+use Rattle.bk_ports.specs.Faults.{CountsTell, Faults, faults_told}
 use Rattle.bk_ports.specs.declared.Ended.{Ended}
 
 -- a program: what it does next, and how it goes on
@@ -87,8 +87,7 @@ streams_by calls rest =
 
 -- the counts of a run with these calls, where each that fails counts one
 abbrev pub faults_by : List Call → Faults
-faults_by calls =
-    record { read = 0; read_after = failed_reads calls; write = 0; write_after = failed_writes calls }
+faults_by calls = faults_told 0 (failed_reads calls) 0 (failed_writes calls)
 
 -- each run of the program ends as `enter_lines` and `answer_lines` do, whatever its calls give, and whichever of them
 -- fail

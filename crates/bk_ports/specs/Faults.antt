@@ -15,11 +15,16 @@ pub record Faults : Type 0 where
   pub write : ℕ
   pub write_after : ℕ
 
+-- the counts, by how many reads of a source had failed, before and after, and how many writes to a sink
+abbrev pub faults_told : ℕ → ℕ → ℕ → ℕ → Faults
+faults_told read read_after write write_after =
+    record { read = read; read_after = read_after; write = write; write_after = write_after }
+
 -- the counts of a run: those of its source and its sink before, and of both after, where `reads` and `writes` count for
 -- each
 abbrev pub faults_between : {S O : Type 0} → (S → ℕ) → (O → ℕ) → S × O → S × O → Faults
 faults_between reads writes before after =
-    record { read = reads before.0; read_after = reads after.0; write = writes before.1; write_after = writes after.1 }
+    faults_told (reads before.0) (reads after.0) (writes before.1) (writes after.1)
 
 -- a count rose exactly where the run ends for it, whatever is told of the bytes
 abbrev pub CountsTell : Ended → Faults → Type 0

@@ -15,15 +15,15 @@ use crate::line::{LineFront, OpenLine, Stop, enter_line};
 use crate::{Ended, Failed, Register, Sink, Source};
 use bk_grammar::AnswerBuffer;
 
-/// At most so many bytes of an input are taken.
+/// The most bytes that are taken of an input.
 pub const MOST_BYTES: usize = 1 << 30;
 
-// A read asks for at most so many bytes.
+// The most bytes that a read asks for.
 const BLOCK: usize = 16_384;
 
 /// Takes the bytes of the source to their end and enters their lines in the register, in order and numbered from 1.
-/// Each line that was taken with its line feed is entered before the next read. Of a longer input 2^30 bytes are taken,
-/// and then a read gives one more.
+/// Each line that was taken with its line feed is entered before the next read. Of an input of more than 2^30 bytes,
+/// 2^30 are taken, and then a read gives one more. Returns how the run ended.
 pub fn enter_lines<R: Register, S: Source, O: Sink>(
     register: &mut R,
     source: &mut S,
@@ -76,6 +76,7 @@ pub fn enter_lines<R: Register, S: Source, O: Sink>(
 }
 
 impl Stop {
+    // How a run ends that stopped so.
     fn ended(self) -> Ended
         ensures { result ≡ ended_of self }
     {
@@ -87,6 +88,7 @@ impl Stop {
 }
 
 // Takes the next bytes into the front of the block, none past the most that are taken, or past them at most one.
+// Returns how many came.
 fn read_block<S: Source>(
     source: &mut S,
     block: &mut [u8; BLOCK],
@@ -103,7 +105,8 @@ fn read_block<S: Source>(
     read_once(source, &mut block[..most], taken)
 }
 
-// Reads once, and asks for as many bytes as it should where so many were taken. Each read of an input is this one.
+// Reads once, and returns how many bytes came. The buffer must be as long as a read should ask for once `taken` bytes
+// were taken. Each read of an input is this one.
 fn read_once<S: Source>(source: &mut S, buf: &mut [u8], taken: usize) -> Result<usize, Failed>
     requires asked { length buf.old ≡ asked_count taken }
     ensures count { IfOk result (λ n. n ≤ length buf.new) }

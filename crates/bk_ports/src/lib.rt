@@ -40,7 +40,9 @@ pub trait Source {
     /// How many calls have failed.
     ghost faults: { Self → ℕ };
 
-    /// Takes the next bytes into the front of the buffer. No byte comes only at the end.
+    /// Takes the next bytes into the front of the buffer, which must have room for one. Returns how many came; none
+    /// come only at the end. If it fails, no byte was taken, and the count of faults has risen, unless it stands at its
+    /// last value.
     fn read(&mut self, buf: &mut [u8]) -> Result<usize, Failed>
         requires { 0 < length buf.old }
         ensures count { IfOk result (λ n. n ≤ length buf.new) }
@@ -56,7 +58,8 @@ pub trait Sink {
     /// How many calls have failed.
     ghost faults: { Self → ℕ };
 
-    /// Writes all bytes, or fails and has written a prefix of them.
+    /// Writes all bytes, or fails and has written a prefix of them. If it fails, the count of faults has risen,
+    /// unless it stands at its last value.
     fn write_all(&mut self, bytes: &[u8]) -> Result<(), Failed>
         ensures ok { OnOk result (Appends (written self.old) (written self.new) bytes.now) }
         ensures err { OnErr result (AppendsPrefix (written self.old) (written self.new) bytes.now) }
@@ -89,7 +92,8 @@ pub trait Answerer {
     ghost may_want: { Self → List ℕ → Type 0 };
 
     /// Writes the answer to a line, which comes without its line feed. Of a line of more than 8,192 bytes its first
-    /// 8,193 come. The buffer holds any bytes before and after.
+    /// 8,193 come. The buffer holds any bytes before and after. Returns what came of the line, or that a write failed:
+    /// then a beginning of an answer is written, which may be nothing or all of it.
     fn answer<O: Sink>(
         &self,
         line: &[u8],
@@ -120,8 +124,10 @@ pub trait Register {
     /// What holds of the state before the line of this number.
     ghost is_ready: { Self → ℕ → Type 0 };
 
-    /// Enters a line, which comes without its line feed and has bytes. Of a line of more than 8,192 bytes its first
-    /// 8,193 come. The buffer holds any bytes before and after.
+    /// Enters a line, which comes without its line feed, and writes what is to be written for it. Of a line of more
+    /// than 8,192 bytes its first 8,193 come. Its number is at most 2^31, and the state must be ready for it. The
+    /// buffer holds any bytes before and after. Returns what came of the line, or that a write failed: then a beginning
+    /// of what is to be written for it is written, which may be nothing or all of it.
     fn enter<O: Sink>(
         &mut self,
         number: u64,

@@ -13,7 +13,7 @@ use bk_grammar::AnswerBuffer;
 /// How many bytes a line may have. A longer one is refused, whatever it holds.
 pub const LONGEST_LINE: usize = 8_192;
 
-// Of a line so many bytes are kept: one more than it may have.
+// The most bytes that are kept of a line: one more than it may have.
 const KEPT: usize = LONGEST_LINE + 1;
 
 // What is kept of a line: its first 8,193 bytes.

@@ -39,8 +39,8 @@ impl<'a> Model for MemSource<'a> {
 }
 
 impl<'a> MemSource<'a> {
-    /// The source of these bytes, which gives at most `most` of them in a call. The calls whose numbers, from 0, stand
-    /// in `fails` fail and give nothing.
+    /// The source of these bytes, which gives at most `most` of them in a call, 1 or more. The calls whose numbers,
+    /// from 0, stand in `fails` fail and give nothing.
     pub fn new(bytes: &'a [u8], most: usize, fails: &'a [u64]) -> MemSource<'a>
         requires { 0 < most }
         ensures { result ≡ record { left = bytes.now; most = most; fails = fails.now; call = 0; faults = 0 } }

@@ -42,8 +42,8 @@ impl<A: Answerer> Register for Steady<'_, A> {
 }
 
 /// Takes the bytes of the source to their end and answers their lines, in order. Each line that was taken with its line
-/// feed is answered before the next read. Of a longer input 2^30 bytes are taken, and then a read gives one
-/// more.
+/// feed is answered before the next read. Of an input of more than 2^30 bytes, 2^30 are taken, and then a read gives
+/// one more. Returns how the run ended.
 #[inline(never)]
 pub fn answer_lines<S: Source, O: Sink, A: Answerer>(
     answerer: &A,

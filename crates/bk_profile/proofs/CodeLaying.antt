@@ -9,7 +9,7 @@ use Rattle.bk_tiling.proofs.Cells.{column_from, column_left, column_right, count
 use Rattle.bk_tiling.proofs.Cells.{in_all, one_counted, over_from}
 use Rattle.bk_tiling.proofs.Members.{in_back, in_front}
 use Rattle.bk_tiling.proofs.Rows.{chain_over, chain_total, chain_within, laid_sides}
-use Rattle.bk_tiling.proofs.TilingLaws.{cell_once, side_of, within_of}
+use Rattle.bk_tiling.proofs.TilingLaws.{a_square_over_each_cell, cell_once, side_of, within_of}
 use Rattle.bk_tiling.specs.CodeOrder.{InCodeOrder, comes_before}
 use Rattle.bk_tiling.specs.Column.{covers_column, depth}
 use Rattle.bk_tiling.specs.Tiling.{IsOneOf, IsTiling, Tiling, covers}
@@ -124,7 +124,7 @@ module _ (t : Tiling) (tiling : IsTiling t) (laid group back : List Square) (is 
           ))
 
   ends : g.row.end < t.width → g.row.first.y < depth laid g.row.end
-  ends wide = from (counted_one (covers g.row.end g.row.first.y) t.squares (omega (arith, cell_once t tiling g.row.end g.row.first.y wide below_height)))
+  ends wide = from (a_square_over_each_cell t tiling g.row.end g.row.first.y wide below_height)
     where
       from : (z : Square) × IsOneOf z t.squares × (covers g.row.end g.row.first.y z ≡ true) → g.row.first.y < depth laid g.row.end
       from (z, h, e) = cases (from_append laid (group ++ back) z (subst (IsOneOf z) is h))

@@ -1,6 +1,6 @@
 -- A first group, laid under its sum as the width.
 use Rattle.std.specs.List.{AllByRecursion}
-use Rattle.std.proofs.Common.{List, [], append-nil, ap, arith, get_or, length, refl, subst, suc, sum, zero, ℕ, ◌<◌, ◌∙◌, ◌∷◌, ◌≡◌, ◌≤◌}
+use Rattle.std.proofs.Common.{List, [], ap, arith, get_or, length, refl, suc, sum, zero, ℕ, ◌++◌, ◌<◌, ◌∙◌, ◌∷◌, ◌≡◌, ◌≤◌}
 use Rattle.std.proofs.lemmas.List.Elements.{All-from_recursion}
 use Rattle.bk_laws.proofs.HasAtLaws.{has_at-one}
 use Rattle.bk_laws.specs.HasAt.{HasAt}
@@ -71,12 +71,11 @@ one_is_lowest w = record {
 
 -- a first group and the runs under it are stored under its sum
 pub stored_first : (sides : List ℕ) → 0 < length sides → length sides ≤ 200 → AllByRecursion IsSide sides
-    → IsStoredProfile (record { width = sum sides; squares = laid_group 0 0 sides }) (runs_under_group 0 sides)
+    → IsStoredProfile (record { width = sum sides; squares = laid_group 0 0 sides }) (runs_under_group 0 sides ++ [])
 stored_first sides some few good =
-    subst (λ (l : List OutlineRun). IsStoredProfile (record { width = sum sides; squares = laid_group 0 0 sides }) l) (append-nil (runs_under_group 0 sides))
-    (stored_laid (empty (sum sides)) (whole_run (sum sides)) (whole_run (sum sides)) (one_run (sum sides))
+    stored_laid (empty (sum sides)) (whole_run (sum sides)) (whole_run (sum sides)) (one_run (sum sides))
     (stored_none (sum sides) (omega (arith, (sum_bounds sides good).1, some)) (omega (arith, (sum_bounds sides good).0, few))) refl
-    (one_is_lowest (sum sides)) sides refl good some (omega (arith, few)))
+    (one_is_lowest (sum sides)) sides refl good some (omega (arith, few))
 
 -- with the first group of a code laid under its sum, one group of the code is laid
 pub first_step : (code : Code) (group : List ℕ) (p : Laid) → 0 < length code → 0 < length group → AllByRecursion IsSide group → group ≡ get_or code 0 []

@@ -2,13 +2,12 @@
 use Rattle.std.specs.List.{AllByRecursion}
 use Rattle.std.specs.Prelude.{IfErr, IfOk, IsOkAnd, Result}
 use Rattle.std.specs.declared.result.Result.TheVariants.{Err, Ok}
-use Rattle.std.proofs.Common.{List, [], ap, arith, drop, length, refl, subst, sum, sym, take, ℕ, ◌*◌, ◌++◌, ◌+◌, ◌<◌, ◌∙◌, ◌∷◌, ◌≡◌, ◌≤◌}
+use Rattle.std.proofs.Common.{List, [], ap, arith, drop, length, refl, subst, sum, sym, take, ℕ, ◌++◌, ◌+◌, ◌<◌, ◌∙◌, ◌∷◌, ◌≡◌, ◌≤◌}
 use Rattle.std.proofs.lemmas.List.{append-nil, append_assoc, length-append, length-take-le, take-append-drop}
 use Rattle.bk_laws.proofs.AllOfLists.{all_left, all_right}
 use Rattle.bk_tiling.specs.KeptTiling.{IsSide}
 use Rattle.bk_tiling.specs.Tiling.{Tiling}
 use Rattle.bk_tiling.specs.declared.Segment.{Segment}
-use Rattle.bk_tiling.specs.declared.TheConstants.{LONGEST_SIDE, MOST_SQUARES}
 use Rattle.bk_code.proofs.FlatList.{a_flat_list_fixes_a_tiling}
 use Rattle.bk_code.proofs.GroupSteps.{side_groups}
 use Rattle.bk_code.proofs.Storing.{flat_more}
@@ -23,6 +22,7 @@ use Rattle.bk_profile.specs.Laid.{IsLaidOut, IsLaidTiling, IsUneven, Laid, LaysN
 use Rattle.bk_profile.specs.Refused.{HasFlat, IsFlatRefused, IsOpen}
 use Rattle.bk_profile.specs.declared.laying.Refusal.{Refusal}
 use Rattle.bk_profile.specs.declared.laying.Refusal.TheVariants.{Gap, Open}
+use Rattle.bk_profile.specs.declared.profile.TheConstants.{WIDEST_PROFILE}
 
 all_more : (code : Code) (group : List ℕ) → AllByRecursion IsSideGroup code → IsSideGroup group → AllByRecursion IsSideGroup (code ++ group ∷ [])
 all_more [] group all one = (one, tt)
@@ -189,7 +189,7 @@ whole_gap width = record { x = 0; width = width; level = 0 }
 
 -- a width that no sum of sides reaches
 pub too_wide : (width total : ℕ) (sides : List ℕ) → 0 < length sides → length sides ≤ 200 → AllByRecursion IsSide sides
-    → MOST_SQUARES * LONGEST_SIDE < width
+    → WIDEST_PROFILE < width
     → total ≡ sum sides → IsFlatRefused width sides (Gap 1 width total)
 too_wide width total [] some few good wide is = absurd (omega arith)
 too_wide width total (s ∷ sides) some few good wide is = record {

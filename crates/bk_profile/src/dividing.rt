@@ -8,17 +8,14 @@ ghost use Rattle.bk_tiling.specs.Tiling.{Tiling as Tiled};
 ghost use Rattle.bk_profile.specs.Refused.{HasFlat, IsFlatRefused};
 
 use crate::laying::{Refusal, even_height};
-use crate::profile::Profile;
-use bk_tiling::{LONGEST_SIDE, MOST_SQUARES, Tiling, sum_of};
+use crate::profile::{Profile, WIDEST_PROFILE};
+use bk_tiling::{MOST_SQUARES, Tiling, sum_of};
 
-// No list of sides has a greater sum. Of a wider row no profile is made.
-const WIDEST_ROW: u64 = MOST_SQUARES as u64 * LONGEST_SIDE;
-
-/// Divides a flat list of sides into groups and lays them under a width of 1 to `LARGEST_HEADER_NUMBER`: the next
-/// group is the shortest prefix of the sides that are left whose sum reaches the width of the gap, or all of them. The
-/// result is the one tiling that has this width and a code with this flat list. It is refused exactly where no tiling
-/// has them, with the first group that doesn't fit, or with the depths where all fit and the outline ends uneven. This
-/// division is our own.
+/// Divides a flat list of 1 to 200 sides, each 1 to 999,999,999,999,999, into groups and lays them under a width of 1
+/// to `LARGEST_HEADER_NUMBER`: the next group is the shortest prefix of the sides that are left whose sum reaches the
+/// width of the gap, or all of them. The result is the one tiling that has this width and a code with this flat list.
+/// It is refused exactly where no tiling has them, with the first group that doesn't fit, or with the depths where all
+/// fit and the outline ends uneven. This division is our own.
 pub fn lay_flat(width: u64, sides: &[u64]) -> Result<Tiling, Refusal>
     requires wide { 0 < width }
     requires narrow { width ≤ LARGEST_HEADER_NUMBER }
@@ -31,16 +28,14 @@ pub fn lay_flat(width: u64, sides: &[u64]) -> Result<Tiling, Refusal>
 {
     let mut profile = Profile::new(1);
     let mut tiling = Tiling::unit();
-    match lay_flat_in(width, sides, &mut profile, &mut tiling) {
-        Ok(()) => Ok(tiling),
-        Err(refusal) => Err(refusal),
-    }
+    lay_flat_in(width, sides, &mut profile, &mut tiling)?;
+    Ok(tiling)
 }
 
 /// Does what `lay_flat` does in a profile and a tiling that are there, and hold anything before: the one tiling that
-/// has this width and a code with this flat list is left. So nothing large is made for a list. A width that no sum of
-/// 200 sides reaches is refused before anything is laid. After a refusal the tiling is as it was, and the profile may
-/// hold anything.
+/// has this width and a code with this flat list is left. So nothing large is made for a list. A width above
+/// `WIDEST_PROFILE`, which no sum of 200 sides reaches, is refused before anything is laid. After a refusal the tiling
+/// is as it was, and the profile may hold anything.
 pub fn lay_flat_in(
     width: u64,
     sides: &[u64],
@@ -57,7 +52,7 @@ pub fn lay_flat_in(
     ensures refused { IfErr result (IsFlatRefused width sides.now) }
     ensures same { OnErr result (tiling.new ≡ tiling.old) }
 {
-    if width > WIDEST_ROW {
+    if width > WIDEST_PROFILE {
         return Err(Refusal::Gap {
             group: 1,
             gap: width,

@@ -23,8 +23,8 @@ pub enum Refusal {
 }
 
 /// Lays the groups of a code in order, under the sum of the first one as the width: the one tiling that has the code
-/// (Bouwkamp 1946-47). It is refused exactly where no tiling has it, with the first group that doesn't fit, or with the
-/// depths where all fit and the outline ends uneven.
+/// (Bouwkamp 1946-47). The code must have a group. It is refused exactly where no tiling has it, with the first group
+/// that doesn't fit, or with the depths where all fit and the outline ends uneven.
 pub fn lay_code(code: &Code) -> Result<Tiling, Refusal>
     requires { 0 < length code.now }
     ensures ok { IfOk result (HasCode code.now) }
@@ -33,10 +33,8 @@ pub fn lay_code(code: &Code) -> Result<Tiling, Refusal>
 {
     let mut profile = Profile::new(1);
     let mut tiling = Tiling::unit();
-    match lay_code_in(code, &mut profile, &mut tiling) {
-        Ok(()) => Ok(tiling),
-        Err(refusal) => Err(refusal),
-    }
+    lay_code_in(code, &mut profile, &mut tiling)?;
+    Ok(tiling)
 }
 
 /// Does what `lay_code` does in a profile and a tiling that are there, and hold anything before: the one tiling that

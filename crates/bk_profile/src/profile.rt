@@ -11,15 +11,13 @@ ghost use Rattle.bk_profile.specs.Laid.{LaysNextGroup, MisfitsGap, MisfitsNextGr
 ghost use Rattle.bk_profile.specs.OutlineRuns.{AreLowestRuns};
 ghost use Rattle.bk_profile.specs.StoredProfile.{IsStoredProfile, laid_over};
 
-use crate::runs::{
-    LowestRuns, MOST_RUNS, OutlineRun, hang, highest, lowest, lowest_runs, push_runs,
-};
+use crate::runs::{LowestRuns, MOST_RUNS, OutlineRun, hang, highest, lowest, lowest_runs, put_in};
 use arrayvec::ArrayVec;
-use bk_tiling::{MOST_SQUARES, Segment, Square, Tiling, push_group, sum_of};
+use bk_tiling::{LONGEST_SIDE, MOST_SQUARES, Segment, Square, Tiling, push_group, sum_of};
 use std::marker::Model;
 
-/// No profile is wider: 200 sides have no greater sum.
-pub const WIDEST_PROFILE: u64 = 200_000_000_000_000_000;
+/// No profile is wider: 200 sides have a smaller sum.
+pub const WIDEST_PROFILE: u64 = MOST_SQUARES as u64 * (LONGEST_SIDE + 1);
 
 /// The sum of a group isn't the width of the gap that it was to go into.
 #[derive(Clone, Copy, Debug, PartialEq, Eq)]
@@ -95,7 +93,7 @@ impl Profile {
         self.laid.clear();
         push_group(&mut self.laid, top, sides);
         self.outline.clear();
-        push_runs(&mut self.outline, 0, sides);
+        put_in(&mut self.outline, 0, 0, sides);
     }
 
     /// The gap: the leftmost maximal run of columns of least depth (Bouwkamp 1946-47).
@@ -107,7 +105,8 @@ impl Profile {
     }
 
     /// Lays a group from left to right under the gap, with the gap's level as the top level of its squares. It fits
-    /// exactly where the sum of its sides is the gap's width; else nothing is laid.
+    /// exactly where the sum of its sides is the gap's width; otherwise nothing is laid. There must be one side or
+    /// more, each 1 to 999,999,999,999,999, and room for their squares.
     pub fn lay(&mut self, sides: &[u64]) -> Result<(), GapFault>
         requires some { 0 < length sides.now }
         requires sides { AllByRecursion IsSide sides.now }
@@ -183,7 +182,7 @@ impl Profile {
 }
 
 // Lays a group, whose sum is `total`, under the gap, which the lowest runs of the outline make. It fits exactly where
-// `total` is the gap's width; else nothing is laid.
+// `total` is the gap's width; otherwise nothing is laid.
 fn lay_under(
     laid: &mut ArrayVec<Square, MOST_SQUARES>,
     outline: &mut ArrayVec<OutlineRun, MOST_RUNS>,

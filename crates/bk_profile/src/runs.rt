@@ -10,7 +10,7 @@ ghost use Rattle.bk_profile.specs.OutlineRuns.{width_of};
 use arrayvec::ArrayVec;
 use bk_tiling::{MOST_SQUARES, Segment};
 
-/// An outline has at most so many runs.
+/// The most runs of an outline.
 pub(crate) const MOST_RUNS: usize = MOST_SQUARES + 1;
 
 /// A level run of columns: how many they are, and their depth. It begins where the run before it ends.
@@ -156,7 +156,12 @@ fn take_out(outline: &mut ArrayVec<OutlineRun, MOST_RUNS>, first: usize, end: us
 }
 
 // Puts in the runs under a group, from a place on.
-fn put_in(outline: &mut ArrayVec<OutlineRun, MOST_RUNS>, first: usize, level: u64, sides: &[u64])
+pub(crate) fn put_in(
+    outline: &mut ArrayVec<OutlineRun, MOST_RUNS>,
+    first: usize,
+    level: u64,
+    sides: &[u64],
+)
     requires place { first ≤ length outline.old.items }
     requires room { length outline.old.items + length sides.now ≤ MOST_RUNS }
     requires high { level < 2 ^ 63 }
@@ -172,20 +177,5 @@ fn put_in(outline: &mut ArrayVec<OutlineRun, MOST_RUNS>, first: usize, level: u6
                 level: level + *side,
             },
         );
-    }
-}
-
-// Appends the runs under a group.
-pub(crate) fn push_runs(outline: &mut ArrayVec<OutlineRun, MOST_RUNS>, level: u64, sides: &[u64])
-    requires room { length outline.old.items + length sides.now ≤ MOST_RUNS }
-    requires high { level < 2 ^ 63 }
-    requires sides { AllByRecursion IsSide sides.now }
-    ensures { outline.new.items ≡ outline.old.items ++ runs_under_group level sides.now }
-{
-    for i in 0..sides.len() {
-        outline.push(OutlineRun {
-            width: sides[i],
-            level: level + sides[i],
-        });
     }
 }

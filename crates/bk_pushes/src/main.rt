@@ -4,7 +4,7 @@
 #![tactic(auto)]
 
 ghost use Rattle.std.specs.Prelude.{◌<◌, ◌≡◌, ◌≤◌};
-ghost use Rattle.bk_word.specs.declared.TheConstants.{LARGEST_LISTED_ORDER};
+ghost use Rattle.bk_word.specs.declared.TheConstants.{LARGEST_LISTED_ORDER, LEAST_LISTED_ORDER};
 
 use bk_play::Steps;
 use bk_walk::{MOST_MEMBERS, TabledWalk};
@@ -29,7 +29,7 @@ fn main(rt: HostRuntime) -> io::Result<()> {
 
 // How many members the catalogue of an order has, and how many moves are pushed to find them all.
 fn counted(alloc: Global, order: u8) -> (u64, u64)
-    requires least { 2 ≤ order }
+    requires least { LEAST_LISTED_ORDER ≤ order }
     requires most { order ≤ LARGEST_LISTED_ORDER }
 {
     walked::<Brand>(alloc, order, Blank::new(1))
@@ -37,7 +37,7 @@ fn counted(alloc: Global, order: u8) -> (u64, u64)
 
 // How many members a walk of the order gives, and how many moves it pushes.
 fn walked<L: Ledger>(alloc: Global, order: u8, blank: Blank) -> (u64, u64)
-    requires least { 2 ≤ order }
+    requires least { LEAST_LISTED_ORDER ≤ order }
     requires most { order ≤ LARGEST_LISTED_ORDER }
     requires name { blank.name ≡ L.name }
     requires parts { blank.parts ≡ L.parts }

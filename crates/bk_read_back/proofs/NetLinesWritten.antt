@@ -9,7 +9,7 @@ use Rattle.bk_grammar.proofs.NumberLaws.{number_from_decimal}
 use Rattle.bk_net.specs.KeptNet.{IsKeptNet}
 use Rattle.bk_net.specs.Net.{Net}
 use Rattle.bk_net.specs.NetLine.{NodeNumber, Wire, Wires}
-use Rattle.bk_report.proofs.Spaces.{blanks_before, short_node}
+use Rattle.bk_report.proofs.Spaces.{blanks_before, short_place}
 use Rattle.bk_report.specs.Answers.{net_words, spaced, wire_text}
 use Rattle.bk_read_back.specs.NetReadBack.{AWrittenNetIsRead}
 
@@ -86,8 +86,8 @@ short_wire w from to = omega (
   arith,
   length-append (decimal w.0 ++ codes "-") (decimal w.1),
   length-append (decimal w.0) (codes "-"),
-  short_node w.0 (omega (arith, from)),
-  short_node w.1 (omega (arith, to)),
+  short_place w.0 (omega (arith, from)),
+  short_place w.1 (omega (arith, to)),
 )
 
 short_wires : (nodes : ℕ) (ws : List (ℕ × ℕ)) → nodes ≤ 201 → AllByRecursion (λ w. (w.0 < nodes) × (w.1 < nodes) × (w.0 ≡ w.1 → ⊥)) ws
@@ -114,7 +114,7 @@ words_short net kept = omega (
   arith,
   ap length (blanks_before (decimal net.nodes) (map wire_text net.wires)),
   length-append (decimal net.nodes) (blanked (map wire_text net.wires)),
-  short_node net.nodes (omega (arith, kept.few_nodes)),
+  short_place net.nodes (omega (arith, kept.few_nodes)),
   short_wires net.nodes net.wires kept.few_nodes
       (recursion_from_All (λ w. (w.0 < net.nodes) × (w.1 < net.nodes) × (w.0 ≡ w.1 → ⊥)) net.wires (kept.is).ends),
 )

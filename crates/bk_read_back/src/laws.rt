@@ -10,14 +10,15 @@ pub fn members_are_small()
     ensures { MembersAreSmall }
 {}
 
-/// The line that `list` writes of a member (`bk_list::write_listing`) is in the grammar of lines of codes, without its
-/// line feed, and stands for the member's order, size and code; so it is read as that member and no other tiling.
+/// The line that `list` writes of a member of at most 16 squares (`bk_list::write_listing`) is in the grammar of lines
+/// of codes, without its line feed, and stands for the member's order, size and code; so it is read as that member and
+/// no other tiling.
 pub fn a_listed_entry_is_read()
     ensures { AListedEntryIsRead }
 {}
 
-/// Where each line of what `list` wrote has its answer of `check` (`bk_answer`), none is refused: each member is
-/// answered by the line of its tiling, in order, and the last line is a comment.
+/// If each line of what `list` wrote of an order of at most 16 has its answer of `check` (`bk_answer`), none is
+/// refused: each member is answered by the line of its tiling, in order, and the last line is a comment.
 pub fn a_list_is_accepted()
     ensures { AListIsAccepted }
 {}
@@ -28,15 +29,15 @@ pub fn a_written_net_is_read()
     ensures { AWrittenNetIsRead }
 {}
 
-/// What `net` writes of a tiling is read by `flow` as the Smith diagram (Brooks, Smith, Stone and Tutte 1940): the
-/// width and the sides behind it are a comment.
+/// What `net` writes of a tiling that a `Tiling` can hold is read by `flow` as the Smith diagram (Brooks, Smith, Stone
+/// and Tutte 1940): the width and the sides behind it are a comment.
 pub fn a_smith_diagram_is_read()
     ensures { ASmithDiagramIsRead }
 {}
 
-/// Each answer of `flow` (`bk_answer`) to what `net` writes of a tiling is the width and the sides of the tiling in
-/// lowest terms, or, exactly where the Smith diagram is wide, `no wide`. No diagram of at most 16 squares is
-/// (`bk_flow::no_small_net_is_wide`).
+/// Each answer of `flow` (`bk_answer`) to what `net` writes of a tiling that a `Tiling` can hold is the width and the
+/// sides of the tiling in lowest terms, or, exactly if the Smith diagram is wide, the refusal `wide`. No diagram of at
+/// most 16 squares is (`bk_flow::no_small_net_is_wide`).
 pub fn the_sides_are_found()
     ensures { TheSidesAreFound }
 {}

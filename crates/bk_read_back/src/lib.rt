@@ -1,4 +1,4 @@
-//! What is listed is read again.
+//! Laws: what `list` and `net` write is read again, and members have small sides.
 #![tactic(auto)]
 
 mod laws;

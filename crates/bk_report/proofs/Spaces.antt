@@ -6,6 +6,7 @@ use Rattle.std.proofs.lemmas.Grind.{flat_map-append}
 use Rattle.std.proofs.lemmas.List.{append-nil}
 use Rattle.bk_laws.proofs.ListsOfLists.{flat_map-blanks, flat_map-blanks_then_pieces}
 use Rattle.bk_report.specs.Answers.{line, spaced}
+use Rattle.bk_report.specs.declared.net.TheConstants.{LARGEST_PLACE, LONGEST_PLACE_TEXT}
 
 -- the pieces of an answer of check, one after another
 pub verdict_pieces : (front number size perfect simple : List ℕ)
@@ -80,5 +81,5 @@ dual_pieces f g h nodes height count xs ys zs =
     to_the_right nodes wires height sides numbers count = simp append_assoc
 
 -- the number of a node, or of a square, has at most three digits
-pub short_node : (n : ℕ) → n ≤ 999 → length (decimal n) ≤ 3
-short_node n small = length-decimal-le 3 n (omega arith) (omega arith) (omega arith)
+pub short_place : (n : ℕ) → n ≤ LARGEST_PLACE → length (decimal n) ≤ LONGEST_PLACE_TEXT
+short_place n small = length-decimal-le 3 n (omega arith) (omega arith) (omega arith)

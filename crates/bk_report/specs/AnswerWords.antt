@@ -42,6 +42,6 @@ foreign_word = codes "foreign"
 abbrev pub items_word : List ℕ
 items_word = codes "items"
 
--- what stands before it is an item, or a line begins so that is none
+-- a comment begins: what stands before it is an item, and a line that begins with it has none
 abbrev pub semicolon : List ℕ
 semicolon = codes ";"

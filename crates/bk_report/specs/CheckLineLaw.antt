@@ -1,4 +1,4 @@
--- What the definitions of the answers come to. Statements alone; they are proved apart.
+-- A tiling has at most one line of `check`. A statement alone; it is proved apart.
 -- Example (AnswerExamples): that of the rectangle 33x32 is `ok 9 33x32 perfect simple`.
 use Rattle.std.specs.Prelude.{List, ℕ, ◌≡◌}
 use Rattle.bk_tiling.specs.Tiling.{IsTiling, Tiling}

@@ -6,8 +6,9 @@ ghost use Rattle.bk_grammar.specs.declared.TheConstants.{ANSWER_ROOM, LONGEST_NU
 ghost use Rattle.bk_tiling.specs.declared.TheConstants.{MOST_SQUARES};
 ghost use Rattle.bk_report.specs.Answers.{dual_line};
 ghost use Rattle.bk_report.specs.declared.dual.TheConstants.{LONGEST_DUAL_LINE, LONGEST_PLACES_TEXT};
+ghost use Rattle.bk_report.specs.declared.net.TheConstants.{LARGEST_PLACE};
 
-use crate::net::{push_net, push_node, push_sides};
+use crate::net::{LONGEST_PLACE_TEXT, push_net, push_place, push_sides};
 use bk_dual::{crossings, dual_of, dual_order};
 use bk_grammar::{AnswerBuffer, push_bytes, push_number};
 use bk_sym::{Turn, image};
@@ -17,7 +18,7 @@ use bk_tiling::{MOST_SQUARES, Tiling};
 pub const LONGEST_DUAL_LINE: usize = 5700;
 
 /// The numbers of the squares are written in no more bytes, with a blank before each.
-const LONGEST_PLACES_TEXT: usize = 4 * MOST_SQUARES;
+const LONGEST_PLACES_TEXT: usize = (1 + LONGEST_PLACE_TEXT) * MOST_SQUARES;
 
 /// Writes the dual diagram of a tiling (Brooks, Smith, Stone and Tutte 1940): the line that `net` has for the image
 /// with columns and levels exchanged, then ` ; ` and for each wire the number of its square, then ` ; ` and how many
@@ -40,13 +41,13 @@ pub fn write_dual(tiling: &Tiling, out: &mut AnswerBuffer)
 // Appends the numbers with a blank before each.
 fn push_places(numbers: &[u16], out: &mut AnswerBuffer)
     requires few { length numbers.now ≤ MOST_SQUARES }
-    requires small { All (λ n. n ≤ 999) numbers.now }
+    requires small { All (λ n. n ≤ LARGEST_PLACE) numbers.now }
     requires room { array_vec_len out.old + LONGEST_PLACES_TEXT + LONGEST_NUMBER_TEXT ≤ ANSWER_ROOM }
     ensures text { out.new.items ≡ out.old.items ++ flat_map (λ n. 32 ∷ decimal n) numbers.now }
     ensures short { array_vec_len out.new ≤ array_vec_len out.old + LONGEST_PLACES_TEXT }
 {
     for number in numbers {
         out.push(b' ');
-        push_node(*number, out);
+        push_place(*number, out);
     }
 }

@@ -87,10 +87,7 @@ impl ReportCounts {
     pub fn has_fault(&self) -> bool
         ensures { IsTrue result ↔ 0 < faults self.now }
     {
-        if self.missing > 0 || self.foreign > 0 {
-            return true;
-        }
-        self.repeated > 0 || self.refused > 0
+        self.missing > 0 || self.foreign > 0 || self.repeated > 0 || self.refused > 0
     }
 }
 

@@ -21,7 +21,7 @@ const LONGEST_REFUSAL_TEXT: usize = LONGEST_TEMPLATE + 3 * LONGEST_NUMBER_TEXT;
 pub enum Refused {
     /// The line is too long.
     Long,
-    /// The line is outside its grammar, and leaves it behind so many bytes.
+    /// The line is outside its grammar: its first `at` bytes begin a line of the grammar, and no more of them do.
     Text { at: usize },
     /// There are too many sides, wires or squares of a word.
     Many,
@@ -35,13 +35,13 @@ pub enum Refused {
     Size { width: u64, height: u64 },
     /// The drawing would be too large.
     Large,
-    /// A net can't have so many nodes.
+    /// A net can't have this number of nodes.
     Nodes { count: u64 },
     /// A wire, counted from 1, has a node that isn't there, or one node twice.
     Wire { place: usize },
-    /// A node isn't joined to the last one by wires.
+    /// The least node that no wires join to the last one.
     Loose { node: u16 },
-    /// A number of the stated elimination is too wide.
+    /// A number of the stated elimination passes 127 bits; or, of a word, a side would have more than 15 digits.
     Wide,
     /// No tiling has the word.
     Nothing,

@@ -47,7 +47,7 @@ impl<T: Copy + Default, const N: usize> Short<T, N> {
 }
 
 impl<T: Copy, const N: usize> Short<T, N> {
-    /// The first so many of these cells.
+    /// The first `len` of these cells, which are at least as many.
     #[inline(always)]
     pub fn of(cells: [T; N], len: usize) -> Short<T, N>
         requires { len ≤ N }
@@ -93,8 +93,8 @@ impl<T: Copy, const N: usize> Short<T, N> {
         self.len -= 1;
     }
 
-    /// Appends the items of another list. There must be room for all its places, which are copied whatever its length
-    /// is.
+    /// Appends the items of another list. There must be room for all its `W` places, which are copied whatever its
+    /// length is.
     #[inline(always)]
     pub fn append<const W: usize>(&mut self, other: &Short<T, W>)
         requires { length self.old.items + W ≤ N }
@@ -105,8 +105,8 @@ impl<T: Copy, const N: usize> Short<T, N> {
         self.len += other.len;
     }
 
-    /// The items from one place up to another, as a list of their own. So many places as that has must lie behind the
-    /// first one, since all are copied.
+    /// The items from place `start` up to place `end`, as a list of their own with `W` places, which must be enough.
+    /// From `start` on this list must have `W` places too, whatever stands there, since all are copied.
     #[inline(always)]
     pub fn part<const W: usize>(&self, start: usize, end: usize) -> Short<T, W>
         requires order { start ≤ end }
@@ -125,7 +125,7 @@ impl<T: Copy, const N: usize> Short<T, N> {
         }
     }
 
-    /// Keeps the first so many.
+    /// Keeps the first `len` items, or all if there are no more.
     #[inline]
     pub fn truncate(&mut self, len: usize)
         ensures { self.new.items ≡ take len self.old.items }

@@ -8,7 +8,7 @@ use Rattle.bk_tiling.specs.declared.Square.{Square}
 use Rattle.bk_simple.specs.Border.{IsUncut, is_inside}
 use Rattle.bk_simple.specs.Simple.{IsFirstPart, IsPart, IsSimple, bottom_right, top_left}
 use Rattle.bk_simple.specs.CornerSquares.{IsBetween, IsFirstPartFrom, IsHeldBetween, IsPartAt}
-use Rattle.bk_simple.specs.Reach.{NoneHigher, NoneWider}
+use Rattle.bk_simple.specs.Reach.{NoneWider}
 use Rattle.bk_simple.proofs.Parts.{between_corners, bottom_right_below, count_of_part, no_square_across_part, top_left_below, uncut_part}
 use Rattle.bk_simple.proofs.PartCorners.{between-one, bottom_right_at, top_left_at}
 use Rattle.bk_simple.proofs.UncutParts.{inside_means, part_from_count, square_at_a_place_has_a_side, within_at}
@@ -21,18 +21,17 @@ module _ (t : Tiling) (tiling : IsTiling t) (i j : ℕ) (d : Square) where
       subst (λ k. IsBetween (get_or t.squares k d) (get_or t.squares j d) r) p.first
       (subst (λ k. IsBetween (get_or t.squares (top_left t r) d) (get_or t.squares k d) r) p.last (between_corners t r tiling p.part d))
 
-  -- a part with the two squares at its corners holds both, and goes past no end that none without a cut square goes past
-  held_at : (right bottom : ℕ) → NoneWider t.squares (get_or t.squares i d) t.width right → NoneHigher t.squares (get_or t.squares i d) t.height bottom
-      → (r : Rectangle) → IsPartAt t i j r → i < length t.squares → j < length t.squares
-      → IsHeldBetween (get_or t.squares i d) (get_or t.squares j d) (right, bottom) r
-  held_at right bottom wider higher r p first last = record {
+  -- a part with the two squares at its corners holds both, and goes past no column that none without a cut square goes past
+  held_at : (right : ℕ) → NoneWider t.squares (get_or t.squares i d) t.width right → (r : Rectangle) → IsPartAt t i j r
+      → i < length t.squares → j < length t.squares
+      → IsHeldBetween (get_or t.squares i d) (get_or t.squares j d) right r
+  held_at right wider r p first last = record {
     corners = c;
     first_column = omega (arith, c.left, holds_last.left);
     first_level = omega (arith, c.top, holds_last.top);
     last_column = omega (arith, c.right, holds_first.right);
     last_level = omega (arith, c.bottom, holds_first.bottom);
     narrow = omega (arith, c.right, wider r c.left c.top uncut (omega (arith, c.right, (within_at t tiling j d last).right)));
-    low = omega (arith, c.bottom, higher r c.left c.top uncut (omega (arith, c.bottom, (within_at t tiling j d last).bottom)));
   }
     where
       c : IsBetween (get_or t.squares i d) (get_or t.squares j d) r
@@ -64,11 +63,10 @@ module _ (t : Tiling) (tiling : IsTiling t) (i j : ℕ) (d : Square) where
           })))
 
   -- where no rectangle that holds both squares lies between them, no part has them at its corners
-  pub no_part_with_corners_where_none_is_between : (right bottom : ℕ) → NoneWider t.squares (get_or t.squares i d) t.width right
-      → NoneHigher t.squares (get_or t.squares i d) t.height bottom
+  pub no_part_with_corners_where_none_is_between : (right : ℕ) → NoneWider t.squares (get_or t.squares i d) t.width right
       → i < length t.squares → j < length t.squares
-      → ((r : Rectangle) → ¬ (IsHeldBetween (get_or t.squares i d) (get_or t.squares j d) (right, bottom) r)) → (r : Rectangle) → ¬ (IsPartAt t i j r)
-  no_part_with_corners_where_none_is_between right bottom wider higher first last nowhere r p = nowhere r (held_at right bottom wider higher r p first last)
+      → ((r : Rectangle) → ¬ (IsHeldBetween (get_or t.squares i d) (get_or t.squares j d) right r)) → (r : Rectangle) → ¬ (IsPartAt t i j r)
+  no_part_with_corners_where_none_is_between right wider first last nowhere r p = nowhere r (held_at right wider r p first last)
 
   module _ (tried : Rectangle) (h : IsBetween (get_or t.squares i d) (get_or t.squares j d) tried) where
     tried_part : (r : Rectangle) → IsPartAt t i j r → IsPart t tried

@@ -8,9 +8,9 @@ use Rattle.std.proofs.lemmas.List.Elements.{All-from_recursion, recursion_from_A
 use Rattle.std.proofs.lemmas.List.Sums.{AllPass-from_list_all, length-filter}
 use Rattle.bk_laws.proofs.Counts.{count_by-filter_same, count_two}
 use Rattle.bk_laws.proofs.AllOfLists.{all-filter}
-use Rattle.bk_tiling.proofs.Cells.{IsOver, counted_one, over_from}
+use Rattle.bk_tiling.proofs.Cells.{IsOver, over_from}
 use Rattle.bk_tiling.proofs.Places.{at_place}
-use Rattle.bk_tiling.proofs.TilingLaws.{cell_once}
+use Rattle.bk_tiling.proofs.TilingLaws.{a_square_over_each_cell, cell_once}
 use Rattle.bk_tiling.specs.Tiling.{IsOneOf, IsTiling, IsWithin, Rectangle, Tiling, covers, order, whole}
 use Rattle.bk_tiling.specs.declared.Square.{Square}
 use Rattle.bk_simple.specs.Border.{IsUncut, is_inside, is_outside}
@@ -85,7 +85,7 @@ module _ (t : Tiling) (tiling : IsTiling t) where
 
   -- each cell of the rectangle lies in a square
   pub square_over : (d : Square) (c j : ℕ) → c < t.width → j < t.height → IsAt d c j
-  square_over d c j wide high = from (counted_one (covers c j) t.squares (omega (arith, cell_once t tiling c j wide high)))
+  square_over d c j wide high = from (a_square_over_each_cell t tiling c j wide high)
     where
       from : (q : Square) × IsOneOf q t.squares × (covers c j q ≡ true) → IsAt d c j
       from (q, one, over) =

@@ -15,16 +15,14 @@ pub record IsBetween (p q : Square) (r : Rectangle) : Type 0 where
   pub wide : 0 < r.width
   pub high : 0 < r.height
 
--- the rectangle from the top left corner of p to the bottom right corner of q holds both, and goes past neither of two
--- ends: a column and a level
-pub record IsHeldBetween (p q : Square) (ends : ℕ × ℕ) (r : Rectangle) : Type 0 where
+-- the rectangle from the top left corner of p to the bottom right corner of q holds both, and doesn't go past a column
+pub record IsHeldBetween (p q : Square) (right_end : ℕ) (r : Rectangle) : Type 0 where
   pub corners : IsBetween p q r
   pub first_column : p.x ≤ q.x
   pub first_level : p.y ≤ q.y
   pub last_column : p.x + p.s ≤ q.x + q.s
   pub last_level : p.y + p.s ≤ q.y + q.s
-  pub narrow : q.x + q.s ≤ ends.0
-  pub low : q.y + q.s ≤ ends.1
+  pub narrow : q.x + q.s ≤ right_end
 
 -- a part from the top left corner of square i to the bottom right corner of square j, counted from 0
 pub record IsPartAt (t : Tiling) (i j : ℕ) (r : Rectangle) : Type 0 where

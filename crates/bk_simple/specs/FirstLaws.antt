@@ -1,4 +1,4 @@
--- What is named by an order is one. Statements alone; they are proved apart.
+-- A tiling has at most one first part and one least repeated side. Statements alone; they are proved apart.
 use Rattle.std.specs.Prelude.{ℕ, ◌≡◌}
 use Rattle.bk_tiling.specs.Tiling.{IsTiling, Rectangle, Tiling}
 use Rattle.bk_simple.specs.Simple.{IsFirstPart, IsLeastRepeated}

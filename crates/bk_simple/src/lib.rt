@@ -10,7 +10,7 @@ ghost use Rattle.bk_simple.specs.Neighbours.{IsFirstTwice, NoneTwice};
 ghost use Rattle.bk_simple.specs.Simple.{IsFirstPart, IsLeastRepeated, IsPart, IsPerfect, IsSimple, top_left};
 ghost use Rattle.bk_simple.specs.CornerSquares.{IsFirstPartFrom, IsHeldBetween, IsPartAt};
 ghost use Rattle.bk_simple.specs.LargeParts.{HasNoLargePart, HasNoneUnder, HasNoneWider};
-ghost use Rattle.bk_simple.specs.Reach.{NoneHigher, NoneWider};
+ghost use Rattle.bk_simple.specs.Reach.{NoneWider};
 ghost use Rattle.bk_tiling.specs.Sharing.{EdgesFit};
 ghost use Rattle.bk_tiling.specs.Tiling.{IsTiling, Rectangle, order, sides_of, square_of};
 
@@ -33,10 +33,10 @@ pub struct SubRect {
     pub height: u64,
 }
 
-// So many remainders are marked to tell numbers apart.
+// Numbers are divided by this, and their remainders marked, to tell most of them apart.
 const REMAINDERS: usize = 256;
 
-// The sides of at most so many squares are put into a room of their own, which is cheap to clear.
+// The most squares whose sides are put into a room of their own, which is cheap to clear.
 const FEW_SQUARES: usize = 20;
 
 /// Whether a tiling is perfect: whether all sides differ (Brooks, Smith, Stone and Tutte 1940).
@@ -180,8 +180,9 @@ fn has_none_past(tiling: &Tiling, i: usize) -> bool
     true
 }
 
-// Whether this is seen of the parts with the squares from place i to place `last` along their top: going down both
-// sides, a square reaches across one of them before squares at both end at one level.
+// Whether it is quickly seen that no part has the squares from place i to place `last` along its top: going down both
+// sides, a square reaches across one of them before squares at both end at one level, or they end so only at the end of
+// the whole tiling.
 fn has_none_under(tiling: &Tiling, i: usize, last: usize) -> bool
     requires places { (i < last) × (last < length tiling.now.squares) }
     requires level { (square_of tiling.now last).y ≡ (square_of tiling.now i).y }
@@ -225,13 +226,13 @@ fn part_from(tiling: &Tiling, i: usize) -> Option<SubRect>
 {
     let squares = tiling.squares();
     let first = squares[i];
-    let ends = (right_end(tiling, i), tiling.height());
+    let end = right_end(tiling, i);
     for j in i + 1..tiling.order() {
         let q = squares[j];
         if crosses(q.x, q.s, first.x) {
             return None;
         }
-        if let Some(found) = part_at(tiling, i, j, ends) {
+        if let Some(found) = part_at(tiling, i, j, end) {
             return Some(found);
         }
     }
@@ -265,17 +266,16 @@ fn crosses(a: u64, n: u64, over: u64) -> bool
 }
 
 // The part from the top left corner of the square at place i to the bottom right corner of the square at place j. None
-// from there goes past these ends.
-fn part_at(tiling: &Tiling, i: usize, j: usize, ends: (u64, u64)) -> Option<SubRect>
+// from there goes past column `right_end`.
+fn part_at(tiling: &Tiling, i: usize, j: usize, right_end: u64) -> Option<SubRect>
     requires first { i < length tiling.now.squares }
     requires last { j < length tiling.now.squares }
-    requires right { NoneWider tiling.now.squares (square_of tiling.now i) tiling.now.width ends.0 }
-    requires bottom { NoneHigher tiling.now.squares (square_of tiling.now i) tiling.now.height ends.1 }
+    requires right { NoneWider tiling.now.squares (square_of tiling.now i) tiling.now.width right_end }
     ensures none { IfNone result ((r : Rectangle) → ¬ (IsPartAt tiling.now i j r)) }
     ensures part { IfSome result (λ r. IsPartAt tiling.now i j (rectangle_of r)) }
 {
     let squares = tiling.squares();
-    let tried = between(squares[i], squares[j], ends)?;
+    let tried = between(squares[i], squares[j], right_end)?;
     let inside = count_inside(tiling, i + 1, &tried)?;
     if inside >= 2 && inside < tiling.order() {
         Some(tried)
@@ -284,16 +284,19 @@ fn part_at(tiling: &Tiling, i: usize, j: usize, ends: (u64, u64)) -> Option<SubR
     }
 }
 
-// The rectangle from the top left corner of p to the bottom right corner of q, where both lie in it and it goes past
-// none of these ends.
-fn between(p: Square, q: Square, ends: (u64, u64)) -> Option<SubRect>
+// The rectangle from the top left corner of p to the bottom right corner of q, where both lie in it and it doesn't go
+// past column `right_end`.
+fn between(p: Square, q: Square, right_end: u64) -> Option<SubRect>
     requires p_fits { (p.x + p.s < 2 ^ 64) × (p.y + p.s < 2 ^ 64) }
     requires q_fits { (q.x + q.s < 2 ^ 64) × (q.y + q.s < 2 ^ 64) }
     requires sides { (0 < p.s) × (0 < q.s) }
-    ensures none { IfNone result ((r : Rectangle) → ¬ (IsHeldBetween p q ends r)) }
-    ensures some { IfSome result (λ r. IsHeldBetween p q ends (rectangle_of r)) }
+    ensures none { IfNone result ((r : Rectangle) → ¬ (IsHeldBetween p q right_end r)) }
+    ensures some { IfSome result (λ r. IsHeldBetween p q right_end (rectangle_of r)) }
 {
-    if !goes_on((p.x, p.s), (q.x, q.s), ends.0) || !goes_on((p.y, p.s), (q.y, q.s), ends.1) {
+    if q.x + q.s > right_end
+        || !goes_on((p.x, p.s), (q.x, q.s))
+        || !goes_on((p.y, p.s), (q.y, q.s))
+    {
         return None;
     }
     Some(SubRect {
@@ -304,13 +307,12 @@ fn between(p: Square, q: Square, ends: (u64, u64)) -> Option<SubRect>
     })
 }
 
-// Whether a span of numbers, given by its first and how many they are, begins and ends no earlier than another, and
-// goes past no end.
-fn goes_on(p: (u64, u64), q: (u64, u64), end: u64) -> bool
+// Whether a span of numbers, given by its first and how many they are, begins and ends no earlier than another.
+fn goes_on(p: (u64, u64), q: (u64, u64)) -> bool
     requires fits { (p.0 + p.1 < 2 ^ 64) × (q.0 + q.1 < 2 ^ 64) }
-    ensures { IsTrue result ↔ ((p.0 ≤ q.0) × (p.0 + p.1 ≤ q.0 + q.1) × (q.0 + q.1 ≤ end)) }
+    ensures { IsTrue result ↔ ((p.0 ≤ q.0) × (p.0 + p.1 ≤ q.0 + q.1)) }
 {
-    p.0 <= q.0 && q.0 + q.1 <= end && p.0 + p.1 <= q.0 + q.1
+    p.0 <= q.0 && p.0 + p.1 <= q.0 + q.1
 }
 
 // How many squares lie in the rectangle, where none lies across its border. Those from place `first` on are gone

@@ -79,8 +79,8 @@ fn realise_by(skel: &Skel, flow: &NarrowFlow) -> Option<Tiling>
 }
 
 /// The primitive tiling of the word, from the flow that `flow_of` gives, in room that is there, for the laying and for
-/// the tiling. `Found` comes exactly where there is a tiling, which stands in `tiling` then; with `Nothing` that is
-/// left as it is or not. What stands in `laying`, before or after, says nothing.
+/// the tiling. `Found` comes exactly where there is a tiling, which stands in `tiling` then; after `Nothing` what
+/// stands there says nothing. What stands in `laying`, before or after, says nothing.
 pub fn realise_by_in(
     skel: &Skel,
     flow: &NarrowFlow,
@@ -134,8 +134,8 @@ pub fn realise(alloc: Global, word: &Word) -> Result<Option<Tiling>, SolveFault>
     }
 }
 
-/// What `realise` answers, in room that is there: where a tiling is found it stands in `tiling`, which else is left as
-/// it is or not.
+/// What `realise` answers for a word of at least one move, in room that is there. If a tiling is found it stands in
+/// `tiling` then; if not, what stands there says nothing.
 pub fn realise_in(
     alloc: Global,
     word: &Word,
@@ -168,10 +168,8 @@ pub fn skeleton_of(word: &Word) -> Result<Skel, usize>
     ensures illegal { IfErr result (IsFirstIllegal word.now) }
 {
     let mut skel = Skel::new();
-    match play_word(&mut skel, word) {
-        Ok(()) => Ok(skel),
-        Err(place) => Err(place),
-    }
+    play_word(&mut skel, word)?;
+    Ok(skel)
 }
 
 // Makes a skeleton that of a word. Where its moves are not all legal, the number of the first that isn't, from 1.

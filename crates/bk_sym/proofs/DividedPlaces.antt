@@ -4,8 +4,8 @@ use Rattle.std.proofs.Common.{List, [], ap, arith, inl, inr, length, refl, subst
 use Rattle.std.proofs.Math.Nat.{dvd-add, mul-div_cancel'}
 use Rattle.std.proofs.lemmas.Bool.{cases_lt}
 use Rattle.std.proofs.lemmas.Nat.Gcd.{dvd-zero}
-use Rattle.bk_tiling.proofs.Cells.{counted_one, covers_from, over_from}
-use Rattle.bk_tiling.proofs.TilingLaws.{cell_once, side_of, wide_enough, within_of}
+use Rattle.bk_tiling.proofs.Cells.{covers_from, over_from}
+use Rattle.bk_tiling.proofs.TilingLaws.{a_square_over_each_cell, own_cell, side_of, wide_enough, within_of}
 use Rattle.bk_tiling.specs.Tiling.{IsOneOf, IsTiling, Tiling, covers}
 use Rattle.bk_tiling.proofs.TilingGroups.{one_there}
 use Rattle.bk_tiling.specs.declared.Square.{Square}
@@ -26,14 +26,8 @@ module _ (t : Tiling) (tiling : IsTiling t) (g : ℕ) (sides : (q : Square) → 
       cases (inl h) = absurd (not h)
       cases (inr h) = omega (arith, (over_from i j r f).bottom)
 
-  over : (i j : ℕ) → i < t.width → j < t.height → (r : Square) × IsOneOf r t.squares × (covers i j r ≡ true)
-  over i j a b = counted_one (covers i j) t.squares (omega (arith, cell_once t tiling i j a b))
-
-  own : (q : Square) → IsOneOf q t.squares → covers q.x q.y q ≡ true
-  own q h = covers_from q.x q.y q (omega arith) (omega (arith, side_of t tiling q h)) (omega arith) (omega (arith, side_of t tiling q h))
-
   square_left : (q : Square) → IsOneOf q t.squares → 0 < q.x → (r : Square) × IsOneOf r t.squares × (r.x + r.s ≡ q.x)
-  square_left q h some = from (over (q.x - 1) q.y (omega (arith, wide)) high)
+  square_left q h some = from (a_square_over_each_cell t tiling (q.x - 1) q.y (omega (arith, wide)) high)
     where
       wide : q.x < t.width
       wide = omega (arith, (within_of t tiling q h).right, side_of t tiling q h)
@@ -51,12 +45,12 @@ module _ (t : Tiling) (tiling : IsTiling t) (g : ℕ) (sides : (q : Square) → 
               some,
               o.left,
               ap (λ (s : Square). s.x)
-                  (one_there t tiling q r q.x q.y h (own q h) k (covers_from q.x q.y r (omega (arith, o.left)) l o.top o.bottom)),
+                  (one_there t tiling q r q.x q.y h (own_cell t tiling q h) k (covers_from q.x q.y r (omega (arith, o.left)) l o.top o.bottom)),
             )),
       )
 
   square_above : (q : Square) → IsOneOf q t.squares → 0 < q.y → (r : Square) × IsOneOf r t.squares × (r.y + r.s ≡ q.y)
-  square_above q h some = from (over q.x (q.y - 1) wide (omega (arith, high)))
+  square_above q h some = from (a_square_over_each_cell t tiling q.x (q.y - 1) wide (omega (arith, high)))
     where
       wide : q.x < t.width
       wide = omega (arith, (within_of t tiling q h).right, side_of t tiling q h)
@@ -74,7 +68,7 @@ module _ (t : Tiling) (tiling : IsTiling t) (g : ℕ) (sides : (q : Square) → 
               some,
               o.top,
               ap (λ (s : Square). s.y)
-                  (one_there t tiling q r q.x q.y h (own q h) k (covers_from q.x q.y r o.left o.right (omega (arith, o.top)) l)),
+                  (one_there t tiling q r q.x q.y h (own_cell t tiling q h) k (covers_from q.x q.y r o.left o.right (omega (arith, o.top)) l)),
             )),
       )
 
@@ -112,7 +106,7 @@ module _ (t : Tiling) (tiling : IsTiling t) (g : ℕ) (sides : (q : Square) → 
 
   -- a common divisor of the sides divides the width
   pub width_divides : g ∣ t.width
-  width_divides = from (over (t.width - 1) 0 (omega (arith, wide_enough t tiling)) high_enough)
+  width_divides = from (a_square_over_each_cell t tiling (t.width - 1) 0 (omega (arith, wide_enough t tiling)) high_enough)
     where
       from : (r : Square) × IsOneOf r t.squares × (covers (t.width - 1) 0 r ≡ true) → g ∣ t.width
       from (r, k, e) = subst (λ (m : ℕ). g ∣ m) (omega (arith, (within_of t tiling r k).right, (over_from (t.width - 1) 0 r e).right))
@@ -120,7 +114,7 @@ module _ (t : Tiling) (tiling : IsTiling t) (g : ℕ) (sides : (q : Square) → 
 
   -- a common divisor of the sides divides the height
   pub height_divides : g ∣ t.height
-  height_divides = from (over 0 (t.height - 1) (wide_enough t tiling) (omega (arith, high_enough)))
+  height_divides = from (a_square_over_each_cell t tiling 0 (t.height - 1) (wide_enough t tiling) (omega (arith, high_enough)))
     where
       from : (r : Square) × IsOneOf r t.squares × (covers 0 (t.height - 1) r ≡ true) → g ∣ t.height
       from (r, k, e) = subst (λ (m : ℕ). g ∣ m) (omega (arith, (within_of t tiling r k).bottom, (over_from 0 (t.height - 1) r e).bottom))

@@ -75,12 +75,12 @@ pub fn image(tiling: &Tiling, which: Turn) -> Tiling
 
 /// Where a square of a rectangle of this size stands in the image. Where the square ends outside the rectangle, the
 /// place from the far side is 0.
-pub fn image_square(q: Square, which: Turn, width: u64, height: u64) -> Square
-    ensures { result ≡ image_square which width height q }
+pub fn image_square(q: Square, turn: Turn, width: u64, height: u64) -> Square
+    ensures { result ≡ image_square turn width height q }
 {
     let right = width.saturating_sub(q.x).saturating_sub(q.s);
     let bottom = height.saturating_sub(q.y).saturating_sub(q.s);
-    let (x, y) = match which {
+    let (x, y) = match turn {
         Turn::Same => (q.x, q.y),
         Turn::FlipX => (right, q.y),
         Turn::FlipY => (q.x, bottom),
@@ -94,10 +94,10 @@ pub fn image_square(q: Square, which: Turn, width: u64, height: u64) -> Square
 }
 
 // The width and the height of the image of a rectangle of this size.
-fn turned_size(which: Turn, width: u64, height: u64) -> (u64, u64)
-    ensures { result ≡ image_size which width height }
+fn turned_size(turn: Turn, width: u64, height: u64) -> (u64, u64)
+    ensures { result ≡ image_size turn width height }
 {
-    match which {
+    match turn {
         Turn::Same | Turn::FlipX | Turn::FlipY | Turn::Half => (width, height),
         Turn::Swap | Turn::SwapFlipX | Turn::SwapFlipY | Turn::SwapHalf => (height, width),
     }
@@ -176,9 +176,9 @@ fn greatest_image(tiling: &Tiling) -> Tiling
 {
     let first = first_turn(tiling);
     let mut greatest = image(tiling, first);
-    for which in Turn::ALL {
-        if which != first && may_be_greater(tiling, which, &greatest) {
-            become_later(&mut greatest, tiling, which);
+    for turn in Turn::ALL {
+        if turn != first && may_be_greater(tiling, turn, &greatest) {
+            become_later(&mut greatest, tiling, turn);
         }
     }
     greatest
@@ -187,23 +187,23 @@ fn greatest_image(tiling: &Tiling) -> Tiling
 // Becomes that image of another tiling, where its flat list of sides is greater. It is hardly ever needed, and its room
 // only here.
 #[inline(never)]
-fn become_later(greatest: &mut Tiling, tiling: &Tiling, which: Turn)
-    ensures one { (greatest.new ≡ greatest.old) ⊎ (greatest.new ≡ image which tiling.now) }
+fn become_later(greatest: &mut Tiling, tiling: &Tiling, turn: Turn)
+    ensures one { (greatest.new ≡ greatest.old) ⊎ (greatest.new ≡ image turn tiling.now) }
     ensures first { IsAtMost greatest.old greatest.new }
-    ensures second { IsAtMost (image which tiling.now) greatest.new }
+    ensures second { IsAtMost (image turn tiling.now) greatest.new }
 {
-    let other = image(tiling, which);
+    let other = image(tiling, turn);
     if !is_at_most(&other, greatest) {
         *greatest = other;
     }
 }
 
 // Whether that image lies, and begins with no shorter square than the other tiling.
-fn may_be_greater(tiling: &Tiling, which: Turn, other: &Tiling) -> bool
-    ensures lying { IsTrue result → Lies (image which tiling.now) }
-    ensures left { result ≡ false → Lies (image which tiling.now) → IsAtMost (image which tiling.now) other.now }
+fn may_be_greater(tiling: &Tiling, turn: Turn, other: &Tiling) -> bool
+    ensures lying { IsTrue result → Lies (image turn tiling.now) }
+    ensures left { result ≡ false → Lies (image turn tiling.now) → IsAtMost (image turn tiling.now) other.now }
 {
-    lies(tiling, which) && !begins_shorter(tiling, which, other)
+    lies(tiling, turn) && !begins_shorter(tiling, turn, other)
 }
 
 // A turn whose image lies: of these one that brings the longest square to the top left corner, so that hardly another
@@ -214,11 +214,11 @@ fn first_turn(tiling: &Tiling) -> Turn
 {
     let mut first = first_lying(tiling);
     let mut longest = 0;
-    for which in Turn::ALL {
-        if let Some(side) = first_side(tiling, which) {
-            if side > longest && lies(tiling, which) {
+    for turn in Turn::ALL {
+        if let Some(side) = first_side(tiling, turn) {
+            if side > longest && lies(tiling, turn) {
                 longest = side;
-                first = which;
+                first = turn;
             }
         }
     }
@@ -226,12 +226,12 @@ fn first_turn(tiling: &Tiling) -> Turn
 }
 
 // The side of the square that comes to the top left corner in that image.
-fn first_side(tiling: &Tiling, which: Turn) -> Option<u64>
-    ensures { IfSome result (BeginsWith (image which tiling.now)) }
+fn first_side(tiling: &Tiling, turn: Turn) -> Option<u64>
+    ensures { IfSome result (BeginsWith (image turn tiling.now)) }
 {
     let (width, height) = (tiling.width(), tiling.height());
     for q in tiling.squares() {
-        if comes_first(*q, which, width, height) {
+        if comes_first(*q, turn, width, height) {
             return Some(q.s);
         }
     }
@@ -240,13 +240,13 @@ fn first_side(tiling: &Tiling, which: Turn) -> Option<u64>
 
 // Whether the square that comes to the top left corner in that image is shorter than the first square of the other
 // tiling.
-fn begins_shorter(tiling: &Tiling, which: Turn, other: &Tiling) -> bool
-    ensures { IsTrue result → IsAtMost (image which tiling.now) other.now }
+fn begins_shorter(tiling: &Tiling, turn: Turn, other: &Tiling) -> bool
+    ensures { IsTrue result → IsAtMost (image turn tiling.now) other.now }
 {
     let first = other.squares()[0].s;
     let (width, height) = (tiling.width(), tiling.height());
     for q in tiling.squares() {
-        if q.s < first && comes_first(*q, which, width, height) {
+        if q.s < first && comes_first(*q, turn, width, height) {
             return true;
         }
     }
@@ -254,10 +254,10 @@ fn begins_shorter(tiling: &Tiling, which: Turn, other: &Tiling) -> bool
 }
 
 // Whether a square of a rectangle of this size comes to the top left corner in the image.
-fn comes_first(q: Square, which: Turn, width: u64, height: u64) -> bool
-    ensures { IsTrue result → IsAtCorner (image_square which width height q) }
+fn comes_first(q: Square, turn: Turn, width: u64, height: u64) -> bool
+    ensures { IsTrue result → IsAtCorner (image_square turn width height q) }
 {
-    let turned = image_square(q, which, width, height);
+    let turned = image_square(q, turn, width, height);
     turned.x == 0 && turned.y == 0
 }
 
@@ -279,8 +279,8 @@ fn is_greatest(tiling: &Tiling) -> bool
     requires { IsKept tiling.now }
     ensures { IsTrue result ↔ IsGreatestImage tiling.now tiling.now }
 {
-    for which in &Turn::ALL[1..] {
-        if lies(tiling, *which) && !is_image_at_most(tiling, *which) {
+    for turn in &Turn::ALL[1..] {
+        if lies(tiling, *turn) && !is_image_at_most(tiling, *turn) {
             return false;
         }
     }
@@ -288,19 +288,19 @@ fn is_greatest(tiling: &Tiling) -> bool
 }
 
 // Whether the flat list of sides of that image is lexicographically at most the tiling's own.
-fn is_image_at_most(tiling: &Tiling, which: Turn) -> bool
-    ensures { IsTrue result ↔ IsAtMost (image which tiling.now) tiling.now }
+fn is_image_at_most(tiling: &Tiling, turn: Turn) -> bool
+    ensures { IsTrue result ↔ IsAtMost (image turn tiling.now) tiling.now }
 {
-    begins_shorter(tiling, which, tiling) || is_made_image_at_most(tiling, which)
+    begins_shorter(tiling, turn, tiling) || is_made_image_at_most(tiling, turn)
 }
 
 // Whether the flat list of sides of that image is at most the tiling's own, by the image itself. It is hardly ever
 // needed, and its room only here.
 #[inline(never)]
-fn is_made_image_at_most(tiling: &Tiling, which: Turn) -> bool
-    ensures { IsTrue result ↔ IsAtMost (image which tiling.now) tiling.now }
+fn is_made_image_at_most(tiling: &Tiling, turn: Turn) -> bool
+    ensures { IsTrue result ↔ IsAtMost (image turn tiling.now) tiling.now }
 {
-    is_at_most(&image(tiling, which), tiling)
+    is_at_most(&image(tiling, turn), tiling)
 }
 
 // A turn whose image lies.
@@ -316,10 +316,10 @@ fn first_lying(tiling: &Tiling) -> Turn
 }
 
 // Whether that image is at least as wide as high.
-fn lies(tiling: &Tiling, which: Turn) -> bool
-    ensures { IsTrue result ↔ Lies (image which tiling.now) }
+fn lies(tiling: &Tiling, turn: Turn) -> bool
+    ensures { IsTrue result ↔ Lies (image turn tiling.now) }
 {
-    let (width, height) = turned_size(which, tiling.width(), tiling.height());
+    let (width, height) = turned_size(turn, tiling.width(), tiling.height());
     height <= width
 }
 

@@ -5,7 +5,7 @@ use Rattle.std.proofs.lemmas.Bool.{eqb-true}
 use Rattle.bk_laws.proofs.NumberTests.{digit_byte-positive}
 use Rattle.bk_grammar.proofs.BlankBytes.{blank_means}
 use Rattle.bk_grammar.specs.Grammar.{IsBlank}
-use Rattle.bk_text.specs.LineReading.{line_kind_of}
+use Rattle.bk_text.specs.LineReader.{line_kind_of}
 use Rattle.bk_text.specs.declared.reader.Bracket.{Bracket}
 use Rattle.bk_text.specs.declared.reader.Bracket.TheVariants.{Round, Square}
 use Rattle.bk_text.specs.declared.reader.ByteKind.{ByteKind}

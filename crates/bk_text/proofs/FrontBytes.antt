@@ -7,12 +7,12 @@ use Rattle.std.proofs.lemmas.List.{append-nil}
 use Rattle.bk_laws.proofs.Digits.{digit_value-of_byte}
 use Rattle.bk_grammar.specs.Grammar.{Is, LineEnd, Nothing, Number, SomeBlanks, ◌then◌}
 use Rattle.bk_text.specs.CodeLine.{Groups, IsLine, Item, Line, Side, Skip}
-use Rattle.bk_text.specs.LineReading.{field_with_digit, most, next_line_place}
+use Rattle.bk_text.specs.LineReader.{field_with_digit, most, next_line_place}
 use Rattle.bk_text.specs.declared.reader.Bracket.TheVariants.{Round, Square}
 use Rattle.bk_text.specs.declared.reader.Field.{Field}
-use Rattle.bk_text.specs.declared.reader.Field.TheVariants.{Column, First, Height, Second, Side as SideOf, Third}
+use Rattle.bk_text.specs.declared.reader.Field.TheVariants.{First, Height, RowSide, Second, Side as SideOf, Third}
 use Rattle.bk_text.specs.declared.reader.ByteKind.TheVariants.{Blank, Close, Comma, Cross, Digit, Open, Semicolon, Zero}
-use Rattle.bk_text.specs.declared.reader.Place.TheVariants.{BeforeGroup, BeforeHeight, BeforeSide, BehindColumn, BehindFirst, BehindGroup, BehindSecond}
+use Rattle.bk_text.specs.declared.reader.Place.TheVariants.{BeforeGroup, BeforeHeight, BeforeSide, BehindFirst, BehindGroup, BehindRowSide, BehindSecond}
 use Rattle.bk_text.specs.declared.reader.Place.TheVariants.{BehindSide, BehindThird, Comment as InComment, Number as InNumber, Start}
 use Rattle.bk_text.specs.declared.reader.Table.{Table}
 use Rattle.bk_grammar.proofs.FirstByte.{blank_first, comment_first, gap_first, no_blank}
@@ -21,8 +21,8 @@ use Rattle.bk_text.specs.declared.reader.ByteKind.{ByteKind}
 use Rattle.bk_text.specs.declared.reader.Place.{Place}
 use Rattle.bk_text.proofs.ByteKinds.{HasLineKind, close_byte}
 use Rattle.bk_text.proofs.KeepingAll.{Lists, and_side, lists_behind_a_byte}
-use Rattle.bk_text.proofs.Rests.{CodeRest, Columns, ColumnsAfterBlanks, GroupsRest, MoreSides, Rest, RestAfter, SidesRest, item, onto, row}
-use Rattle.bk_text.proofs.FrontParts.{close_first, columns_blank, comma_first, first_blank, first_gap, group_comma, groups_blank, groups_open, line_blank}
+use Rattle.bk_text.proofs.Rests.{CodeRest, GroupsRest, MoreSides, Rest, RestAfter, RowSides, RowSidesAfterBlanks, SidesRest, item, onto, row}
+use Rattle.bk_text.proofs.FrontParts.{close_first, row_sides_blank, comma_first, first_blank, first_gap, group_comma, groups_blank, groups_open, line_blank}
 use Rattle.bk_text.proofs.FrontParts.{more_blank, line-of_first_number, sides_rest-behind_bracket, side_first, sides_rest_blank}
 
 -- the greatest number of a field ends with 9
@@ -31,7 +31,7 @@ most-ends_in_nine First = omega arith
 most-ends_in_nine (Second order) = omega arith
 most-ends_in_nine (Height order width) = omega arith
 most-ends_in_nine (Third order width) = omega arith
-most-ends_in_nine (Column r) = omega arith
+most-ends_in_nine (RowSide r) = omega arith
 most-ends_in_nine (SideOf h bracket) = omega arith
 
 -- a further digit of a number
@@ -70,13 +70,13 @@ first_side : (most' greatest b d n : ℕ) (ds : List ℕ) → greatest < 10 ^ mo
     → Number most' n (b ∷ ds)
 first_side most' greatest b d n ds bound large m longer' = number_read most' greatest b d n ds bound (omega (arith, m.1)) m.0 m.1 m.2 longer'
 
-columns_first : (r : Table) (d b : ℕ) (t : Lists) (l : Line) (bs : List ℕ) → HasLineKind (Digit d) b → Rest (InNumber (Column r) d) t l bs
-    → (m : ℕ) × (ns : List ℕ) × ColumnsAfterBlanks (m ∷ ns) (b ∷ bs) × (l ≡ row r (t.sides ++ m ∷ ns))
-columns_first r d b t l bs m (n, ds, x, e, longer', (ns, rest, is)) = (
+row_sides_first : (r : Table) (d b : ℕ) (t : Lists) (l : Line) (bs : List ℕ) → HasLineKind (Digit d) b → Rest (InNumber (RowSide r) d) t l bs
+    → (m : ℕ) × (ns : List ℕ) × RowSidesAfterBlanks (m ∷ ns) (b ∷ bs) × (l ≡ row r (t.sides ++ m ∷ ns))
+row_sides_first r d b t l bs m (n, ds, x, e, longer', (ns, rest, is)) = (
   n,
   ns,
-  no_blank (Side n then Columns ns) (b ∷ bs)
-      (b ∷ ds, x, ap (λ z. b ∷ z) e, first_side 15 (most (Column r)) b d n ds (omega arith) (omega arith) m longer', rest),
+  no_blank (Side n then RowSides ns) (b ∷ bs)
+      (b ∷ ds, x, ap (λ z. b ∷ z) e, first_side 15 (most (RowSide r)) b d n ds (omega arith) (omega arith) m longer', rest),
   is,
 )
 
@@ -87,13 +87,13 @@ behind_number First v Zero t l b bs m h = grown First v 0 b t l bs (omega arith)
 behind_number (Second o) v Zero t l b bs m h = grown (Second o) v 0 b t l bs (omega arith) m h
 behind_number (Height o w) v Zero t l b bs m h = grown (Height o w) v 0 b t l bs (omega arith) m h
 behind_number (Third o w) v Zero t l b bs m h = grown (Third o w) v 0 b t l bs (omega arith) m h
-behind_number (Column r) v Zero t l b bs m h = grown (Column r) v 0 b t l bs (omega arith) m h
+behind_number (RowSide r) v Zero t l b bs m h = grown (RowSide r) v 0 b t l bs (omega arith) m h
 behind_number (SideOf g c) v Zero t l b bs m h = grown (SideOf g c) v 0 b t l bs (omega arith) m h
 behind_number First v (Digit d) t l b bs m h = grown First v d b t l bs m.1 m.2 h
 behind_number (Second o) v (Digit d) t l b bs m h = grown (Second o) v d b t l bs m.1 m.2 h
 behind_number (Height o w) v (Digit d) t l b bs m h = grown (Height o w) v d b t l bs m.1 m.2 h
 behind_number (Third o w) v (Digit d) t l b bs m h = grown (Third o w) v d b t l bs m.1 m.2 h
-behind_number (Column r) v (Digit d) t l b bs m h = grown (Column r) v d b t l bs m.1 m.2 h
+behind_number (RowSide r) v (Digit d) t l b bs m h = grown (RowSide r) v d b t l bs m.1 m.2 h
 behind_number (SideOf g c) v (Digit d) t l b bs m h = grown (SideOf g c) v d b t l bs m.1 m.2 h
 behind_number First v Blank t l b bs m h = (v, [], b ∷ bs, refl, (tt, refl, (λ few. few)), inl (first_gap v t l b bs m h))
 behind_number First v Cross t l b bs m h = (v, [], b ∷ bs, refl, (tt, refl, (λ few. few)), inr (bs, ap (λ z. z ∷ bs) m, h))
@@ -106,7 +106,7 @@ behind_number First v (Open bracket) t l b bs m (ns, gs, rest, is) = (
   inl (inl (ns ∷ gs, no_blank (Groups (ns ∷ gs) then LineEnd) (b ∷ bs) (sides_rest-behind_bracket bracket ns gs b bs m rest), is)),
 )
 behind_number (Second o) v Blank t l b bs m (height, side, ns, rest, is) =
-    (v, [], b ∷ bs, refl, (tt, refl, (λ few. few)), inl (height, side, ns, gap_first (Number 18 height then Columns (side ∷ ns)) b bs m rest, is))
+    (v, [], b ∷ bs, refl, (tt, refl, (λ few. few)), inl (height, side, ns, gap_first (Number 18 height then RowSides (side ∷ ns)) b bs m rest, is))
 behind_number (Second o) v Cross t l b bs m h = (v, [], b ∷ bs, refl, (tt, refl, (λ few. few)), inr (bs, ap (λ z. z ∷ bs) m, h))
 behind_number (Height o w) v Blank t l b bs m (code, rest, is) =
     (v, [], b ∷ bs, refl, (tt, refl, (λ few. few)), (code, blank_first (Groups code then LineEnd) b bs m rest, is))
@@ -124,10 +124,10 @@ behind_number (Height o w) v (Open bracket) t l b bs m (ns, gs, rest, is) = (
   ),
 )
 behind_number (Third o w) v Blank t l b bs m (side, ns, rest, is) =
-    (v, [], b ∷ bs, refl, (tt, refl, (λ few. few)), (side, ns, columns_blank (side ∷ ns) b bs m rest, is))
-behind_number (Column r) v Blank t l b bs m (ns, rest, is) =
-    (v, [], b ∷ bs, refl, (tt, refl, (λ few. few)), (ns, columns_blank ns b bs m rest, is ∙ ap (row r) (append_assoc t.sides (v ∷ []) ns)))
-behind_number (Column r) v Semicolon t l b bs m h = (v, [], b ∷ bs, refl, (tt, refl, (λ few. few)), ([], comment_first b bs m, h))
+    (v, [], b ∷ bs, refl, (tt, refl, (λ few. few)), (side, ns, row_sides_blank (side ∷ ns) b bs m rest, is))
+behind_number (RowSide r) v Blank t l b bs m (ns, rest, is) =
+    (v, [], b ∷ bs, refl, (tt, refl, (λ few. few)), (ns, row_sides_blank ns b bs m rest, is ∙ ap (row r) (append_assoc t.sides (v ∷ []) ns)))
+behind_number (RowSide r) v Semicolon t l b bs m h = (v, [], b ∷ bs, refl, (tt, refl, (λ few. few)), ([], comment_first b bs m, h))
 behind_number (SideOf g c) v Blank t l b bs m (ns, gs, rest, is) = (
   v,
   [],
@@ -180,7 +180,7 @@ behind_byte (BehindFirst n) (Digit d) t l b bs m (w, ds, x, e, longer', inl (hei
       height,
       side,
       ns,
-      no_blank (Number 18 w then SomeBlanks then Number 18 height then Columns (side ∷ ns)) (b ∷ bs)
+      no_blank (Number 18 w then SomeBlanks then Number 18 height then RowSides (side ∷ ns)) (b ∷ bs)
           (b ∷ ds, x, ap (λ z. b ∷ z) e, first_side 18 (most First) b d w ds (omega arith) (omega arith) m longer', rest),
       is,
     ))
@@ -196,22 +196,22 @@ behind_byte (BehindFirst n) (Digit d) t l b bs m (w, ds, x, e, longer', inr (y, 
 behind_byte (BehindFirst n) (Open bracket) t l b bs m (ns, gs, rest, is) =
     inl (ns ∷ gs, no_blank (Groups (ns ∷ gs) then LineEnd) (b ∷ bs) (sides_rest-behind_bracket bracket ns gs b bs m rest), is)
 behind_byte (BehindSecond o w) Blank t l b bs m (height, side, ns, rest, is) =
-    (height, side, ns, blank_first (Number 18 height then Columns (side ∷ ns)) b bs m rest, is)
+    (height, side, ns, blank_first (Number 18 height then RowSides (side ∷ ns)) b bs m rest, is)
 behind_byte (BehindSecond o w) (Digit d) t l b bs m (n, ds, x, e, longer', (side, ns, rest, is)) = (
   n,
   side,
   ns,
-  no_blank (Number 18 n then Columns (side ∷ ns)) (b ∷ bs)
+  no_blank (Number 18 n then RowSides (side ∷ ns)) (b ∷ bs)
       (b ∷ ds, x, ap (λ z. b ∷ z) e, first_side 18 (most First) b d n ds (omega arith) (omega arith) m longer', rest),
   is,
 )
 behind_byte (BeforeHeight o w) (Digit d) t l b bs m (n, ds, x, e, longer', (code, rest, is)) =
     (n, code, (b ∷ ds, x, ap (λ z. b ∷ z) e, first_side 18 (most First) b d n ds (omega arith) (omega arith) m longer', rest), is)
 behind_byte (BehindThird r) Blank t l b bs m (side, ns, rest, is) = (side, ns, more_blank (side ∷ ns) b bs m rest, is)
-behind_byte (BehindThird r) (Digit d) t l b bs m h = columns_first r d b t l bs m h
-behind_byte (BehindColumn r) Blank t l b bs m (ns, rest, is) = (ns, more_blank ns b bs m rest, is)
-behind_byte (BehindColumn r) (Digit d) t l b bs m h = let c = columns_first r d b t l bs m h in (c.0 ∷ c.1, c.2, c.3)
-behind_byte (BehindColumn r) Semicolon t l b bs m h = ([], comment_first b bs m, h ∙ ap (row r) (sym (append-nil t.sides)))
+behind_byte (BehindThird r) (Digit d) t l b bs m h = row_sides_first r d b t l bs m h
+behind_byte (BehindRowSide r) Blank t l b bs m (ns, rest, is) = (ns, more_blank ns b bs m rest, is)
+behind_byte (BehindRowSide r) (Digit d) t l b bs m h = let c = row_sides_first r d b t l bs m h in (c.0 ∷ c.1, c.2, c.3)
+behind_byte (BehindRowSide r) Semicolon t l b bs m h = ([], comment_first b bs m, h ∙ ap (row r) (sym (append-nil t.sides)))
 behind_byte (BeforeGroup g) Blank t l b bs m (code, rest, is) = (code, blank_first (Groups code then LineEnd) b bs m rest, is)
 behind_byte (BeforeGroup g) (Open bracket) t l b bs m (ns, gs, rest, is) =
     (ns ∷ gs, no_blank (Groups (ns ∷ gs) then LineEnd) (b ∷ bs) (sides_rest-behind_bracket bracket ns gs b bs m rest), is)

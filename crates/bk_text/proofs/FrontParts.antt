@@ -10,22 +10,22 @@ use Rattle.bk_text.specs.declared.reader.Field.TheVariants.{First}
 use Rattle.bk_grammar.proofs.FirstByte.{blank_first, byte_first, gap_first, no_blank, regroup, under}
 use Rattle.bk_text.proofs.ByteKinds.{close_byte, open_byte}
 use Rattle.bk_text.proofs.KeepingAll.{Lists}
-use Rattle.bk_text.proofs.Rests.{CodeRest, Columns, ColumnsAfterBlanks, FirstRest, GroupsRest, MoreSides, MoreSidesRest, NumberRest, SidesRest, line_onto}
+use Rattle.bk_text.proofs.Rests.{CodeRest, FirstRest, GroupsRest, MoreSides, MoreSidesRest, NumberRest, RowSides, RowSidesAfterBlanks, SidesRest, line_onto}
 
 -- a blank in front of the groups that are left changes nothing
 pub groups_blank : (gs : List (List ℕ)) (b : ℕ) (bs : List ℕ) → IsBlank b → GroupsRest gs bs → GroupsRest gs (b ∷ bs)
 groups_blank [] b bs blank h = blank_first (Nothing or Comment) b bs blank h
 groups_blank (g ∷ gs) b bs blank h = blank_first ((Nothing or Is (codes ",") then Blanks) then Groups (g ∷ gs) then LineEnd) b bs blank h
 
--- a blank in front of the columns of a table row changes nothing
-pub columns_blank : (ns : List ℕ) (b : ℕ) (bs : List ℕ) → IsBlank b → ColumnsAfterBlanks ns bs → Columns ns (b ∷ bs)
-columns_blank [] b bs blank h = blank_first (Nothing or Comment) b bs blank h
-columns_blank (n ∷ ns) b bs blank h = gap_first (Side n then Columns ns) b bs blank h
+-- a blank in front of the sides of a table row changes nothing
+pub row_sides_blank : (ns : List ℕ) (b : ℕ) (bs : List ℕ) → IsBlank b → RowSidesAfterBlanks ns bs → RowSides ns (b ∷ bs)
+row_sides_blank [] b bs blank h = blank_first (Nothing or Comment) b bs blank h
+row_sides_blank (n ∷ ns) b bs blank h = gap_first (Side n then RowSides ns) b bs blank h
 
--- a blank behind a column of a table row changes nothing
-pub more_blank : (ns : List ℕ) (b : ℕ) (bs : List ℕ) → IsBlank b → ColumnsAfterBlanks ns bs → ColumnsAfterBlanks ns (b ∷ bs)
+-- a blank behind a side of a table row changes nothing
+pub more_blank : (ns : List ℕ) (b : ℕ) (bs : List ℕ) → IsBlank b → RowSidesAfterBlanks ns bs → RowSidesAfterBlanks ns (b ∷ bs)
 more_blank [] b bs blank h = blank_first (Nothing or Comment) b bs blank h
-more_blank (n ∷ ns) b bs blank h = blank_first (Side n then Columns ns) b bs blank h
+more_blank (n ∷ ns) b bs blank h = blank_first (Side n then RowSides ns) b bs blank h
 
 sides_blank : (ns : List ℕ) (b : ℕ) (bs : List ℕ) → IsBlank b → Sides ns bs → Sides ns (b ∷ bs)
 sides_blank [] b bs blank h = h
@@ -43,7 +43,7 @@ first_blank n t l b bs blank (inl (code, h, e)) = inl (code, blank_first (Groups
 first_blank n t l b bs blank (inr (inl (w, k, code, h, e))) =
     inr (inl (w, k, code, blank_first (Number 18 w then Is (codes "x") then Number 18 k then CodeRest code) b bs blank h, e))
 first_blank n t l b bs blank (inr (inr (w, k, m, ns, h, e))) =
-    inr (inr (w, k, m, ns, blank_first (Number 18 w then SomeBlanks then Number 18 k then Columns (m ∷ ns)) b bs blank h, e))
+    inr (inr (w, k, m, ns, blank_first (Number 18 w then SomeBlanks then Number 18 k then RowSides (m ∷ ns)) b bs blank h, e))
 
 -- a blank behind a first number is the first of the blanks there
 pub first_gap : (n : ℕ) (t : Lists) (l : Line) (b : ℕ) (bs : List ℕ) → IsBlank b → FirstRest Blanks n t l bs → FirstRest SomeBlanks n t l (b ∷ bs)
@@ -51,7 +51,7 @@ first_gap n t l b bs blank (inl (code, h, e)) = inl (code, blank_first (Groups c
 first_gap n t l b bs blank (inr (inl (w, k, code, h, e))) =
     inr (inl (w, k, code, gap_first (Number 18 w then Is (codes "x") then Number 18 k then CodeRest code) b bs blank h, e))
 first_gap n t l b bs blank (inr (inr (w, k, m, ns, h, e))) =
-    inr (inr (w, k, m, ns, gap_first (Number 18 w then SomeBlanks then Number 18 k then Columns (m ∷ ns)) b bs blank h, e))
+    inr (inr (w, k, m, ns, gap_first (Number 18 w then SomeBlanks then Number 18 k then RowSides (m ∷ ns)) b bs blank h, e))
 
 -- a blank in front of a line makes a line that means the same
 pub line_blank : (l : Line) (b : ℕ) (bs : List ℕ) → IsBlank b → IsLine l bs → IsLine l (b ∷ bs)
@@ -124,13 +124,13 @@ groups_open bracket ns gs b bs is rest =
     ([], b ∷ bs, refl, inl refl, sides_rest-behind_bracket bracket ns gs b bs is rest)
 
 -- the sides of a table row
-columns_table : (n : ℕ) (ns bs : List ℕ) → Columns (n ∷ ns) bs → (TableSides (n ∷ ns) then LineEnd) bs
-columns_table n [] bs h = regroup SomeBlanks (Side n) LineEnd bs h
-columns_table n (m ∷ ns) bs h =
+row_sides_table : (n : ℕ) (ns bs : List ℕ) → RowSides (n ∷ ns) bs → (TableSides (n ∷ ns) then LineEnd) bs
+row_sides_table n [] bs h = regroup SomeBlanks (Side n) LineEnd bs h
+row_sides_table n (m ∷ ns) bs h =
     regroup SomeBlanks (Side n then TableSides (m ∷ ns)) LineEnd bs
-    (under SomeBlanks (Side n then Columns (m ∷ ns)) ((Side n then TableSides (m ∷ ns)) then LineEnd) bs
+    (under SomeBlanks (Side n then RowSides (m ∷ ns)) ((Side n then TableSides (m ∷ ns)) then LineEnd) bs
     (λ x k. regroup (Side n) (TableSides (m ∷ ns)) LineEnd x
-    (under (Side n) (Columns (m ∷ ns)) (TableSides (m ∷ ns) then LineEnd) x (λ y. columns_table m ns y) k)) h)
+    (under (Side n) (RowSides (m ∷ ns)) (TableSides (m ∷ ns) then LineEnd) x (λ y. row_sides_table m ns y) k)) h)
 
 -- a size and what follows
 sized : (w h : ℕ) (code : List (List ℕ)) (bs : List ℕ) → (Number 18 w then Is (codes "x") then Number 18 h then CodeRest code) bs
@@ -170,11 +170,11 @@ line-of_first_number n f x t l num (inl (inr (inr (w, h, m, ns, rest, is)))) = (
     x,
     refl,
     num,
-    under SomeBlanks (Number 18 w then SomeBlanks then Number 18 h then Columns (m ∷ ns))
+    under SomeBlanks (Number 18 w then SomeBlanks then Number 18 h then RowSides (m ∷ ns))
         (Number 18 w then SomeBlanks then Number 18 h then TableSides (m ∷ ns) then LineEnd) x
-        (λ y. under (Number 18 w) (SomeBlanks then Number 18 h then Columns (m ∷ ns)) (SomeBlanks then Number 18 h then TableSides (m ∷ ns) then LineEnd) y
-        (λ z. under SomeBlanks (Number 18 h then Columns (m ∷ ns)) (Number 18 h then TableSides (m ∷ ns) then LineEnd) z
-        (λ v. under (Number 18 h) (Columns (m ∷ ns)) (TableSides (m ∷ ns) then LineEnd) v (λ u. columns_table m ns u)))) rest,
+        (λ y. under (Number 18 w) (SomeBlanks then Number 18 h then RowSides (m ∷ ns)) (SomeBlanks then Number 18 h then TableSides (m ∷ ns) then LineEnd) y
+        (λ z. under SomeBlanks (Number 18 h then RowSides (m ∷ ns)) (Number 18 h then TableSides (m ∷ ns) then LineEnd) z
+        (λ v. under (Number 18 h) (RowSides (m ∷ ns)) (TableSides (m ∷ ns) then LineEnd) v (λ u. row_sides_table m ns u)))) rest,
   ),
   is,
 )

@@ -5,7 +5,7 @@ use Rattle.std.proofs.Math.Seq.{take-add}
 use Rattle.std.proofs.lemmas.List.{length-drop, take_more}
 use Rattle.bk_text.specs.GatheredSides.{Gathered, gathered_after}
 use Rattle.bk_text.specs.Onward.{IsFrontSide, OpensGroup, SpellOn, at_number, behind_sides, onward, with_last_side}
-use Rattle.bk_text.specs.LineReading.{line_kind_of}
+use Rattle.bk_text.specs.LineReader.{line_kind_of}
 use Rattle.bk_text.specs.declared.reader.Bracket.{Bracket}
 use Rattle.bk_text.specs.declared.reader.Bracket.TheVariants.{Round, Square}
 use Rattle.bk_text.specs.declared.reader.Field.TheVariants.{Side}

@@ -4,7 +4,7 @@ use Rattle.std.proofs.Common.{ap, append_assoc, arith, inl, inr, subst, sym, ◌
 use Rattle.bk_grammar.proofs.Reading.{Heads, Reads, byte_is, reads_parts}
 use Rattle.bk_grammar.specs.Grammar.{Blanks, Is, LineEnd, Nothing, ◌or◌, ◌then◌}
 use Rattle.bk_text.specs.CodeLine.{Group, Groups, Side, Sides}
-use Rattle.bk_text.specs.LineReading.{line_kind_of, next_line_place}
+use Rattle.bk_text.specs.LineReader.{line_kind_of, next_line_place}
 use Rattle.bk_text.specs.declared.reader.Bracket.{Bracket}
 use Rattle.bk_text.specs.declared.reader.Bracket.TheVariants.{Round, Square}
 use Rattle.bk_text.specs.declared.reader.Ending.TheVariants.{Coded}

@@ -1,7 +1,7 @@
 -- The reader of a line with all its sides, however many there are; the reader in the code keeps 200 of them.
 use Rattle.std.specs.Prelude.{Bool, List, None, Option, Some, [], false, option_and_then, true, ℕ, ◌++◌, ◌∷◌}
 use Rattle.bk_text.specs.CodeLine.{Flat, Item, Line, Skip}
-use Rattle.bk_text.specs.LineReading.{closes_group, ended_side, last_side, line_ending_at, line_kind_of, next_line_place}
+use Rattle.bk_text.specs.LineReader.{closes_group, ended_side, last_side, line_ending_at, line_kind_of, next_line_place}
 use Rattle.bk_text.specs.declared.reader.Ending.{Ending}
 use Rattle.bk_text.specs.declared.reader.Ending.TheVariants.{Coded, Empty, Row}
 use Rattle.bk_text.specs.declared.reader.ByteKind.{ByteKind}

@@ -7,7 +7,7 @@ use Rattle.bk_text.specs.CodeText.{code_text, size_text}
 use Rattle.bk_text.specs.ReadLine.{IsInRange, IsTextFaultOf}
 use Rattle.bk_text.specs.GatheredSides.{nothing_gathered, with_gathered_side, with_group}
 use Rattle.bk_text.specs.Onward.{onward}
-use Rattle.bk_text.specs.LineReading.{ended_side, line_kind_of, next_line_place, no_header}
+use Rattle.bk_text.specs.LineReader.{ended_side, line_kind_of, next_line_place, no_header}
 use Rattle.bk_text.specs.declared.TextFault.TheVariants.{Many, Text}
 use Rattle.bk_text.specs.declared.reader.Bracket.TheVariants.{Square}
 use Rattle.bk_text.specs.declared.reader.Field.TheVariants.{Height, Side, Third}

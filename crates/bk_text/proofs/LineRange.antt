@@ -18,11 +18,11 @@ side_range n bs h = let range = number_range 15 n bs h in (range.0, omega (arith
 header_range : (n : ℕ) (bs : List ℕ) → Number 18 n bs → IsHeaderNumber n
 header_range n bs h = let range = number_range 18 n bs h in (range.0, omega (arith, range.1))
 
-column_range : (ns bs : List ℕ) → TableSides ns bs → (0 < length ns) × AllByRecursion IsSide ns
-column_range [] bs h = absurd h
-column_range (n ∷ []) bs (a, x, e, gap, side) = (omega arith, (side_range n x side, tt))
-column_range (n ∷ m ∷ ns) bs (a, x, e, gap, (f, y, e', side, rest)) = let others =
-    column_range (m ∷ ns) y rest in (omega arith, (side_range n f side, others.1))
+row_side_range : (ns bs : List ℕ) → TableSides ns bs → (0 < length ns) × AllByRecursion IsSide ns
+row_side_range [] bs h = absurd h
+row_side_range (n ∷ []) bs (a, x, e, gap, side) = (omega arith, (side_range n x side, tt))
+row_side_range (n ∷ m ∷ ns) bs (a, x, e, gap, (f, y, e', side, rest)) = let others =
+    row_side_range (m ∷ ns) y rest in (omega arith, (side_range n f side, others.1))
 
 -- a line of at most 200 sides is one of which all can be kept
 pub line_range : (l : Line) (bs : List ℕ) → IsLine l bs → length (sides_of_line l) ≤ 200 → IsInRange l
@@ -31,8 +31,8 @@ line_range (Item order size []) bs (a, x, e, blanks, (f, y, e', header, (k, z, e
 line_range (Item order size (g ∷ gs)) bs h few = omega arith
 line_range (Flat n w h ns) bs
     (a, x, e, blanks, (f, x1, e1, num, (g, x2, e2, gap, (f', x3, e3, num', (g', x4, e4, gap', (f'', x5, e5, num'', (s, x6, e6, sides, end))))))) few =
-    let column = column_range ns s sides in
-    (header_range n f num, header_range w f' num', header_range h f'' num'', column.0, few, column.1)
+    let row_side = row_side_range ns s sides in
+    (header_range n f num, header_range w f' num', header_range h f'' num'', row_side.0, few, row_side.1)
 
 -- from what was gathered to what is answered
 pub read_is : (r : Result Ending TextFault) (ending : Ending) (g : Gathered) (bs : List ℕ) → IfOk r (λ e. (e ≡ ending) × (g.many ≡ false))

@@ -4,13 +4,13 @@ use Rattle.std.proofs.Common.{ap, append_assoc, arith, sym, ◌∙◌}
 use Rattle.bk_grammar.proofs.Reading.{Reads, byte_is, reads_parts}
 use Rattle.bk_grammar.specs.Grammar.{Blanks, Is, LineEnd, Number, SomeBlanks, ◌then◌}
 use Rattle.bk_text.specs.CodeLine.{Flat, IsLine, Item, Line, Side, Size, Skip, TableSides}
-use Rattle.bk_text.specs.LineReading.{most, next_line_place}
+use Rattle.bk_text.specs.LineReader.{most, next_line_place}
 use Rattle.bk_text.specs.declared.reader.Ending.TheVariants.{Empty, Row}
 use Rattle.bk_text.specs.declared.reader.Field.{Field}
-use Rattle.bk_text.specs.declared.reader.Field.TheVariants.{Column, First, Height, Second, Third}
+use Rattle.bk_text.specs.declared.reader.Field.TheVariants.{First, Height, RowSide, Second, Third}
 use Rattle.bk_text.specs.declared.reader.ByteKind.TheVariants.{Cross}
 use Rattle.bk_text.specs.declared.reader.Place.{Place}
-use Rattle.bk_text.specs.declared.reader.Place.TheVariants.{BeforeGroup, BeforeHeight, BehindColumn, BehindFirst, BehindSecond, BehindThird}
+use Rattle.bk_text.specs.declared.reader.Place.TheVariants.{BeforeGroup, BeforeHeight, BehindFirst, BehindRowSide, BehindSecond, BehindThird}
 use Rattle.bk_text.specs.declared.reader.Place.TheVariants.{Number as InNumber, Start}
 use Rattle.bk_text.specs.declared.reader.Table.{Table}
 use Rattle.bk_text.proofs.KeepingAll.{Lists, and_side, line_read_from, lists_behind_a_byte, no_lists}
@@ -32,25 +32,26 @@ size_reads p f order w h text x bound begins next lists r =
     ∙ number_reads 18 h (BeforeHeight order w) (Height order w) no_lists b.0 x (omega arith) (λ d. (refl, refl)) b.2
 
 -- a table row
-column_end : (r : Table) (n : ℕ) (t : Lists) (text : List ℕ) → LineEnd text → line_read_from text (InNumber (Column r) n) t ≡ Some (row r (t.sides ++ n ∷ []))
-column_end r n t text (a, x, e, blanks, rest) =
-    let behind = ends_here (BehindColumn r) (Row r) (and_side (Some n) t) (and_side (Some n) t) x (record { here = refl; next = refl; lists = refl }) rest in
-    let right_behind = ends_here (InNumber (Column r) n) (Row r) t (and_side (Some n) t) x (record { here = refl; next = refl; lists = refl }) rest in
-    behind_reads (InNumber (Column r) n) (BehindColumn r) t (and_side (Some n) t) text x (refl, refl) (refl, refl) (right_behind ∙ sym behind)
+row_side_end : (r : Table) (n : ℕ) (t : Lists) (text : List ℕ) → LineEnd text
+    → line_read_from text (InNumber (RowSide r) n) t ≡ Some (row r (t.sides ++ n ∷ []))
+row_side_end r n t text (a, x, e, blanks, rest) =
+    let behind = ends_here (BehindRowSide r) (Row r) (and_side (Some n) t) (and_side (Some n) t) x (record { here = refl; next = refl; lists = refl }) rest in
+    let right_behind = ends_here (InNumber (RowSide r) n) (Row r) t (and_side (Some n) t) x (record { here = refl; next = refl; lists = refl }) rest in
+    behind_reads (InNumber (RowSide r) n) (BehindRowSide r) t (and_side (Some n) t) text x (refl, refl) (refl, refl) (right_behind ∙ sym behind)
     (a, blanks, e) ∙ behind
 
-columns_read : (p q : Place) (r : Table) (ns : List ℕ) (t u : Lists) (text y : List ℕ) → Ends_at p q t u → Skips_blanks q u → Begins_number q (Column r) u
+row_sides_read : (p q : Place) (r : Table) (ns : List ℕ) (t u : Lists) (text y : List ℕ) → Ends_at p q t u → Skips_blanks q u → Begins_number q (RowSide r) u
     → Reads (TableSides ns) text y → LineEnd y → line_read_from text p t ≡ Some (row r (u.sides ++ ns))
-columns_read p q r [] t u text y ends skips begins h end = absurd h.1
-columns_read p q r (n ∷ []) t u text y ends skips begins h end =
+row_sides_read p q r [] t u text y ends skips begins h end = absurd h.1
+row_sides_read p q r (n ∷ []) t u text y ends skips begins h end =
     let a = reads_parts SomeBlanks (Side n) text y h in
-    gap_reads p q t u text a.0 ends skips a.1 ∙ number_reads 15 n q (Column r) u a.0 y (omega arith) begins a.2 ∙ column_end r n u y end
-columns_read p q r (n ∷ m ∷ ns) t u text y ends skips begins h end =
+    gap_reads p q t u text a.0 ends skips a.1 ∙ number_reads 15 n q (RowSide r) u a.0 y (omega arith) begins a.2 ∙ row_side_end r n u y end
+row_sides_read p q r (n ∷ m ∷ ns) t u text y ends skips begins h end =
     let a = reads_parts SomeBlanks (Side n then TableSides (m ∷ ns)) text y h in
     let b = reads_parts (Side n) (TableSides (m ∷ ns)) a.0 y a.2 in
     gap_reads p q t u text a.0 ends skips a.1
-    ∙ number_reads 15 n q (Column r) u a.0 b.0 (omega arith) begins b.1
-    ∙ columns_read (InNumber (Column r) n) (BehindColumn r) r (m ∷ ns) u (and_side (Some n) u) b.0 y (refl, refl) (refl, refl) (λ d. (refl, refl)) b.2 end
+    ∙ number_reads 15 n q (RowSide r) u a.0 b.0 (omega arith) begins b.1
+    ∙ row_sides_read (InNumber (RowSide r) n) (BehindRowSide r) r (m ∷ ns) u (and_side (Some n) u) b.0 y (refl, refl) (refl, refl) (λ d. (refl, refl)) b.2 end
     ∙ ap (λ z. Some (row r z)) (append_assoc u.sides (n ∷ []) (m ∷ ns))
 
 -- each line is read as what it stands for
@@ -96,7 +97,7 @@ line_is_read (Flat n w h ns) bs
     ∙ number_reads 18 w (BehindFirst n) (Second n) no_lists x2 x3 (omega arith) (λ d. (refl, refl)) (f', num', e3)
     ∙ gap_reads (InNumber (Second n) w) (BehindSecond n w) no_lists no_lists x3 x4 (refl, refl) (refl, refl) (g', gap', e4)
     ∙ number_reads 18 h (BehindSecond n w) (Third n w) no_lists x4 x5 (omega arith) (λ d. (refl, refl)) (f'', num'', e5)
-    ∙ columns_read (InNumber (Third n w) h) (BehindThird (record { order = n; width = w; height = h })) (record { order = n; width = w; height = h })
+    ∙ row_sides_read (InNumber (Third n w) h) (BehindThird (record { order = n; width = w; height = h })) (record { order = n; width = w; height = h })
     ns no_lists no_lists x5 x6
     (refl, refl) (refl, refl) (λ d. (refl, refl)) (s, sides, e6) end
 

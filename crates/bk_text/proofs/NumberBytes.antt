@@ -7,10 +7,10 @@ use Rattle.std.proofs.lemmas.Bool.Decides.{nat_tests}
 use Rattle.std.proofs.lemmas.List.{take_more}
 use Rattle.bk_text.specs.GatheredSides.{Gathered, gathered_after}
 use Rattle.bk_text.specs.Onward.{BeginsFieldNumber, SpellOn, onward}
-use Rattle.bk_text.specs.LineReading.{behind_number, field_with_digit, line_kind_of, most, next_line_place}
+use Rattle.bk_text.specs.LineReader.{behind_number, field_with_digit, line_kind_of, most, next_line_place}
 use Rattle.bk_text.specs.declared.reader.Bracket.{Bracket}
 use Rattle.bk_text.specs.declared.reader.Field.{Field}
-use Rattle.bk_text.specs.declared.reader.Field.TheVariants.{Column, First, Height, Second, Side, Third}
+use Rattle.bk_text.specs.declared.reader.Field.TheVariants.{First, Height, RowSide, Second, Side, Third}
 use Rattle.bk_text.specs.declared.reader.Header.{Header}
 use Rattle.bk_text.specs.declared.reader.ByteKind.{ByteKind}
 use Rattle.bk_text.specs.declared.reader.ByteKind.TheVariants.{Blank, Cross, Digit, Open, Zero}
@@ -47,7 +47,7 @@ keeps_zero First v g = refl
 keeps_zero (Second o) v g = refl
 keeps_zero (Height o w) v g = refl
 keeps_zero (Third o w) v g = refl
-keeps_zero (Column r) v g = refl
+keeps_zero (RowSide r) v g = refl
 keeps_zero (Side h bracket) v g = refl
 
 keeps_digit : (field : Field) (v d : ℕ) (g : Gathered) → gathered_after (Number field v) (Digit d) g ≡ g
@@ -55,7 +55,7 @@ keeps_digit First v d g = refl
 keeps_digit (Second o) v d g = refl
 keeps_digit (Height o w) v d g = refl
 keeps_digit (Third o w) v d g = refl
-keeps_digit (Column r) v d g = refl
+keeps_digit (RowSide r) v d g = refl
 keeps_digit (Side h bracket) v d g = refl
 
 -- a number goes on with a digit where it stays small enough
@@ -110,7 +110,7 @@ behind_header (Second o) n Cross q m e g = ap (option_and_then (λ p. Some (p, g
 behind_header (Height o w) n Blank q m e g = ap (option_and_then (λ p. Some (p, g))) e
 behind_header (Height o w) n (Open bracket) q m e g = ap (option_and_then (λ p. Some (p, g))) e
 behind_header (Third o w) n Blank q m e g = ap (option_and_then (λ p. Some (p, g))) e
-behind_header (Column r) n k q m e g = absurd (omega (arith, m))
+behind_header (RowSide r) n k q m e g = absurd (omega (arith, m))
 behind_header (Side h bracket) n k q m e g = absurd (omega (arith, m))
 behind_header field n k q m e g = absurd (cc)
 

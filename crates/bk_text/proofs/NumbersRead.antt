@@ -13,10 +13,10 @@ use Rattle.bk_laws.proofs.Digits.{digits_value_after-le}
 use Rattle.bk_laws.proofs.Multiples.{lt_pow_ten-le_greatest}
 use Rattle.bk_grammar.proofs.Reading.{Reads}
 use Rattle.bk_grammar.specs.Grammar.{Blanks, Comment, IsBlank, LineEnd, Nothing, Number, SomeBlanks, ◌or◌}
-use Rattle.bk_text.specs.LineReading.{field_with_digit, line_kind_of, most, next_line_place}
+use Rattle.bk_text.specs.LineReader.{field_with_digit, line_kind_of, most, next_line_place}
 use Rattle.bk_text.specs.declared.reader.Ending.{Ending}
 use Rattle.bk_text.specs.declared.reader.Field.{Field}
-use Rattle.bk_text.specs.declared.reader.Field.TheVariants.{Column, First, Height, Second, Side as SideOf, Third}
+use Rattle.bk_text.specs.declared.reader.Field.TheVariants.{First, Height, RowSide, Second, Side as SideOf, Third}
 use Rattle.bk_text.specs.declared.reader.ByteKind.{ByteKind}
 use Rattle.bk_text.specs.declared.reader.ByteKind.TheVariants.{Blank, Digit, Semicolon, Zero}
 use Rattle.bk_text.specs.declared.reader.Place.{Place}
@@ -53,7 +53,7 @@ zero_keeps First v t = refl
 zero_keeps (Second o) v t = refl
 zero_keeps (Height o w) v t = refl
 zero_keeps (Third o w) v t = refl
-zero_keeps (Column r) v t = refl
+zero_keeps (RowSide r) v t = refl
 zero_keeps (SideOf g c) v t = refl
 
 digit_keeps : (f : Field) (v d : ℕ) (t : Lists) → lists_behind_a_byte (InNumber f v) (Digit d) t ≡ t
@@ -61,7 +61,7 @@ digit_keeps First v d t = refl
 digit_keeps (Second o) v d t = refl
 digit_keeps (Height o w) v d t = refl
 digit_keeps (Third o w) v d t = refl
-digit_keeps (Column r) v d t = refl
+digit_keeps (RowSide r) v d t = refl
 digit_keeps (SideOf g c) v d t = refl
 
 longer_fits : (f : Field) (v d : ℕ) → v * 10 + d ≤ most f → field_with_digit f v d ≡ Some (InNumber f (v * 10 + d))

@@ -9,7 +9,7 @@ use Rattle.bk_text.specs.CodeLine.{Flat, IsLine, IsNoLine, Item, Line}
 use Rattle.bk_text.specs.GatheredSides.{Gathered, IsGathered, gathered_after, kept_side_count, line_gathered, with_closed, with_ended}
 use Rattle.bk_text.specs.GatheredSides.{with_gathered_side, with_group}
 use Rattle.bk_text.specs.ReadLine.{sides_of_line}
-use Rattle.bk_text.specs.LineReading.{closes_group, ended_side, last_side, line_ending_at, line_kind_of, next_line_place}
+use Rattle.bk_text.specs.LineReader.{closes_group, ended_side, last_side, line_ending_at, line_kind_of, next_line_place}
 use Rattle.bk_text.specs.declared.reader.Ending.{Ending}
 use Rattle.bk_text.specs.declared.reader.Ending.TheVariants.{Coded, Empty, Row}
 use Rattle.bk_text.specs.declared.reader.Field.TheVariants.{Side as SideOf}

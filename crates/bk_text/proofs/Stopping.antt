@@ -5,11 +5,11 @@ use Rattle.std.proofs.lemmas.List.{append-nil}
 use Rattle.bk_grammar.proofs.Leaving.{leaves_at_end, leaves_before}
 use Rattle.bk_grammar.specs.Longest.{Begins}
 use Rattle.bk_text.specs.CodeLine.{IsNoLine, Line, SomeLine}
-use Rattle.bk_text.specs.LineReading.{last_side, line_ending_at, line_kind_of, next_line_place}
+use Rattle.bk_text.specs.LineReader.{last_side, line_ending_at, line_kind_of, next_line_place}
 use Rattle.bk_text.specs.declared.reader.Bracket.TheVariants.{Round, Square}
-use Rattle.bk_text.specs.declared.reader.Field.TheVariants.{Column, First, Height, Second, Side as SideOf, Third}
+use Rattle.bk_text.specs.declared.reader.Field.TheVariants.{First, Height, RowSide, Second, Side as SideOf, Third}
 use Rattle.bk_text.specs.declared.reader.Place.{Place}
-use Rattle.bk_text.specs.declared.reader.Place.TheVariants.{BeforeGroup, BeforeHeight, BeforeSide, BehindColumn, BehindFirst, BehindGroup}
+use Rattle.bk_text.specs.declared.reader.Place.TheVariants.{BeforeGroup, BeforeHeight, BeforeSide, BehindFirst, BehindGroup, BehindRowSide}
 use Rattle.bk_text.specs.declared.reader.Place.TheVariants.{BehindSecond, BehindSide, BehindThird, Comment as InComment, Number as InNumber, Start}
 use Rattle.bk_text.proofs.KeepingAll.{Lists, and_side, line_read_from, line_where_one_may_end, lists_behind_a_byte, no_lists}
 use Rattle.bk_text.proofs.LinesRead.{line_is_read}
@@ -31,14 +31,14 @@ completion (InNumber First v) t = (codes "[1]", tt)
 completion (InNumber (Second order) v) t = (codes "x1[1]", tt)
 completion (InNumber (Height order width) v) t = (codes "[1]", tt)
 completion (InNumber (Third order width) v) t = (codes " 1", tt)
-completion (InNumber (Column r) v) t = ([], tt)
+completion (InNumber (RowSide r) v) t = ([], tt)
 completion (InNumber (SideOf g Square) v) t = (codes "]", tt)
 completion (InNumber (SideOf g Round) v) t = (codes ")", tt)
 completion (BehindFirst n) t = (codes "[1]", tt)
 completion (BehindSecond order width) t = (codes "1 1", tt)
 completion (BeforeHeight order width) t = (codes "1[1]", tt)
 completion (BehindThird r) t = (codes "1", tt)
-completion (BehindColumn r) t = ([], tt)
+completion (BehindRowSide r) t = ([], tt)
 completion (BeforeGroup g) t = (codes "[1]", tt)
 completion (BeforeSide g Square) t = (codes "1]", tt)
 completion (BeforeSide g Round) t = (codes "1)", tt)

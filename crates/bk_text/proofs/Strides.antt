@@ -8,7 +8,7 @@ use Rattle.std.proofs.lemmas.List.{append-nil, length-drop, take_all}
 use Rattle.bk_tiling.specs.KeptTiling.{IsSide}
 use Rattle.bk_text.specs.GatheredSides.{Gathered, IsGathered, gathered_after, kept_side_count, with_closed, with_ended, with_gathered_side, with_group}
 use Rattle.bk_text.specs.Onward.{SpellOn, at_number, onward}
-use Rattle.bk_text.specs.LineReading.{closes_group, ended_side, line_kind_of, next_line_place}
+use Rattle.bk_text.specs.LineReader.{closes_group, ended_side, line_kind_of, next_line_place}
 use Rattle.bk_text.specs.declared.reader.ByteKind.{ByteKind}
 use Rattle.bk_text.specs.declared.reader.Place.{Place}
 use Rattle.bk_text.proofs.Progress.{Progress, flat-of_closed_group, progress_with_one_byte_more, side_fits}

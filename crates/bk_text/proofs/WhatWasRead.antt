@@ -3,9 +3,9 @@ use Rattle.std.specs.Prelude.{List, None, Option, Some, [], option_and_then, ref
 use Rattle.std.proofs.Common.{ap, inl, subst, sym, ◌∙◌}
 use Rattle.std.proofs.lemmas.List.{append-nil}
 use Rattle.bk_text.specs.CodeLine.{Flat, IsLine, Item, Line, Skip}
-use Rattle.bk_text.specs.LineReading.{last_side, line_ending_at, line_kind_of, next_line_place}
-use Rattle.bk_text.specs.declared.reader.Field.TheVariants.{Column, First, Height, Second, Side as SideOf, Third}
-use Rattle.bk_text.specs.declared.reader.Place.TheVariants.{BehindColumn, BehindGroup, Comment as InComment, Number as InNumber, Start}
+use Rattle.bk_text.specs.LineReader.{last_side, line_ending_at, line_kind_of, next_line_place}
+use Rattle.bk_text.specs.declared.reader.Field.TheVariants.{First, Height, RowSide, Second, Side as SideOf, Third}
+use Rattle.bk_text.specs.declared.reader.Place.TheVariants.{BehindGroup, BehindRowSide, Comment as InComment, Number as InNumber, Start}
 use Rattle.bk_text.specs.declared.reader.Place.{Place}
 use Rattle.bk_text.proofs.ByteKinds.{line_kind_of-means}
 use Rattle.bk_text.proofs.KeepingAll.{Lists, and_side, line_by_its_ending, line_read_from, line_where_one_may_end, lists_behind_a_byte, no_lists}
@@ -15,9 +15,9 @@ use Rattle.bk_text.proofs.FrontBytes.{behind_byte}
 -- where a line may end, nothing more completes it
 at_end : (p : Place) (t : Lists) (l : Line) → line_where_one_may_end (line_ending_at p) (and_side (last_side p) t) ≡ Some l → Rest p t l []
 at_end Start t l e = let is : Skip ≡ l = cc in (Skip, ([], [], refl, tt, inl refl), sym is)
-at_end (InNumber (Column r) v) t l e = let is : row r (t.sides ++ v ∷ []) ≡ l =
+at_end (InNumber (RowSide r) v) t l e = let is : row r (t.sides ++ v ∷ []) ≡ l =
     cc in (v, [], [], refl, (tt, refl, (λ few. few)), ([], ([], [], refl, tt, inl refl), sym is))
-at_end (BehindColumn r) t l e = let is : row r t.sides ≡ l = cc in ([], ([], [], refl, tt, inl refl), sym is ∙ ap (row r) (sym (append-nil t.sides)))
+at_end (BehindRowSide r) t l e = let is : row r t.sides ≡ l = cc in ([], ([], [], refl, tt, inl refl), sym is ∙ ap (row r) (sym (append-nil t.sides)))
 at_end (BehindGroup g) t l e = let is : item g t.groups ≡ l = cc in ([], ([], [], refl, tt, inl refl), sym is)
 at_end (InComment ending) t l e = let is : line_by_its_ending ending t ≡ l = cc in sym is
 at_end (InNumber First v) t l e = absurd (cc)

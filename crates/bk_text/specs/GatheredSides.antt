@@ -8,7 +8,7 @@ use Rattle.bk_tiling.specs.KeptTiling.{IsSide}
 use Rattle.bk_text.specs.CodeLine.{Flat, Item, Line, Skip}
 use Rattle.bk_text.specs.declared.reader.Ending.{Ending}
 use Rattle.bk_text.specs.declared.reader.Ending.TheVariants.{Coded, Empty, Row}
-use Rattle.bk_text.specs.LineReading.{closes_group, ended_side}
+use Rattle.bk_text.specs.LineReader.{closes_group, ended_side}
 use Rattle.bk_text.specs.declared.reader.ByteKind.{ByteKind}
 use Rattle.bk_text.specs.declared.reader.Place.{Place}
 use Rattle.bk_tiling.specs.declared.TheConstants.{MOST_SQUARES}
@@ -29,6 +29,7 @@ pub record IsGathered (g : Gathered) : Type 0 where
   pub few : kept_side_count g ≤ MOST_SQUARES
   pub full : g.many ≡ true → kept_side_count g ≡ MOST_SQUARES
 
+-- no group and no side
 abbrev pub nothing_gathered : Gathered
 nothing_gathered = record { groups = []; sides = []; many = false }
 
@@ -43,10 +44,12 @@ with_gathered_side n g =
 abbrev pub with_group : Gathered → Gathered
 with_group g = if g.many then g else record { groups = g.groups ++ g.sides ∷ []; sides = []; many = false }
 
+-- with the side that ended, if there is one
 abbrev pub with_ended : Option ℕ → Gathered → Gathered
 with_ended None g = g
 with_ended (Some n) g = with_gathered_side n g
 
+-- with the open group closed, if it was closed
 abbrev pub with_closed : Bool → Gathered → Gathered
 with_closed false g = g
 with_closed true g = with_group g

@@ -5,5 +5,5 @@ pub mod GatheredSides
 pub mod ReadLine
 pub mod TextLaws
 -- How its code keeps it.
-pub mod LineReading
+pub mod LineReader
 pub mod Onward

@@ -4,7 +4,7 @@ use Rattle.std.specs.Prelude.{Bool, List, Option, Some, [], false, length, optio
 use Rattle.std.specs.Prelude.{◌<◌, ◌∷◌, ◌≡◌, ◌≤◌}
 use Rattle.bk_tiling.specs.KeptTiling.{IsSide}
 use Rattle.bk_text.specs.GatheredSides.{Gathered, gathered_after, with_gathered_side, with_group}
-use Rattle.bk_text.specs.LineReading.{line_kind_of, most, next_line_place}
+use Rattle.bk_text.specs.LineReader.{line_kind_of, most, next_line_place}
 use Rattle.bk_text.specs.declared.reader.Bracket.{Bracket}
 use Rattle.bk_text.specs.declared.reader.Field.{Field}
 use Rattle.bk_text.specs.declared.reader.Header.{Header}
@@ -61,6 +61,8 @@ pub record IsFrontSide (bracket : Bracket) (bytes : List ℕ) (side len : ℕ) (
       → onward (take len bytes) (BeforeSide header bracket) g
       ≡ Some (behind_sides header bracket closed, with_last_side side closed g)
 
+-- what was found in front of the bytes stands there: a side and a comma, or a side and the bracket that closes the
+-- group; where neither was found, nothing is said
 abbrev pub IsFront : Bracket → List ℕ → SideInFront → Type 0
 IsFront bracket bytes (Inner side len) = IsFrontSide bracket bytes side len false
 IsFront bracket bytes (Last side len) = IsFrontSide bracket bytes side len true

@@ -4,7 +4,7 @@ ghost use Rattle.std.specs.Prelude.{IfErr, IfOk, OnErr, Some, false, true, lengt
 ghost use Rattle.std.specs.Option.{ForSome};
 ghost use Rattle.bk_text.specs.GatheredSides.{Gathered};
 ghost use Rattle.bk_text.specs.Onward.{BeginsFieldNumber, onward};
-ghost use Rattle.bk_text.specs.LineReading.{most};
+ghost use Rattle.bk_text.specs.LineReader.{most};
 ghost use Rattle.bk_tiling.specs.KeptTiling.{IsSide};
 
 use crate::reader::{Bracket, ByteKind, Ending, Field, Header, Place, kind_of};
@@ -41,7 +41,7 @@ impl Gatherer {
     ghost use Rattle.bk_text.specs.Onward.{OpensGroup, behind_sides, onward};
     ghost use Rattle.bk_text.specs.declared.reader.Header.{Header};
     ghost use Rattle.bk_text.specs.declared.reader.Place.TheVariants.{BeforeSide};
-    ghost use Rattle.bk_text.specs.LineReading.{closes_group, ended_side, last_side};
+    ghost use Rattle.bk_text.specs.LineReader.{closes_group, ended_side, last_side};
     ghost use Rattle.bk_text.specs.ReadLine.{sides_of_line, stands_for};
 
     /// Nothing is gathered.
@@ -185,7 +185,7 @@ impl Gatherer {
         }
     }
 
-    // The given ending of a line if no side was left out, and else that the line has too many.
+    // The given ending of a line if no side was left out, and otherwise that the line has too many.
     pub(crate) fn ended(&self, ending: Ending) -> Result<Ending, TextFault>
         ensures few { IfOk result (λ e. (e ≡ ending) × (self.now.many ≡ false)) }
         ensures fits { IfOk result (λ e. length (sides_of_line (line_gathered e self.now)) ≤ MOST_SQUARES) }
@@ -198,7 +198,7 @@ impl Gatherer {
         Ok(ending)
     }
 
-    // What a line stands for that ends so.
+    // What a line with this ending stands for, whose groups and sides were gathered.
     pub(crate) fn finish(self, ending: Ending) -> Line
         ensures { stands_for result ≡ line_gathered ending self }
     {

@@ -64,10 +64,8 @@ pub fn read_line(line: &[u8]) -> Result<Line, TextFault>
     ensures fault { IfErr result (λ fault. IsTextFaultOf fault line.now) }
 {
     let mut gatherer = Gatherer::new();
-    match read_into(line, &mut gatherer) {
-        Ok(ending) => Ok(gatherer.finish(ending)),
-        Err(fault) => Err(fault),
-    }
+    let ending = read_into(line, &mut gatherer)?;
+    Ok(gatherer.finish(ending))
 }
 
 /// Does what `read_line` does in a gatherer that is there, and holds anything before: the groups and the sides of the

@@ -1,12 +1,12 @@
 //! Reading a line of codes byte by byte.
 
-ghost use Rattle.std.specs.Prelude.{◌≡◌, ◌<◌, ◌≤◌};
-ghost use Rattle.bk_text.specs.LineReading.{closes_group as closes, ended_side as ended_before, line_ending_at};
-ghost use Rattle.bk_text.specs.LineReading.{last_side as last, line_kind_of as kind_of_byte};
-ghost use Rattle.bk_text.specs.LineReading.{behind_number, close_group as closed_group};
-ghost use Rattle.bk_text.specs.LineReading.{field_with_digit, next_line_place};
-ghost use Rattle.bk_text.specs.LineReading.{order_alone as only_order};
-ghost use Rattle.bk_text.specs.LineReading.{most as most_of};
+ghost use Rattle.std.specs.Prelude.{IsTrue, ◌<◌, ◌↔◌, ◌≡◌, ◌≤◌};
+ghost use Rattle.bk_text.specs.LineReader.{closes_group as closes, ended_side as ended_before, line_ending_at};
+ghost use Rattle.bk_text.specs.LineReader.{last_side as last, line_kind_of as kind_of_byte};
+ghost use Rattle.bk_text.specs.LineReader.{behind_number, close_group as closed_group};
+ghost use Rattle.bk_text.specs.LineReader.{field_with_digit, next_line_place};
+ghost use Rattle.bk_text.specs.LineReader.{order_alone as only_order};
+ghost use Rattle.bk_text.specs.LineReader.{most as most_of};
 
 use bk_code::LARGEST_HEADER_NUMBER;
 use bk_tiling::LONGEST_SIDE;
@@ -16,6 +16,18 @@ use bk_tiling::LONGEST_SIDE;
 pub enum Bracket {
     Square,
     Round,
+}
+
+impl Bracket {
+    // Whether another bracket is of the same kind.
+    pub(crate) fn is_like(self, other: Bracket) -> bool
+        ensures { IsTrue result ↔ (self ≡ other) }
+    {
+        matches!(
+            (self, other),
+            (Bracket::Square, Bracket::Square) | (Bracket::Round, Bracket::Round)
+        )
+    }
 }
 
 /// What a byte is to the grammar of lines.
@@ -77,7 +89,7 @@ pub enum Field {
     /// Behind the order and the width of a table row: its height.
     Third(u64, u64),
     /// A side of a table row.
-    Column(Table),
+    RowSide(Table),
     /// A side of a group that such a bracket opened.
     Side(Header, Bracket),
 }
@@ -106,7 +118,7 @@ pub enum Place {
     /// Behind the three numbers of a table row and a blank: a side must come.
     BehindThird(Table),
     /// Behind a side of a table row and a blank.
-    BehindColumn(Table),
+    BehindRowSide(Table),
     /// Behind a size, or behind a comma between groups: a group must come.
     BeforeGroup(Header),
     /// Behind the bracket that opens a group, or behind a comma in it: a side must come.
@@ -144,7 +156,7 @@ impl Field {
         ensures { result ≡ most_of self }
     {
         match self {
-            Field::Column(_) | Field::Side(_, _) => LONGEST_SIDE,
+            Field::RowSide(_) | Field::Side(_, _) => LONGEST_SIDE,
             _ => LARGEST_HEADER_NUMBER,
         }
     }
@@ -202,8 +214,10 @@ impl Field {
                 width,
                 height: value,
             })),
-            (Field::Column(table), ByteKind::Blank) => Some(Place::BehindColumn(table)),
-            (Field::Column(table), ByteKind::Semicolon) => Some(Place::Comment(Ending::Row(table))),
+            (Field::RowSide(table), ByteKind::Blank) => Some(Place::BehindRowSide(table)),
+            (Field::RowSide(table), ByteKind::Semicolon) => Some(Place::Comment(Ending::Row(
+                table,
+            ))),
             (Field::Side(header, bracket), ByteKind::Blank) => Some(Place::BehindSide(
                 header, bracket,
             )),
@@ -222,11 +236,10 @@ impl Field {
 fn close_group(header: Header, left: Bracket, right: Bracket) -> Option<Place>
     ensures { result ≡ closed_group header left right }
 {
-    match (left, right) {
-        (Bracket::Square, Bracket::Square) | (Bracket::Round, Bracket::Round) => Some(
-            Place::BehindGroup(header),
-        ),
-        _ => None,
+    if left.is_like(right) {
+        Some(Place::BehindGroup(header))
+    } else {
+        None
     }
 }
 
@@ -257,12 +270,12 @@ impl Place {
             Place::BehindThird(table) => match kind {
                 ByteKind::Blank => Some(self),
                 ByteKind::Digit(digit) => Some(Place::Number(
-                    Field::Column(table),
+                    Field::RowSide(table),
                     u64::from(digit),
                 )),
                 _ => None,
             },
-            Place::BehindColumn(table) => behind_column(table, kind),
+            Place::BehindRowSide(table) => behind_row_side(table, kind),
             Place::BeforeGroup(header) => match kind {
                 ByteKind::Blank => Some(self),
                 ByteKind::Open(bracket) => Some(Place::BeforeSide(header, bracket)),
@@ -281,7 +294,7 @@ impl Place {
     {
         match (self, kind) {
             (_, ByteKind::Zero | ByteKind::Digit(_)) => None,
-            (Place::Number(Field::Column(_) | Field::Side(_, _), value), _) => Some(value),
+            (Place::Number(Field::RowSide(_) | Field::Side(_, _), value), _) => Some(value),
             _ => None,
         }
     }
@@ -304,7 +317,7 @@ impl Place {
         ensures { result ≡ last self }
     {
         match self {
-            Place::Number(Field::Column(_), value) => Some(value),
+            Place::Number(Field::RowSide(_), value) => Some(value),
             _ => None,
         }
     }
@@ -315,9 +328,9 @@ impl Place {
     {
         match self {
             Place::Start => Some(Ending::Empty),
-            Place::Number(Field::Column(table), _) | Place::BehindColumn(table) => Some(Ending::Row(
-                table,
-            )),
+            Place::Number(Field::RowSide(table), _) | Place::BehindRowSide(table) => Some(
+                Ending::Row(table),
+            ),
             Place::BehindGroup(header) => Some(Ending::Coded(header)),
             Place::Comment(ending) => Some(ending),
             _ => None,
@@ -348,12 +361,12 @@ fn behind_first(order: u64, kind: ByteKind) -> Option<Place>
     }
 }
 
-fn behind_column(table: Table, kind: ByteKind) -> Option<Place>
-    ensures { result ≡ next_line_place (Place.BehindColumn table) kind }
+fn behind_row_side(table: Table, kind: ByteKind) -> Option<Place>
+    ensures { result ≡ next_line_place (Place.BehindRowSide table) kind }
 {
     match kind {
-        ByteKind::Blank => Some(Place::BehindColumn(table)),
-        ByteKind::Digit(digit) => Some(Place::Number(Field::Column(table), u64::from(digit))),
+        ByteKind::Blank => Some(Place::BehindRowSide(table)),
+        ByteKind::Digit(digit) => Some(Place::Number(Field::RowSide(table), u64::from(digit))),
         ByteKind::Semicolon => Some(Place::Comment(Ending::Row(table))),
         _ => None,
     }

@@ -1,6 +1,6 @@
 //! Sides of a group that stand in front of bytes, with nothing between a side and the comma or the bracket behind it.
 
-ghost use Rattle.std.specs.Prelude.{[], IfSome, length, take, true, ◌∷◌, ◌≡◌, ◌≤◌};
+ghost use Rattle.std.specs.Prelude.{[], IfSome, length, take, ◌∷◌, ◌≡◌, ◌≤◌};
 ghost use Rattle.bk_text.specs.Onward.{IsFront, SpellOn};
 ghost use Rattle.bk_code.specs.declared.TheConstants.{LARGEST_HEADER_NUMBER};
 
@@ -28,22 +28,9 @@ pub(crate) fn side_in_front(bracket: Bracket, bytes: &[u8]) -> SideInFront
     let len = digits + 1;
     match kind_of(bytes[digits]) {
         ByteKind::Comma => SideInFront::Inner { side, len },
-        ByteKind::Close(other) if are_of_one_kind(bracket, other) => SideInFront::Last {
-            side,
-            len,
-        },
+        ByteKind::Close(other) if bracket.is_like(other) => SideInFront::Last { side, len },
         _ => SideInFront::Other,
     }
-}
-
-// Whether two brackets are of one kind.
-fn are_of_one_kind(left: Bracket, right: Bracket) -> bool
-    ensures { result ≡ true → left ≡ right }
-{
-    matches!(
-        (left, right),
-        (Bracket::Square, Bracket::Square) | (Bracket::Round, Bracket::Round)
-    )
 }
 
 // The number of the digits in front, as far as it is at most so great, and how many they are: 0 where no number begins.

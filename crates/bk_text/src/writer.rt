@@ -11,10 +11,11 @@ ghost use Rattle.bk_text.specs.declared.writer.TheConstants.{LONGEST_CODE_TEXT, 
 
 use bk_code::Code;
 use bk_grammar::{AnswerBuffer, LONGEST_NUMBER_TEXT, push_bytes, push_number};
+use bk_tiling::MOST_SQUARES;
 use itoa::Buffer;
 
 /// No code is written in more bytes.
-pub const LONGEST_CODE_TEXT: usize = 3400;
+pub const LONGEST_CODE_TEXT: usize = MOST_SQUARES * (LONGEST_SIDE_TEXT + 2);
 
 /// No size is written in more bytes.
 pub const LONGEST_SIZE_TEXT: usize = 2 * LONGEST_NUMBER_TEXT + 1;

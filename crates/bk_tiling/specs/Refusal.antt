@@ -63,20 +63,23 @@ pub record IsFirstUncovered (width height : ℕ) (squares : List Square) (x y : 
   pub above : (i j : ℕ) → i < width → j < y → 0 < count_by (covers i j) squares
   pub left : (i : ℕ) → i < x → 0 < count_by (covers i y) squares
 
--- there are few enough squares; the rectangle has a cell; each side is one that a square may have; each square is
--- within the rectangle; no two share a cell
+-- there are few enough squares
 abbrev pub IsFew : List Square → Type 0
 IsFew squares = length squares ≤ MOST_SQUARES
 
+-- the rectangle has a cell
 abbrev pub HasCells : ℕ → ℕ → Type 0
 HasCells width height = (0 < width) × (0 < height)
 
+-- each side is one that a square may have
 abbrev pub HaveSides : List Square → Type 0
 HaveSides squares = All (λ q. IsSide q.s) squares
 
+-- each square is within the rectangle
 abbrev pub AreWithin : ℕ → ℕ → List Square → Type 0
 AreWithin width height squares = All (IsWithin (sized width height)) squares
 
+-- no two share a cell
 abbrev pub ShareNoCell : List Square → Type 0
 ShareNoCell squares = AllPairs (λ p q. ¬ (SharesCell p q)) squares
 

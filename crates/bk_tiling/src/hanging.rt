@@ -9,7 +9,7 @@ ghost use Rattle.bk_tiling.specs.SquareGroups.{laid_group};
 use crate::{MOST_SQUARES, Segment, Square};
 use arrayvec::ArrayVec;
 
-/// The sum of at most 200 sides.
+/// The sum of at most 200 sides, each of which is 1 to 999,999,999,999,999.
 pub fn sum_of(sides: &[u64]) -> u64
     requires few { length sides.now ≤ MOST_SQUARES }
     requires sides { AllByRecursion IsSide sides.now }
@@ -24,7 +24,7 @@ pub fn sum_of(sides: &[u64]) -> u64
 }
 
 /// Appends the squares of a group that hangs from a gap: side by side from its left end on, their tops at its level.
-/// There must be room for them.
+/// There must be room for them, and they must end before column 2^63.
 pub fn push_group(laid: &mut ArrayVec<Square, MOST_SQUARES>, gap: Segment, sides: &[u64])
     requires room { length laid.old.items + length sides.now ≤ MOST_SQUARES }
     requires fits { gap.x + sum sides.now < 2 ^ 63 }

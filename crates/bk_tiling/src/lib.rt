@@ -2,7 +2,7 @@
 #![tactic(auto)]
 
 ghost use Rattle.std.specs.Prelude.{[], IfErr, IfOk, IsOk, length, ◌+◌, ◌<◌, ◌^◌, ◌↔◌, ◌∷◌, ◌≡◌, ◌≤◌};
-ghost use Rattle.bk_tiling.specs.CodeOrder.{begins_group, in_code_order, stands_beside};
+ghost use Rattle.bk_tiling.specs.CodeOrder.{begins_group, in_code_order, is_no_later, stands_beside};
 ghost use Rattle.bk_tiling.specs.KeptTiling.{IsKept};
 ghost use Rattle.bk_tiling.specs.Refusal.{HaveSides, IsAccepted, IsRefusal, ShareNoCell};
 ghost use Rattle.bk_tiling.specs.Tiling.{order};
@@ -17,7 +17,7 @@ pub use hanging::{push_group, sum_of};
 pub use laws::{a_list_is_refused_in_one_way, a_refused_list_is_not_accepted};
 use std::marker::Model;
 
-/// The code holds tilings of at most so many squares; those of the definitions may have more.
+/// The most squares of a tiling that the code holds; those of the definitions may have more.
 pub const MOST_SQUARES: usize = 200;
 
 /// No side is longer.
@@ -49,7 +49,7 @@ pub struct Segment {
 /// Places count from 0 in the list as given.
 #[derive(Clone, Copy, Debug, PartialEq, Eq)]
 pub enum NotTiling {
-    /// There are more than 200 squares: so many.
+    /// There are more than 200 squares; `n` is how many.
     Many { n: usize },
     /// The rectangle has no width or no height.
     Empty,
@@ -193,8 +193,8 @@ impl Tiling {
         self.squares.as_slice()
     }
 
-    /// Whether a group of the code begins at the square at place `i`, from 0: always at 0, and else unless the square
-    /// before it has the same top level and ends where this one begins (Bouwkamp 1946-47).
+    /// Whether a group of the code begins at the square at place `i`, from 0: always at 0, and otherwise unless the
+    /// square before it has the same top level and ends where this one begins (Bouwkamp 1946-47).
     pub fn begins_group(&self, i: usize) -> bool
         requires { i < length self.now.squares }
         ensures { result ≡ begins_group self.now.squares i }
@@ -209,6 +209,14 @@ fn stands_beside(before: Square, here: Square) -> bool
     ensures { result ≡ stands_beside before here }
 {
     before.y == here.y && before.x + before.s == here.x
+}
+
+/// Whether a square's corner comes no later than the cell in column `x` at level `y`, in the code order: from top to
+/// bottom and from left to right.
+pub fn is_no_later(r: &Square, x: u64, y: u64) -> bool
+    ensures { result ≡ is_no_later x y r.now }
+{
+    r.y < y || (r.y == y && r.x <= x)
 }
 
 // Puts these squares in the place of those that are kept.
@@ -245,7 +253,8 @@ fn replace_in_order(kept: &mut ArrayVec<Square, MOST_SQUARES>, squares: &[Square
     put_in_order(kept);
 }
 
-/// Puts squares into code order, of which no two share a cell.
+/// Puts squares into code order. No two of them may share a cell, and each must have a side of 1 to
+/// 999,999,999,999,999.
 pub fn put_in_order(squares: &mut ArrayVec<Square, MOST_SQUARES>)
     requires sides { HaveSides squares.old.items }
     requires apart { ShareNoCell squares.old.items }

@@ -3,7 +3,7 @@
 -- Example (RunExamples): a run that took more than 2^30 bytes has status 7.
 use Rattle.std.specs.Prelude.{List, Option, ℕ}
 use Rattle.bk_ports.specs.Ending.{Streams, streams_told}
-use Rattle.bk_ports.specs.Faults.{Faults}
+use Rattle.bk_ports.specs.Faults.{Faults, faults_told}
 use Rattle.bk_ports.specs.declared.Ended.{Ended}
 use Rattle.bk_ports.specs.declared.Ended.TheVariants.{NoMemory, NoneRefused, ReadFailed, SomeRefused, TooMany}
 use Rattle.bk_ports.specs.declared.Ended.TheVariants.{WriteFailed}
@@ -34,12 +34,7 @@ streams_of before after = streams_told before.source.bytes after.source.bytes be
 
 -- how many calls of source and `out` have failed, before and after a run
 abbrev pub faults_of : Outside → Outside → Faults
-faults_of before after = record {
-  read = before.source.faults;
-  read_after = after.source.faults;
-  write = before.out.faults;
-  write_after = after.out.faults;
-}
+faults_of before after = faults_told before.source.faults after.source.faults before.out.faults after.out.faults
 
 -- the status for each ending of a run over lines
 abbrev pub status_of : Ended → ℕ

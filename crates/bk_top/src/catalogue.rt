@@ -3,7 +3,7 @@
 ghost use Rattle.std.specs.Prelude.{IfOk, OnErr, ◌<◌, ◌≡◌, ◌≤◌};
 ghost use Rattle.bk_ports.specs.Causes.{HasCause};
 ghost use Rattle.bk_word.specs.Word.{order_of};
-ghost use Rattle.bk_word.specs.declared.TheConstants.{LARGEST_LISTED_ORDER};
+ghost use Rattle.bk_word.specs.declared.TheConstants.{LARGEST_LISTED_ORDER, LEAST_LISTED_ORDER};
 ghost use Rattle.bk_catalogue.specs.Following.{start_cursor};
 ghost use Rattle.bk_list.specs.Walked.{listing_of};
 ghost use Rattle.bk_list.specs.Writing.{BeginsListing, StandsBehind, WritesListing};
@@ -35,7 +35,7 @@ pub(crate) fn list_catalogue<M: Members, O: Sink>(
     asked: AskedListing,
     out: &mut O,
 ) -> Result<Last, Failed>
-    requires least { 2 ≤ asked.order }
+    requires least { LEAST_LISTED_ORDER ≤ asked.order }
     requires most { asked.order ≤ LARGEST_LISTED_ORDER }
     requires few { order_of (start_cursor asked.from) ≤ LARGEST_LISTED_ORDER }
     ensures listed { IfOk result

@@ -3,7 +3,7 @@
 ghost use Rattle.std.specs.Prelude.{◌≤◌};
 ghost use Rattle.bk_ports.specs.Ending.{streams_between};
 ghost use Rattle.bk_ports.specs.Faults.{faults_between};
-ghost use Rattle.bk_word.specs.declared.TheConstants.{LARGEST_LISTED_ORDER};
+ghost use Rattle.bk_word.specs.declared.TheConstants.{LARGEST_LISTED_ORDER, LEAST_LISTED_ORDER};
 ghost use Rattle.bk_alike.specs.GroupsEnd.{list_output};
 ghost use Rattle.bk_verify_report.specs.VerifyRun.{report_of};
 ghost use Rattle.bk_top.specs.ReadsToEnd.{ReadsToEnd};
@@ -39,7 +39,7 @@ pub(crate) fn verify_list<S: Source, O: Sink>(
     source: &mut S,
     out: &mut O,
 ) -> u8
-    requires least { 2 ≤ order }
+    requires least { LEAST_LISTED_ORDER ≤ order }
     requires most { order ≤ LARGEST_LISTED_ORDER }
     ensures { ReadsToEnd (report_of order)
         (streams_between S.left O.written (source.old, out.old) (source.new, out.new))

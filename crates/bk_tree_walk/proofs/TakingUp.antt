@@ -3,13 +3,13 @@ use Rattle.std.proofs.Common.{Some, [], ap, arith, drop, length, min, slice_get,
 use Rattle.std.proofs.lemmas.List.{length-append, take_all}
 use Rattle.bk_laws.proofs.ListPlaces.{take-cons_drop, take-snoc_next}
 use Rattle.bk_word.specs.KeptWord.{CanStand}
-use Rattle.bk_word.specs.Outline.{IsLegalMove, Outline, has_left_wall, has_right_wall, start}
+use Rattle.bk_word.specs.Outline.{IsLegalMove, start}
 use Rattle.bk_word.specs.Play.{IsLegal, outline_of}
 use Rattle.bk_word.specs.Word.{Move, Word, order_of}
 use Rattle.bk_word.specs.declared.Class.{Class}
 use Rattle.bk_word.proofs.StoredBytes.{order_append, order_more}
-use Rattle.bk_word.proofs.PlayLaws.{legal-snoc, legal_rest}
-use Rattle.bk_catalogue.proofs.TreeOfWords.Ranks.{IsSmallWord, open_one, small_from}
+use Rattle.bk_word.proofs.PlayLaws.{legal-snoc}
+use Rattle.bk_catalogue.proofs.TreeOfWords.Ranks.{IsSmallWord, small_from}
 use Rattle.bk_tree_walk.proofs.SearchLoop.{counts_then}
 use Rattle.bk_tree_walk.proofs.Starting.{begins_beside, none_passed_at_what_begins_with_the_cursor}
 use Rattle.bk_catalogue.specs.NextMove.{first_move}
@@ -88,26 +88,3 @@ pub whole_place : (n : ℕ) (class : Class) (cursor first played : Word) (x : Mo
 whole_place n class cursor first played x i pushes now steps sn t h e =
     subst (λ (w : Word). HasPassed n class cursor (w ++ x ∷ []) 0) (sym (take_all i cursor h) ∙ t.begun)
     (subst (λ (m : Move). HasPassed n class cursor (cursor ++ m ∷ []) 0) (sym e) (none_passed_at_what_begins_with_the_cursor n class cursor))
-
--- a legal move at its place can stand in a word
-pub legal_stands : (word : Word) (i : ℕ) (m : Move) → IsLegal word → slice_get word i ≡ Some m → CanStand m
-legal_stands word i m l g =
-    stands (outline_of (take i word)) (legal_rest start (take i word) (m ∷ drop (i + 1) word) (subst IsLegal (take-cons_drop word i m g) l)).0
-  where
-    stands : (o : Outline) → IsLegalMove o m → CanStand m
-    stands o k = record {
-      some = k.some;
-      least = omega (arith, k.signs);
-      most =
-          omega (arith, k.signs, open_one (has_left_wall o), open_one (has_right_wall o));
-    }
-
--- the moves up to a place, and the one there, hang no more squares than the word
-pub order_at : (word : Word) (i : ℕ) (m : Move) (k : ℕ) → slice_get word i ≡ Some m → order_of word ≤ k → order_of (take i word) + m.count ≤ k
-order_at word i m k g few = omega (
-  arith,
-  few,
-  ap order_of (take-cons_drop word i m g),
-  order_append (take i word) (m ∷ drop (i + 1) word),
-  order_more m (drop (i + 1) word),
-)

@@ -10,7 +10,7 @@ use Rattle.bk_word.specs.Outline.{IsLegalMove}
 use Rattle.bk_word.specs.Play.{IsLegal, outline_of}
 use Rattle.bk_word.specs.Word.{Follows, Move, Word, order_of}
 use Rattle.bk_word.specs.declared.Class.{Class}
-use Rattle.bk_word.specs.declared.TheConstants.{LARGEST_LISTED_ORDER}
+use Rattle.bk_word.specs.declared.TheConstants.{LARGEST_LISTED_ORDER, LEAST_LISTED_ORDER}
 use Rattle.bk_catalogue.specs.NextMove.{move_after}
 use Rattle.bk_tree_walk.specs.declared.Went.{Went}
 use Rattle.bk_tree_walk.specs.declared.Went.TheVariants.{End, Met, On}
@@ -101,7 +101,7 @@ pub record IsClimbed (before front : Word) (x : Move) : Type 0 where
 
 -- what holds of each search
 pub record IsKeptSearch (s : SearchState) : Type 0 where
-  pub least : 2 ≤ s.order
+  pub least : LEAST_LISTED_ORDER ≤ s.order
   pub most : s.order ≤ LARGEST_LISTED_ORDER
   pub stand : IsSearchState s.order s.front s.next
   pub known : s.pushes < 2 ^ 64

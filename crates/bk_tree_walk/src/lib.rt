@@ -6,7 +6,6 @@ mod realising;
 mod resuming;
 mod tree_walk;
 
-pub use resuming::{copy_of, word_played};
 pub use tree_walk::TreeWalk;
 
 /// Where one step of a search leads.

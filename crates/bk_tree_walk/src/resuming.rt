@@ -5,19 +5,19 @@ ghost use Rattle.std.specs.Prelude.{IsTrue, false, length, take, ◌+◌, ◌≡
 ghost use Rattle.bk_word.specs.Outline.{IsLegalMove};
 ghost use Rattle.bk_word.specs.Play.{outline_of};
 ghost use Rattle.bk_word.specs.Word.{order_of};
-ghost use Rattle.bk_word.specs.declared.TheConstants.{INLINE_ORDER, LARGEST_LISTED_ORDER, LARGEST_ORDER};
+ghost use Rattle.bk_word.specs.declared.TheConstants.{LARGEST_LISTED_ORDER, LARGEST_ORDER};
 ghost use Rattle.bk_tree_walk.specs.Search.{HasPassed, StaysOf, place_of};
 
 use crate::tree_walk::TreeWalk;
-use bk_play::{Skel, Steps};
-use bk_walk_cuts::{LinedSkel, begin_anew, first_move};
-use bk_word::{Move, NoMemory, Word};
-use std::alloc::Global;
+use bk_play::Steps;
+use bk_walk_cuts::{LinedSkel, begin_anew};
+use bk_word::{Move, Word};
 use std::sync::ledger::Ledger;
 
 impl TreeWalk {
-    /// Plays the moves of the cursor that are not played yet, as far as they are legal and hang at most as many squares
-    /// as the order, and goes to the place from which nothing is passed but what isn't after the cursor.
+    /// Pushes the moves of the cursor that are not played yet, as far as they are legal and hang at most as many
+    /// squares as the order, and goes to the place from which nothing is passed but what isn't after the cursor. The
+    /// moves that are played must begin the cursor, which hangs at most 16 squares.
     #[inline(never)]
     pub fn resume<L: Ledger>(&mut self, cursor: &Word, steps: &mut Steps<L>)
         requires begun { take (length self.old.front) cursor.now ≡ self.old.front }
@@ -47,32 +47,4 @@ fn can_play(lined: &LinedSkel, m: &Move, order: u8) -> bool
 {
     let skel = lined.skel();
     skel.order() + usize::from(m.count) <= usize::from(order) && skel.legal(m)
-}
-
-/// The word of the moves that are played, at most 16 squares. It takes no memory.
-pub fn word_played(alloc: Global, skel: &Skel) -> Word
-    requires { order_of skel.now ≤ INLINE_ORDER }
-    ensures { result ≡ skel.now }
-{
-    let mut word = Word::new(alloc);
-    let mut m = first_move();
-    'moves: for i in 0..skel.moves() {
-        skel.read_move(i, &mut m);
-        match word.push(&m) {
-            Ok(()) => {}
-            Err(NoMemory) => unreachable!(),
-        }
-    }
-    word
-}
-
-/// A copy of a word of at most 16 squares. It takes no memory.
-pub fn copy_of(alloc: Global, word: &Word) -> Word
-    requires { order_of word.now ≤ INLINE_ORDER }
-    ensures { result ≡ word.now }
-{
-    match word.copy(alloc) {
-        Ok(copy) => copy,
-        Err(NoMemory) => unreachable!(),
-    }
 }

@@ -6,7 +6,7 @@ ghost use Rattle.std.specs.Prelude.{◌∷◌, ◌≡◌, ◌≤◌};
 ghost use Rattle.bk_word.specs.Outline.{IsLegalMove};
 ghost use Rattle.bk_word.specs.Play.{IsComplete, outline_of};
 ghost use Rattle.bk_word.specs.Word.{order_of};
-ghost use Rattle.bk_word.specs.declared.TheConstants.{LARGEST_LISTED_ORDER};
+ghost use Rattle.bk_word.specs.declared.TheConstants.{LARGEST_LISTED_ORDER, LEAST_LISTED_ORDER};
 ghost use Rattle.bk_catalogue.specs.NextMove.{first_move as first_of_all, open_sides as sides_open};
 ghost use Rattle.bk_catalogue.specs.Catalogue.{IsEntry};
 ghost use Rattle.bk_catalogue.specs.Repeated.{HasNoMember};
@@ -57,9 +57,9 @@ impl Model for TreeWalk {
 }
 
 impl TreeWalk {
-    /// A search that has played no move.
+    /// A search that has played no move. The order is 2 to 16.
     pub fn new(order: u8, class: Class) -> TreeWalk
-        requires least { 2 ≤ order }
+        requires least { LEAST_LISTED_ORDER ≤ order }
         requires most { order ≤ LARGEST_LISTED_ORDER }
         ensures { result ≡ record { order = order; class = class; front = []; next = first_of_all; pushes = 0 } }
     {
@@ -128,8 +128,9 @@ impl TreeWalk {
         Some(Went::End)
     }
 
-    /// Goes one step on through the tree: over moves that are cut, or down by the next move. Where that is to the word
-    /// of a member, `tiling` becomes that member.
+    /// Goes one step on through the tree: over moves that are cut, or down by the next move. This must be legal and
+    /// hang no more squares than the order leaves, as it does after a `settle` that gave `None`. Where the step is to
+    /// the word of a member, `tiling` becomes that member.
     pub fn walk_on<L: Ledger>(&mut self, steps: &mut Steps<L>, tiling: &mut Tiling) -> Went
         requires { IsReady self.old }
         ensures leads { StepLeadsTo self.old self.new (steps.new - steps.old) result }
@@ -170,8 +171,9 @@ impl TreeWalk {
         self.lined.shorten(moves);
     }
 
-    /// Plays a move, which must be legal and hang no more squares than the order leaves. The next move stays.
-    pub fn play<L: Ledger>(&mut self, m: &Move, steps: &mut Steps<L>)
+    /// Pushes a move, and counts it. It must be legal and hang no more squares than the order leaves. The next move
+    /// stays.
+    pub fn push<L: Ledger>(&mut self, m: &Move, steps: &mut Steps<L>)
         requires legal { IsLegalMove (outline_of self.old.front) m.now }
         requires few { order_of self.old.front + m.now.count ≤ self.old.order }
         ensures state { self.new

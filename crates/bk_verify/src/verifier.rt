@@ -1,7 +1,7 @@
 //! A verifier: it is fed the entries of a list, tells what each of them is, and hands on what it keeps.
 
 ghost use Rattle.std.specs.Prelude.{IfOk, OnErr, [], ◌≡◌, ◌≤◌};
-ghost use Rattle.bk_word.specs.declared.TheConstants.{LARGEST_LISTED_ORDER};
+ghost use Rattle.bk_word.specs.declared.TheConstants.{LARGEST_LISTED_ORDER, LEAST_LISTED_ORDER};
 ghost use Rattle.bk_verify_report.specs.KeptEntries.{IsFed, IsFirstSight, AreKeptEntries};
 ghost use Rattle.bk_verify_report.specs.Rest.{rest_of};
 
@@ -32,7 +32,7 @@ impl Model for Verifier {
 impl Verifier {
     /// A verifier against the catalogue of an order, which is 2 to 16. It keeps nothing yet, and takes no memory.
     pub fn new(alloc: Global, order: u8) -> Verifier
-        requires least { 2 ≤ order }
+        requires least { LEAST_LISTED_ORDER ≤ order }
         requires most { order ≤ LARGEST_LISTED_ORDER }
         ensures { result ≡ record { order = order; pairs = [] } }
     {

@@ -66,7 +66,7 @@ module _ (n : ℕ) (s : Verifying) (cursor : Word) (missing members : ℕ) (a b 
     (kept : AreKeptAfter n (s.entries).pairs cursor) (all_members : CountsMembers n (λ word. ⊤) members) where
   -- what the last line tells
   abbrev pub the_counts : ReportCounts
-  the_counts = record { members = members; missing = missing; foreign = s.foreign; repeated = s.repeated; refused = s.refused }
+  the_counts = record { members = members; missing = missing; foreign = s.lines.foreign; repeated = s.lines.repeated; refused = s.lines.refused }
 
   is_closing : (line : List ℕ) → line ≡ verified_line End n the_counts [] → IsClosing n s the_counts (flat_map missing_line_of listed.entries ++ line)
   is_closing line is = record {

@@ -5,7 +5,7 @@ use Rattle.bk_verify_report.specs.ReportEnd.{kept_of_rest}
 use Rattle.bk_verify_report.specs.Rest.{rest_of}
 
 abbrev kept : Verifying
-kept = record { entries = record { order = 9; pairs = [] }; foreign = 1; repeated = 2; refused = 3 }
+kept = record { entries = record { order = 9; pairs = [] }; lines = record { foreign = 1; repeated = 2; refused = 3 } }
 
-left-kept : kept_of_rest (rest_of kept.entries) (record { foreign = 1; repeated = 2; refused = 3 }) ≡ kept
+left-kept : kept_of_rest (rest_of kept.entries) kept.lines ≡ kept
 left-kept = refl

@@ -4,13 +4,13 @@ use Rattle.std.specs.Io.KnownBytes.{Appends}
 use Rattle.std.proofs.KnownBytes.{Appends-trans}
 use Rattle.std.proofs.Common.{Bool, List, [], ap, append_assoc, arith, false, inl, inr, subst, sym, true, ℕ, ◌++◌, ◌∙◌, ◌≡◌, ◌⊎◌}
 use Rattle.bk_ports.proofs.KnownSteps.{prefix_after}
-use Rattle.bk_ports.proofs.OtherOutputs.{IsStop, whole_behind}
+use Rattle.bk_ports.proofs.OtherOutputs.{whole_behind}
 use Rattle.bk_ports.specs.Ending.{EndsWith, IsReadWhole, Output, Streams, streams_told}
 use Rattle.bk_ports.specs.Entering.{AreAllEntered, entering_from}
 use Rattle.bk_ports.specs.Reply.{text_of}
 use Rattle.bk_ports.specs.Faults.{CountsTell, Faults}
 use Rattle.bk_ports.specs.declared.Ended.{Ended}
-use Rattle.bk_ports.specs.declared.Ended.TheVariants.{NoMemory, NoneRefused, ReadFailed, SomeRefused, TooMany, WriteFailed}
+use Rattle.bk_ports.specs.declared.Ended.TheVariants.{NoneRefused, SomeRefused}
 use Rattle.bk_verify_report.proofs.BehindLines.{all_missing, first_missing}
 use Rattle.bk_verify_report.proofs.EndingAtLines.{nothing_entered_before_the_first_line, told_of_all}
 use Rattle.bk_verify_report.proofs.Following.{AreFollowed, followed}
@@ -128,13 +128,6 @@ pub whole_at : (output : Output) (streams : Streams) (ended : Ended) → (ended 
     → (refused : Bool) × IsReadWhole (λ lines. output.whole lines refused) streams
 whole_at output streams ended (inl e) h = (false, subst (EndsWith output streams) e h)
 whole_at output streams ended (inr e) h = (true, subst (EndsWith output streams) e h)
-
--- the run stopped where the lines end otherwise
-pub stop_told : (ended : Ended) → (ended ≡ ReadFailed) ⊎ ((ended ≡ WriteFailed) ⊎ ((ended ≡ NoMemory) ⊎ (ended ≡ TooMany))) → IsStop ended
-stop_told ended (inl e) = subst IsStop (sym e) tt
-stop_told ended (inr (inl e)) = subst IsStop (sym e) tt
-stop_told ended (inr (inr (inl e))) = subst IsStop (sym e) tt
-stop_told ended (inr (inr (inr e))) = subst IsStop (sym e) tt
 
 -- where all was read, no call failed
 pub calm_at : (faults : Faults) (ended : Ended) → (ended ≡ NoneRefused) ⊎ (ended ≡ SomeRefused) → CountsTell ended faults

@@ -52,9 +52,9 @@ fed_is_told n number entries line t Foreign has is = record { tiling = t; has = 
 
 -- the counts after a line of which this is told
 record CountsOne (s next : Verifying) (told : Told) : Type 0 where
-  foreign : (tolds : List Told) → next.foreign + count_by is_foreign tolds ≡ s.foreign + count_by is_foreign (told ∷ tolds)
-  repeated : (tolds : List Told) → next.repeated + count_by is_repeat tolds ≡ s.repeated + count_by is_repeat (told ∷ tolds)
-  refused : (tolds : List Told) → next.refused + count_by is_line_refused tolds ≡ s.refused + count_by is_line_refused (told ∷ tolds)
+  foreign : (tolds : List Told) → next.lines.foreign + count_by is_foreign tolds ≡ s.lines.foreign + count_by is_foreign (told ∷ tolds)
+  repeated : (tolds : List Told) → next.lines.repeated + count_by is_repeat tolds ≡ s.lines.repeated + count_by is_repeat (told ∷ tolds)
+  refused : (tolds : List Told) → next.lines.refused + count_by is_line_refused tolds ≡ s.lines.refused + count_by is_line_refused (told ∷ tolds)
 
 counts_nothing : (s : Verifying) (v : EntriesState) → CountsOne s (record s { entries = v }) nothing
 counts_nothing s v = record { foreign = λ tolds. refl; repeated = λ tolds. refl; refused = λ tolds. refl }
@@ -71,16 +71,20 @@ unfolding told_of
 counts_fed s v New = counts_nothing s v
 counts_fed s v (Repeats first) = record {
   foreign = λ tolds. refl;
-  repeated = λ tolds. count_yes is_repeat (repeats first) tolds s.repeated refl;
+  repeated = λ tolds. count_yes is_repeat (repeats first) tolds s.lines.repeated refl;
   refused = λ tolds. refl;
 }
-counts_fed s v Foreign = record { foreign = λ tolds. count_yes is_foreign foreign tolds s.foreign refl; repeated = λ tolds. refl; refused = λ tolds. refl }
+counts_fed s v Foreign = record {
+  foreign = λ tolds. count_yes is_foreign foreign tolds s.lines.foreign refl;
+  repeated = λ tolds. refl;
+  refused = λ tolds. refl;
+}
 
-counts_refused : (s : Verifying) (cause : Refused) → CountsOne s (record s { refused = s.refused + 1 }) (refused cause)
+counts_refused : (s : Verifying) (cause : Refused) → CountsOne s (record s { lines = record s.lines { refused = s.lines.refused + 1 } }) (refused cause)
 counts_refused s cause = record {
   foreign = λ tolds. refl;
   repeated = λ tolds. refl;
-  refused = λ tolds. count_yes is_line_refused (refused cause) tolds s.refused refl;
+  refused = λ tolds. count_yes is_line_refused (refused cause) tolds s.lines.refused refl;
 }
 
 -- the state keeps the first of the entries seen before, whose lines are before this number
@@ -106,9 +110,9 @@ pub record AreFollowed (n : ℕ) (seen : List Accepted) (number : ℕ) (lines : 
   pub text_is : text ≡ texts_from number tolds
   pub keeps : KeepsFirsts n (seen ++ entries) (last.entries).pairs
   pub order : (last.entries).order ≡ n
-  pub foreign_is : last.foreign ≡ s.foreign + count_by is_foreign tolds
-  pub repeated_is : last.repeated ≡ s.repeated + count_by is_repeat tolds
-  pub refused_is : last.refused ≡ s.refused + count_by is_line_refused tolds
+  pub foreign_is : last.lines.foreign ≡ s.lines.foreign + count_by is_foreign tolds
+  pub repeated_is : last.lines.repeated ≡ s.lines.repeated + count_by is_repeat tolds
+  pub refused_is : last.lines.refused ≡ s.lines.refused + count_by is_line_refused tolds
 
 module _ (n : ℕ) (seen : List Accepted) (number : ℕ) (line : List ℕ) (lines : List (List ℕ)) (s next : Verifying) (told : Told)
     (counts : CountsOne s next told) (text : List ℕ) (last : Verifying) where
@@ -206,7 +210,8 @@ one_line n seen number line lines s _ _ _ text last after (no_item skip) rest =
     (rest seen (record { keeps = after.keeps; order = after.order; before = still_before seen number after.before }))
 one_line n seen number line lines s _ _ _ text last after (refuses cause is) rest =
     subst (λ (l : List ℕ). AreFollowed n seen number (line ∷ lines) s (l ++ text) last) (sym (append-nil (told_text number (refused cause))))
-    (line_passed n seen number line lines s (record s { refused = s.refused + 1 }) (refused cause) (counts_refused s cause) text last
+    (line_passed n seen number line lines s (record s { lines = record s.lines { refused = s.lines.refused + 1 } }) (refused cause)
+    (counts_refused s cause) text last
     (refused_has_none (kept_front line) cause is) (λ entries. is)
     (rest seen (record { keeps = after.keeps; order = after.order; before = still_before seen number after.before })))
 one_line n seen number line lines s _ _ _ text last after (feeds t fed v has is) rest =

@@ -39,7 +39,7 @@ lacking first now missing members a b listed kept none same_order reached = reco
 
 -- what is counted where so many are members and so many are missing
 abbrev pub counts_of : Verifying → ℕ → ℕ → ReportCounts
-counts_of s members missing = record { members = members; missing = missing; foreign = s.foreign; repeated = s.repeated; refused = s.refused }
+counts_of s members missing = record { members = members; missing = missing; foreign = s.lines.foreign; repeated = s.lines.repeated; refused = s.lines.refused }
 
 -- the lines of the missing members stand there
 module _ (n : ℕ) (s : Verifying) (order : (s.entries).order ≡ n) (missing members : ℕ) (a b : Option (List ℕ))

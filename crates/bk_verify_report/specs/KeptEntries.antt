@@ -7,7 +7,7 @@ use Rattle.bk_tiling.specs.Tiling.{Tiling}
 use Rattle.bk_sym.specs.Canonical.{IsCanonicalOf}
 use Rattle.bk_word.specs.Word.{Follows, Word}
 use Rattle.bk_word.specs.declared.Class.TheVariants.{Perfect}
-use Rattle.bk_word.specs.declared.TheConstants.{LARGEST_LISTED_ORDER}
+use Rattle.bk_word.specs.declared.TheConstants.{LARGEST_LISTED_ORDER, LEAST_LISTED_ORDER}
 use Rattle.bk_lay.specs.TilingWord.{IsWordOf}
 use Rattle.bk_catalogue.specs.Catalogue.{AreAscending, Entry, IsEntry, IsMember}
 use Rattle.bk_verify_report.specs.declared.entries.Fed.{Fed}
@@ -74,7 +74,7 @@ AreKeptApart (p ∷ pairs) = IsNotKept pairs p.tiling × AreKeptApart pairs
 
 -- what holds of all that is kept
 pub record AreKeptEntries (s : EntriesState) : Type 0 where
-  pub least : 2 ≤ s.order
+  pub least : LEAST_LISTED_ORDER ≤ s.order
   pub most : s.order ≤ LARGEST_LISTED_ORDER
   pub members : AllByRecursion (λ p. IsMember s.order Perfect p.tiling) s.pairs
   pub apart : AreKeptApart s.pairs

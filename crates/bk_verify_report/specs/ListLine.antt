@@ -15,7 +15,10 @@ use Rattle.bk_verify_report.specs.declared.entering.Verifying.{Verifying}
 
 -- what is kept for the catalogue of this order where no line is entered
 abbrev pub none_entered : ℕ → Verifying
-none_entered n = record { entries = record { order = n; pairs = [] }; foreign = 0; repeated = 0; refused = 0 }
+none_entered n = record {
+  entries = record { order = n; pairs = [] };
+  lines = record { foreign = 0; repeated = 0; refused = 0 };
+}
 
 -- what is written for an entry of which this is told
 abbrev pub fed_pieces : ℕ → Fed → List (List ℕ)
@@ -26,8 +29,8 @@ fed_pieces number Foreign = foreign_line number ∷ []
 -- what is kept after an entry of which this is told: the entries, and the counts
 abbrev pub after_fed : Verifying → EntriesState → Fed → Verifying
 after_fed s v New = record s { entries = v }
-after_fed s v (Repeats first) = record s { entries = v; repeated = s.repeated + 1 }
-after_fed s v Foreign = record s { entries = v; foreign = s.foreign + 1 }
+after_fed s v (Repeats first) = record s { entries = v; lines = record s.lines { repeated = s.lines.repeated + 1 } }
+after_fed s v Foreign = record s { entries = v; lines = record s.lines { foreign = s.lines.foreign + 1 } }
 
 -- a line of this number: the pieces that are written, each by one call, whether it is refused, and what is kept then
 pub data EntersLine (s : Verifying) (number : ℕ) (line : List ℕ) : Reply → Verifying → Type 0 where
@@ -36,7 +39,7 @@ pub data EntersLine (s : Verifying) (number : ℕ) (line : List ℕ) : Reply →
   -- a line that check refuses is refused
   refuses : (refused : Refused) → IsLineRefused line refused
       → EntersLine s number line (record { pieces = refused_line number refused ∷ []; refused = true })
-      (record s { refused = s.refused + 1 })
+      (record s { lines = record s.lines { refused = s.lines.refused + 1 } })
   -- the tiling of any other line is fed to the entries
   feeds : (t : Tiling) (fed : Fed) (v : EntriesState) → HasTiling line t → IsFed s.entries number t fed v
       → EntersLine s number line (record { pieces = fed_pieces number fed; refused = false }) (after_fed s v fed)
@@ -49,6 +52,6 @@ pub record MayWantAt (s : Verifying) (number : ℕ) (line : List ℕ) : Type 0 w
 
 -- the counts are below the number of the line
 pub record CountsAreBelow (s : Verifying) (number : ℕ) : Type 0 where
-  pub foreign : s.foreign < number
-  pub repeated : s.repeated < number
-  pub refused : s.refused < number
+  pub foreign : s.lines.foreign < number
+  pub repeated : s.lines.repeated < number
+  pub refused : s.lines.refused < number

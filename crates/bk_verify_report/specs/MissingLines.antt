@@ -47,9 +47,9 @@ pub record IsClosing (n : ℕ) (s : Verifying) (counts : ReportCounts) (bytes : 
   pub all : AreKeptAfter n (s.entries).pairs cursor
   pub members : CountsMembers n (λ word. ⊤) counts.members
   pub missing : counts.missing ≡ length entries
-  pub foreign : counts.foreign ≡ s.foreign
-  pub repeated : counts.repeated ≡ s.repeated
-  pub refused : counts.refused ≡ s.refused
+  pub foreign : counts.foreign ≡ s.lines.foreign
+  pub repeated : counts.repeated ≡ s.lines.repeated
+  pub refused : counts.refused ≡ s.lines.refused
   pub text : bytes ≡ flat_map missing_line_of entries ++ verified_line End n counts []
 
 -- what closes a report was written, and it is told whether something is missing, foreign, repeated or refused

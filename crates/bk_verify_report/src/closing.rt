@@ -9,7 +9,7 @@ ghost use Rattle.bk_verify_report.specs.ReportEnd.{kept_of_rest};
 ghost use Rattle.bk_verify_report.specs.KeptEntries.{AreKeptAfter};
 ghost use Rattle.bk_verify_report.specs.MissingLines.{AreMissingListed, ClosesReport, IsClosingBegun, IsListingBegun};
 
-use crate::entering::Verifying;
+use crate::entering::{LineCounts, Verifying};
 use crate::missing_line::write_missing_entry;
 use crate::rest::Rest;
 use bk_grammar::AnswerBuffer;
@@ -19,14 +19,6 @@ use bk_ports::{Failed, Sink};
 use bk_report::{Last, ReportCounts, write_verified};
 use std::alloc::Global;
 use std::sync::ledger::{Blank, Ledger};
-
-// How many lines of a list were foreign, repeated and refused.
-#[derive(Clone, Copy)]
-struct LineCounts {
-    foreign: u64,
-    repeated: u64,
-    refused: u64,
-}
 
 // Writes the missing members and the last line, and tells whether the list and the catalogue differ.
 pub(crate) fn close_report<M: Members, L: Ledger, O: Sink>(
@@ -45,17 +37,7 @@ pub(crate) fn close_report<M: Members, L: Ledger, O: Sink>(
     ensures begun { OnErr result (IsClosingBegun state.entries.order state (O.written out.old) (O.written out.new)) }
     ensures cause { HasCause (O.faults out.old) (O.faults out.new) result }
 {
-    let Verifying {
-        entries,
-        foreign,
-        repeated,
-        refused,
-    } = state;
-    let lines = LineCounts {
-        foreign,
-        repeated,
-        refused,
-    };
+    let Verifying { entries, lines } = state;
     let mut rest = Rest::<M>::of(alloc, entries);
     let mut steps = Steps::<L>::new(blank);
     close_rest(&mut rest, lines, &mut steps, buffer, out)

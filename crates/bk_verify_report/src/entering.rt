@@ -3,7 +3,7 @@
 ghost use Rattle.std.specs.Prelude.{IfOk, List, OnErr, OnOk, ℕ, ◌+◌, ◌^◌, ◌≡◌, ◌≤◌};
 ghost use Rattle.bk_ports.specs.WrittenAnswer.{HasOutcome, IsAnswerBegun};
 ghost use Rattle.bk_ports.specs.Causes.{HasCause};
-ghost use Rattle.bk_word.specs.declared.TheConstants.{LARGEST_LISTED_ORDER};
+ghost use Rattle.bk_word.specs.declared.TheConstants.{LARGEST_LISTED_ORDER, LEAST_LISTED_ORDER};
 ghost use Rattle.bk_answer.specs.Item.{HasTiling};
 
 use crate::{Entries, Fed, NoMemory};
@@ -15,13 +15,19 @@ use bk_tiling::Tiling;
 use std::alloc::Global;
 use std::marker::Model;
 
-/// What a run keeps of the lines: the members that were seen, and how many lines were foreign, repeated and refused.
-#[derive(Drop)]
-pub(crate) struct Verifying {
-    pub entries: Entries,
+/// How many lines of a list were foreign, repeated an earlier one and were refused.
+#[derive(Clone, Copy)]
+pub(crate) struct LineCounts {
     pub foreign: u64,
     pub repeated: u64,
     pub refused: u64,
+}
+
+/// What a run keeps of the lines: the members that were seen, and the counts.
+#[derive(Drop)]
+pub(crate) struct Verifying {
+    pub entries: Entries,
+    pub lines: LineCounts,
 }
 
 // The register of a run: what it keeps of the lines, and the desk on which they are laid. It is seen as what it keeps.
@@ -43,16 +49,18 @@ impl Model for VerifyRegister {
 impl VerifyRegister {
     // A register for the catalogue of an order. No line is entered.
     pub(crate) fn new(alloc: Global, order: u8) -> VerifyRegister
-        requires least { 2 ≤ order }
+        requires least { LEAST_LISTED_ORDER ≤ order }
         requires most { order ≤ LARGEST_LISTED_ORDER }
         ensures { result ≡ none_entered order }
     {
         VerifyRegister {
             kept: Verifying {
                 entries: Entries::new(alloc, order),
-                foreign: 0,
-                repeated: 0,
-                refused: 0,
+                lines: LineCounts {
+                    foreign: 0,
+                    repeated: 0,
+                    refused: 0,
+                },
             },
             desk: Desk::new(),
         }
@@ -87,7 +95,7 @@ impl Register for VerifyRegister {
             Ok(None) => Ok(Outcome::Accepted),
             Ok(Some(tiling)) => feed(&mut self.kept, number, tiling, buffer, out),
             Err(refused) => {
-                self.kept.refused += 1;
+                self.kept.lines.refused += 1;
                 write_line_refused(number, &refused, buffer);
                 out.write_all(buffer.as_slice())?;
                 Ok(Outcome::Refused)
@@ -125,13 +133,13 @@ fn feed<O: Sink>(
         Err(NoMemory) => Ok(Outcome::NoMemory),
         Ok(Fed::New) => Ok(Outcome::Accepted),
         Ok(Fed::Repeats { line: first }) => {
-            state.repeated += 1;
+            state.lines.repeated += 1;
             write_repeats(number, first, buffer);
             out.write_all(buffer.as_slice())?;
             Ok(Outcome::Accepted)
         }
         Ok(Fed::Foreign) => {
-            state.foreign += 1;
+            state.lines.foreign += 1;
             write_foreign(number, buffer);
             out.write_all(buffer.as_slice())?;
             Ok(Outcome::Accepted)

@@ -1,7 +1,7 @@
 //! The entries of a list, held against a catalogue: what each of them is, and what is kept of them.
 
 ghost use Rattle.std.specs.Prelude.{IfOk, MatchOption, OnErr, [], length, ◌≡◌, ◌≤◌};
-ghost use Rattle.bk_word.specs.declared.TheConstants.{INLINE_ORDER, LARGEST_LISTED_ORDER};
+ghost use Rattle.bk_word.specs.declared.TheConstants.{INLINE_ORDER, LARGEST_LISTED_ORDER, LEAST_LISTED_ORDER};
 ghost use Rattle.bk_verify_report.specs.KeptEntries.{IsFed, IsFirstSight, IsKeptFrom, AreKeptEntries, IsNotKept};
 
 use crate::kept::KeptMembers;
@@ -47,7 +47,7 @@ impl Model for Entries {
 impl Entries {
     /// No entries yet, against the catalogue of an order, which is 2 to 16. It takes no memory.
     pub fn new(alloc: Global, order: u8) -> Entries
-        requires least { 2 ≤ order }
+        requires least { LEAST_LISTED_ORDER ≤ order }
         requires most { order ≤ LARGEST_LISTED_ORDER }
         ensures { result ≡ record { order = order; pairs = [] } }
     {
@@ -83,7 +83,7 @@ impl Entries {
     /// The order of the catalogue, which is 2 to 16.
     pub fn order(&self) -> u8
         ensures order { result ≡ self.now.order }
-        ensures least { 2 ≤ result }
+        ensures least { LEAST_LISTED_ORDER ≤ result }
         ensures most { result ≤ LARGEST_LISTED_ORDER }
     {
         self.order

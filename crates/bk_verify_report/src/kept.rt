@@ -63,11 +63,7 @@ impl KeptMembers {
         requires { length tiling.now.squares ≤ INLINE_ORDER }
         ensures { MatchOption result (IsNotKept self.now tiling.now) (IsKeptFrom self.now tiling.now) }
     {
-        let key = flat_of(tiling);
-        match self.entries.get(&key) {
-            Some(seen) => Some(seen.line),
-            None => None,
-        }
+        self.entries.get(&flat_of(tiling)).map(|seen| seen.line)
     }
 
     // Keeps a tiling that isn't kept, from a line.
@@ -104,10 +100,9 @@ fn seen_on(line: u64, tiling: &Tiling) -> Seen
     requires { length tiling.now.squares ≤ INLINE_ORDER }
     ensures { IsSeenOf line result tiling.now }
 {
-    let mut squares = ArrayVec::new();
-    for q in tiling.squares() {
-        squares.push(*q);
-    }
+    let Ok(squares) = ArrayVec::try_from(tiling.squares()) else {
+        unreachable!();
+    };
     Seen {
         line,
         height: tiling.height(),

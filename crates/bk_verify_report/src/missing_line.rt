@@ -1,4 +1,4 @@
-//! What is written behind the lines of a list.
+//! The line of a missing member.
 
 ghost use Rattle.std.specs.Io.KnownBytes.{Appends};
 ghost use Rattle.std.specs.Prelude.{OnErr, OnOk, length, ◌<◌, ◌≡◌};

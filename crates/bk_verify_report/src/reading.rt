@@ -3,7 +3,7 @@
 ghost use Rattle.std.specs.Prelude.{IfErr, IfOk, OnOk, ◌≡◌, ◌≤◌};
 ghost use Rattle.bk_ports.specs.Ending.{EndsWith, streams_between};
 ghost use Rattle.bk_ports.specs.Faults.{CountsTell, IsCalm, IsDoneOrWanting, faults_between};
-ghost use Rattle.bk_word.specs.declared.TheConstants.{LARGEST_LISTED_ORDER};
+ghost use Rattle.bk_word.specs.declared.TheConstants.{LARGEST_LISTED_ORDER, LEAST_LISTED_ORDER};
 ghost use Rattle.bk_verify_report.specs.ListReading.{IsListRead};
 ghost use Rattle.bk_verify_report.specs.VerifyRun.{report_of};
 
@@ -20,7 +20,7 @@ pub(crate) fn read_list<S: Source, O: Sink>(
     source: &mut S,
     out: &mut O,
 ) -> Result<Verifying, Ended>
-    requires least { 2 ≤ order }
+    requires least { LEAST_LISTED_ORDER ≤ order }
     requires most { order ≤ LARGEST_LISTED_ORDER }
 
     // Where all lines were read, no read and no write has failed.

@@ -3,7 +3,7 @@
 ghost use Rattle.std.specs.Prelude.{◌≤◌};
 ghost use Rattle.bk_ports.specs.Ending.{EndsWith, streams_between};
 ghost use Rattle.bk_ports.specs.Faults.{CountsTell, IsCalm, IsDoneOrWanting, faults_between};
-ghost use Rattle.bk_word.specs.declared.TheConstants.{LARGEST_LISTED_ORDER};
+ghost use Rattle.bk_word.specs.declared.TheConstants.{LARGEST_LISTED_ORDER, LEAST_LISTED_ORDER};
 ghost use Rattle.bk_verify_report.specs.VerifyRun.{report_of};
 
 use crate::closing::close_report;
@@ -20,15 +20,17 @@ use std::sync::ledger::Blank;
 /// ascending; and a last line with five counts. A list is held against the catalogue up to scale, turns and mirrors.
 /// That there is a catalogue to hold it against is of Bouwkamp and Duijvestijn; the report is this project's own.
 ///
-/// The run ends as one of which none is refused where the list and the catalogue are the same: nothing is missing,
-/// foreign, repeated or refused. Memory may be wanting at a line whose entry would be new alone.
+/// If the whole report is written and no write fails, the run ends with `NoneRefused` if nothing is missing, foreign,
+/// repeated or refused, and with `SomeRefused` if something is. Otherwise it ends with `ReadFailed` or `WriteFailed`
+/// after a failed read or write, with `TooMany` if the input has more than 2^30 bytes, or with `NoMemory`, which comes
+/// only at a line whose tiling stands for a member that isn't kept yet.
 pub fn verify<M: Members, S: Source, O: Sink>(
     alloc: Global,
     order: u8,
     source: &mut S,
     out: &mut O,
 ) -> Ended
-    requires least { 2 ≤ order }
+    requires least { LEAST_LISTED_ORDER ≤ order }
     requires most { order ≤ LARGEST_LISTED_ORDER }
 
     // What each ending says of the bytes.

@@ -12,4 +12,5 @@ pub mod GoingTo
 pub mod LeapStates
 pub mod LeapingExamples
 -- What a walk answers.
+pub mod PlayedMoves
 pub mod Answering

@@ -17,7 +17,7 @@ use Rattle.bk_tree_walk.proofs.Advancing.{entry_word}
 use Rattle.bk_walk.specs.Leaping.{Tells, TellsOfPlace}
 use Rattle.bk_tree_walk.specs.Search.{IsKeptSearch, IsReady, SearchState, place_of}
 use Rattle.bk_walk.specs.declared.table_answer.TableAnswer.{TableAnswer}
-use Rattle.bk_walk.specs.declared.table_answer.TableAnswer.TheVariants.{Next, NoMore, Nothing}
+use Rattle.bk_walk.specs.declared.table_answer.TableAnswer.TheVariants.{Next, NoMore, Unknown}
 
 -- the place is a word of the tree
 module _ (n : ℕ) (class : Class) (place : Word) (legal : IsLegal place) (small : order_of place ≤ n) (most : n ≤ 16) where
@@ -40,7 +40,7 @@ module _ (n : ℕ) (class : Class) (place : Word) (legal : IsLegal place) (small
         (omega (arith, t.number_is, t.least other is (of_order other is from)));
   }
   tells_of_place NoMore none = λ e is from. none e is (of_order e is from)
-  tells_of_place Nothing t = tt
+  tells_of_place Unknown t = tt
 
 -- what is told by the number of a search's place
 pub tells_here : (s : SearchState) (front : Word) (next : Move) (n : ℕ) (class : Class) (number : ℕ) (told : TableAnswer) → IsKeptSearch s → IsReady s

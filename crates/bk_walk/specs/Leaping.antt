@@ -13,7 +13,7 @@ use Rattle.bk_tree_walk.specs.Search.{SearchState, StaysOf, StepLeadsTo}
 use Rattle.bk_tree_walk.specs.declared.Went.{Went}
 use Rattle.bk_tree_walk.specs.declared.Went.TheVariants.{Met}
 use Rattle.bk_walk.specs.declared.table_answer.TableAnswer.{TableAnswer}
-use Rattle.bk_walk.specs.declared.table_answer.TableAnswer.TheVariants.{Next, NoMore, Nothing}
+use Rattle.bk_walk.specs.declared.table_answer.TableAnswer.TheVariants.{Next, NoMore, Unknown}
 
 -- the least number of a member's word that isn't below a number
 pub record IsLeastNumber (n : ℕ) (class : Class) (bound number : ℕ) : Type 0 where
@@ -27,7 +27,7 @@ pub record IsLeastNumber (n : ℕ) (class : Class) (bound number : ℕ) : Type 0
 abbrev pub Tells : ℕ → Class → ℕ → TableAnswer → Type 0
 Tells n class bound (Next number) = IsLeastNumber n class bound number
 Tells n class bound NoMore = (e : Entry) → IsEntry n class e → bound ≤ packed e.word → ⊥
-Tells n class bound Nothing = ⊤
+Tells n class bound Unknown = ⊤
 
 -- the least word of a member that isn't before a place, by its number
 pub record IsNextFrom (n : ℕ) (class : Class) (place : Word) (number : ℕ) : Type 0 where
@@ -42,7 +42,7 @@ pub record IsNextFrom (n : ℕ) (class : Class) (place : Word) (number : ℕ) : 
 abbrev pub TellsOfPlace : ℕ → Class → Word → TableAnswer → Type 0
 TellsOfPlace n class place (Next number) = IsNextFrom n class place number
 TellsOfPlace n class place NoMore = (e : Entry) → IsEntry n class e → (Follows place e.word → ⊥) → ⊥
-TellsOfPlace n class place Nothing = ⊤
+TellsOfPlace n class place Unknown = ⊤
 
 -- the number is that of a legal word of the order that begins with these moves
 pub record GoesToWord (n : ℕ) (front : Word) (number : ℕ) : Type 0 where

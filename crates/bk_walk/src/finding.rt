@@ -1,4 +1,4 @@
-//! The members of which a search meets a word of an image.
+//! How members are found: a search meets words of their images, and their numbers are put into a table.
 
 ghost use Rattle.std.specs.Prelude.{IsSome, IsTrue, None, [], ℕ, ◌<◌, ◌≡◌, ◌≤◌};
 ghost use Rattle.bk_tiling.specs.Tiling.{IsTiling, Tiling as Tiled, order};
@@ -21,7 +21,7 @@ ghost use Rattle.bk_free_search.specs.SeenCounts.{seen_counts};
 ghost use Rattle.bk_walk.specs.Finding.{HasMoreMembers, HasOnlyMembers, IsHeld, Puts, wanted};
 
 use bk_catalogue::is_simple_of;
-use bk_found::{Placed, Ties, best_turn, leaf, lying_size, turned_squares};
+use bk_found::{Placed, Ties, best_turn, candidate_of, lying_size, turned_squares};
 use bk_free_search::{Board, Counts, Leaves};
 use bk_lay::Laying;
 use bk_packed::{NumberTable, Packed};
@@ -243,17 +243,14 @@ fn placed_at(board: &Board, class: Class) -> Option<Placed>
     if lies_better(&counts) {
         return None;
     }
-    leaf(board.skel(), board.lefts(), ties_of(&counts), class)
+    candidate_of(board.skel(), board.lefts(), ties_of(&counts), class)
 }
 
 // Whether the counts are such that another image, with columns and levels exchanged, is met in place of this one.
 fn lies_better(counts: &Counts) -> bool
     ensures { IsTrue result → AreSettledCounts (seen_counts counts.now) → ⊥ }
 {
-    if !is_half(counts) {
-        return false;
-    }
-    counts.right == counts.top && counts.left > counts.bottom
+    counts.is_half() && counts.right == counts.top && counts.left > counts.bottom
 }
 
 // Which of these counts tie.
@@ -267,25 +264,11 @@ fn ties_of(counts: &Counts) -> Ties
     }
 }
 
-// Whether the counts are those of an image that lies where this one stands: the nodes are half of three more than the
-// squares, and as many squares lie at the right as at the top, and at the left as at the bottom.
+// Whether the image with columns and levels exchanged has the same counts, so that both may be met.
 fn is_turned_alike(counts: &Counts) -> bool
     ensures half { IsTrue result → IsHalf (seen_counts counts.now) }
     ensures right { IsTrue result → counts.now.right ≡ counts.now.top }
     ensures left { IsTrue result → counts.now.left ≡ counts.now.bottom }
 {
-    if !is_half(counts) {
-        return false;
-    }
-    counts.right == counts.top && counts.left == counts.bottom
-}
-
-// Whether the moves are half of one more than the squares.
-fn is_half(counts: &Counts) -> bool
-    ensures { IsTrue result → IsHalf (seen_counts counts.now) }
-{
-    if counts.moves == 0 || counts.squares < counts.moves {
-        return false;
-    }
-    counts.squares - counts.moves == counts.moves - 1
+    counts.is_half() && counts.right == counts.top && counts.left == counts.bottom
 }

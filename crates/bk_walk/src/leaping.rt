@@ -9,11 +9,11 @@ ghost use Rattle.bk_walk.specs.Leaping.{GoesToWord, IsAtNumber, IsNextFrom};
 use bk_packed::{read_next, shared_moves};
 use bk_play::Steps;
 use bk_tree_walk::TreeWalk;
-use bk_walk_cuts::first_move;
+use bk_word::Move;
 use std::sync::ledger::Ledger;
 
 // Goes to the word of this number, that of the least member's word that isn't before the place: takes back the moves
-// with which it doesn't begin, and plays the others.
+// with which it doesn't begin, and pushes the others.
 pub(crate) fn leap<L: Ledger>(tree: &mut TreeWalk, number: u128, steps: &mut Steps<L>)
     requires ready { IsReady tree.old }
     requires next { IsNextFrom tree.old.order tree.old.class (place_of tree.old) number }
@@ -26,7 +26,7 @@ pub(crate) fn leap<L: Ledger>(tree: &mut TreeWalk, number: u128, steps: &mut Ste
     go_to(tree, number, steps);
 }
 
-// Plays the moves by which the word of this number goes on.
+// Pushes the moves by which the word of this number goes on.
 fn go_to<L: Ledger>(tree: &mut TreeWalk, number: u128, steps: &mut Steps<L>)
     requires goes { GoesToWord tree.old.order tree.old.front number }
     requires known { tree.old.pushes < 2 ^ 64 }
@@ -35,9 +35,9 @@ fn go_to<L: Ledger>(tree: &mut TreeWalk, number: u128, steps: &mut Steps<L>)
     ensures stays { StaysOf tree.old tree.new steps.old steps.new }
 {
     let order = usize::from(tree.order());
-    let mut next = first_move();
+    let mut next = Move::empty();
     'moves: while tree.skel().order() < order {
         read_next(tree.skel(), number, &mut next);
-        tree.play(&next, steps);
+        tree.push(&next, steps);
     }
 }

@@ -47,7 +47,7 @@ impl<const N: usize> MemberTable<N> {
 
     /// The table of the members of this order and class, from a number on: it is whole up to its bound. Each of them
     /// whose packed word isn't below this number has it in the table, or, where the table was cut, above the greatest
-    /// that is kept.
+    /// that is kept. The order is 3 to 16.
     pub fn of(order: u8, class: Class, from: u128) -> MemberTable<N>
         requires least { 3 ≤ order }
         requires most { order ≤ LARGEST_LISTED_ORDER }
@@ -61,7 +61,8 @@ impl<const N: usize> MemberTable<N> {
         table
     }
 
-    /// Becomes the table of the members of this order and class, from a number on, in the room that it has.
+    /// Becomes the table of the members of this order and class, from a number on, in the room that it has. The order
+    /// is 3 to 16.
     #[inline(never)]
     pub fn fill(&mut self, order: u8, class: Class, from: u128)
         requires least { 3 ≤ order }

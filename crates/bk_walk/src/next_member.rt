@@ -8,7 +8,9 @@ ghost use Rattle.bk_walk.specs.Leaping.{IsStep, TellsOfPlace};
 
 use crate::MemberTable;
 use crate::leaping::leap;
-use crate::table_answer::{LEAST_TABLED_ORDER, PATIENCE, TableAnswer, answer_of_table};
+use crate::table_answer::{
+    LEAST_TABLED_ORDER, PUSHES_BEFORE_A_TABLE, TableAnswer, answer_of_table,
+};
 use bk_packed::number_with;
 use bk_play::Steps;
 use bk_tiling::Tiling;
@@ -66,7 +68,7 @@ fn step_when_ready<const ROOM: usize, L: Ledger>(
     ensures { IsStep tree.old steps.old (record { tree = tree.new; steps = steps.new; tiling = tiling.new }) result }
 {
     match consult_table(tree, table) {
-        TableAnswer::Nothing => tree.walk_on(steps, tiling),
+        TableAnswer::Unknown => tree.walk_on(steps, tiling),
         TableAnswer::Next(number) => {
             leap(tree, number, steps);
             tree.realise(tiling);
@@ -85,12 +87,12 @@ fn consult_table<const ROOM: usize>(tree: &TreeWalk, table: &mut MemberTable<ROO
     requires { IsReady tree.now }
     ensures { TellsOfPlace tree.now.order tree.now.class (place_of tree.now) result }
 {
-    if ROOM == 0 || tree.pushes() < PATIENCE || tree.order() < LEAST_TABLED_ORDER {
-        return TableAnswer::Nothing;
+    if ROOM == 0 || tree.pushes() < PUSHES_BEFORE_A_TABLE || tree.order() < LEAST_TABLED_ORDER {
+        return TableAnswer::Unknown;
     }
     let number = number_with(tree.skel(), tree.next());
     match answer_of_table(table, tree.order(), tree.class(), number) {
-        TableAnswer::Nothing => {
+        TableAnswer::Unknown => {
             table.fill(tree.order(), tree.class(), number);
             answer_of_table(table, tree.order(), tree.class(), number)
         }

@@ -7,15 +7,15 @@ ghost use Rattle.bk_walk.specs.Leaping.{Tells};
 use crate::MemberTable;
 use bk_word::Class;
 
-/// The table of a walk has room for so many members: for all of an order up to 16.
+/// The most members that the table of a walk has room for: enough for all of an order up to 16.
 pub const MOST_MEMBERS: usize = 10_240;
 
-/// The least order of which a walk makes a table. Walks of lower orders push few moves, so a listing that is cut and
-/// continued pushes hardly more of them than a whole one.
+/// The least order of which a walk makes a table. Walks of lower orders push few moves, so a listing that is stopped
+/// and continued pushes hardly more of them than a whole one.
 pub(crate) const LEAST_TABLED_ORDER: u8 = 10;
 
-/// A walk pushes so many moves before it makes a table, so that one that is done with fewer makes none.
-pub(crate) const PATIENCE: u64 = 128;
+/// How many moves a walk pushes before it makes a table.
+pub(crate) const PUSHES_BEFORE_A_TABLE: u64 = 128;
 
 // What a table tells of the members whose numbers aren't below a number.
 #[derive(Clone, Copy)]
@@ -25,7 +25,7 @@ pub(crate) enum TableAnswer {
     // there is none
     NoMore,
     // it doesn't tell
-    Nothing,
+    Unknown,
 }
 
 // What the table tells of the members of this order and class whose numbers aren't below this one. A table of another
@@ -40,13 +40,13 @@ pub(crate) fn answer_of_table<const ROOM: usize>(
     ensures { Tells order class number result }
 {
     if table.order() != order || table.class() != class || number < table.from() {
-        return TableAnswer::Nothing;
+        return TableAnswer::Unknown;
     }
     match table.next_from(number) {
         Some(next) => TableAnswer::Next(next),
         None => {
             if table.is_cut() {
-                TableAnswer::Nothing
+                TableAnswer::Unknown
             } else {
                 TableAnswer::NoMore
             }

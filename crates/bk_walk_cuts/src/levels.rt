@@ -13,15 +13,14 @@ ghost use Rattle.bk_walk_cuts.specs.SideForms.{sum_of_sides as sum_seen, zero_fo
 ghost use Rattle.bk_walk_cuts.specs.Trace.{AreFewSmall, IsSmall};
 
 use arrayvec::ArrayVec;
-use bk_catalogue::first_above;
 use bk_forms::Form;
 use bk_play::Skel;
 use bk_word::Move;
 
-// The first moves are followed while at most so many squares hang.
+// The most squares that hang while the first moves are followed.
 pub(crate) const FOLLOWED: usize = 5;
 
-// A move compares at most so many levels: of its squares, and of the segments beside the valley.
+// The most levels that a move compares: of its squares, and of the segments beside the valley.
 pub(crate) const MOST_LEVELS: usize = 7;
 
 // The sum of the sides of the squares with these numbers, from 1.
@@ -97,7 +96,7 @@ pub(crate) fn levels_along(bottoms: &[Form], skel: &Skel, m: &Move) -> ArrayVec<
     ensures { result.items ≡ levels_seen (outline_of skel.now) m.now bottoms.now }
 {
     let level = level_of(bottoms, skel.valley_squares());
-    let place = first_above(skel.signs());
+    let (signs, place) = (skel.signs(), skel.valley_place());
     let mut levels = ArrayVec::new();
     push_beside(
         &mut levels,
@@ -107,13 +106,7 @@ pub(crate) fn levels_along(bottoms: &[Form], skel: &Skel, m: &Move) -> ArrayVec<
         place == 0,
     );
     push_bottoms(&mut levels, &level, skel.order(), m.count);
-    push_beside(
-        &mut levels,
-        bottoms,
-        skel,
-        place + 1,
-        place == skel.signs().len(),
-    );
+    push_beside(&mut levels, bottoms, skel, place + 1, place == signs.len());
     levels
 }
 

@@ -6,7 +6,7 @@ ghost use Rattle.bk_word.specs.Word.{order_of};
 ghost use Rattle.bk_word.specs.declared.Class.{Class};
 ghost use Rattle.bk_walk_cuts.specs.MoveCuts.{IsCut, passed};
 
-use bk_catalogue::{first_above, first_over, unders_behind};
+use bk_catalogue::{first_over, unders_behind};
 use bk_play::Skel;
 use bk_word::Move;
 
@@ -18,7 +18,7 @@ pub(crate) fn cut_owing(skel: &Skel, order: u8, m: &Move) -> Option<usize>
 {
     let left = usize::from(order) - skel.order() - usize::from(m.count);
     let signs = skel.signs();
-    let place = first_above(signs);
+    let place = skel.valley_place();
     let room = left.saturating_sub(unders_behind(signs, place));
     first_over(&signs[..place.saturating_sub(1)], m.signs.as_slice(), room)
 }

@@ -164,10 +164,12 @@ impl Tracing {
 fn binds_earlier(m: &Move) -> bool
     ensures { result ≡ brings_more m.now }
 {
-    let mut even = 0;
-    for sign in m.signs.as_slice() {
-        even += usize::from(sign.is_even());
-    }
+    let even = m
+        .signs
+        .as_slice()
+        .iter()
+        .filter(|sign| sign.is_even())
+        .count();
     even >= usize::from(m.count)
 }
 

@@ -1,4 +1,4 @@
-//! Words: lists of moves that hang squares under valleys.
+//! Words: lists of moves that hang squares under valleys; also the classes, and the orders that are listed.
 #![tactic(auto)]
 
 ghost use Rattle.std.specs.Prelude.{IfOk, IsOk, OnErr, OnOk, Some, [], length, slice_get, take, ◌+◌, ◌++◌, ◌-◌, ◌<◌};
@@ -27,19 +27,22 @@ use storage::{append_move, count_place, counts, signs_at, sum_of_counts};
 use thiserror::Error;
 pub use writer::{LONGEST_WORD_TEXT, write_word};
 
-/// A word hangs at most so many squares.
+/// The most squares that a word hangs.
 pub const LARGEST_ORDER: usize = 200;
 
-/// A move has at most so many signs.
+/// The most signs that a move has.
 pub const MOST_SIGNS: usize = LARGEST_ORDER + 1;
 
-/// The catalogues of the orders from 2 to this are listed.
+/// The least order of a catalogue that is listed.
+pub const LEAST_LISTED_ORDER: usize = 2;
+
+/// The largest order of a catalogue that is listed.
 pub const LARGEST_LISTED_ORDER: usize = 16;
 
-/// A word of at most so many squares takes no memory: none of a catalogue that is listed does.
+/// A word of at most this many squares takes no memory; each word of a catalogue that is listed is one.
 pub const INLINE_ORDER: usize = LARGEST_LISTED_ORDER;
 
-// So many bytes of a word are kept without memory. A word of n squares has at most 3 n bytes.
+// How many bytes of a word are kept without memory. A word of n squares has at most 3 n bytes.
 pub(crate) const INLINE_BYTES: usize = 64;
 
 /// How the left one of two neighbouring bottoms stands to the right one.
@@ -126,8 +129,9 @@ impl Word {
         }
     }
 
-    /// Appends a move. Where there is no memory the word is as it was. It takes none where the word then has at most 64
-    /// bytes, a byte for each count and each sign, and so none where the order is then at most 16.
+    /// Appends a move. It must be one that can stand in a word, and the order at most 200 then. Where there is no
+    /// memory the word is as it was. It takes none where the word then has at most 64 bytes, a byte for each count and
+    /// each sign, and so none where the order is then at most 16.
     pub fn push(&mut self, m: &Move) -> Result<(), NoMemory>
         requires stands { CanStand m.now }
         requires few { order_of self.old + m.now.count ≤ LARGEST_ORDER }
@@ -162,7 +166,7 @@ impl Word {
         counts(self.bytes.as_slice())
     }
 
-    /// The move at place i, from 0.
+    /// The move at place i, from 0. There must be one.
     pub fn get(&self, i: usize) -> Move
         requires { i < length self.now }
         ensures value { slice_get self.now i ≡ Some result }

@@ -1,6 +1,6 @@
 -- Squares laid move by move, and the outline that shows them. Squares are numbered from 1 in the order of laying.
--- Example (BoardExamples of bk_skel): after 2u.2eu a square of side 1 fills the valley of square 4, and one of side 2
--- does not.
+-- Example (PartlyLaidExamples of bk_skel): after 2u.2eu a square of side 1 fills the valley of square 4, and one of
+-- side 2 doesn't.
 use Rattle.std.specs.List.{AllByRecursion, AllZip, concat}
 use Rattle.std.specs.Prelude.{List, [], drop, length, map, slice_index_or, suc, sum, take, true, ℕ, ◌++◌, ◌+◌, ◌-◌, ◌<◌}
 use Rattle.std.specs.Prelude.{◌≡◌, ◌≤◌, ◌⊎◌}

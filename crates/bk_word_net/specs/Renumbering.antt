@@ -9,12 +9,12 @@ use Rattle.bk_word.specs.Word.{Word}
 use Rattle.bk_lay.specs.TilingWord.{IsWordOf}
 use Rattle.bk_word_net.specs.WordNet.{net_of_word}
 
--- node and wire take each number of one net to another number below the same bound, no two to one
+-- f takes each number below n to a number below n, and no two to the same one
 pub record IsOneToOneBelow (n : ℕ) (f : ℕ → ℕ) : Type 0 where
   pub below : (k : ℕ) → k < n → f k < n
   pub apart : (j k : ℕ) → j < n → k < n → f j ≡ f k → j ≡ k
 
--- two nets are one but for the numbers of nodes and wires; the first and the last node keep their places
+-- two nets differ in the numbers of nodes and wires alone; the first and the last node keep theirs
 pub record IsRenumbering (m n : Net) (node wire : ℕ → ℕ) : Type 0 where
   pub nodes : m.nodes ≡ n.nodes
   pub wires : length m.wires ≡ length n.wires

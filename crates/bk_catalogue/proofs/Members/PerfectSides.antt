@@ -2,12 +2,11 @@
 use Rattle.std.specs.Prelude.{AllPairs}
 use Rattle.std.proofs.Common.{List, Some, [], ap, arith, get_or, inl, inr, length, slice_get, subst, suc, sym, zero, ℕ, ◌<◌, ◌∙◌, ◌∷◌, ◌≡◌, ◌≢◌}
 use Rattle.bk_tiling.proofs.Cells.{column_from, depth_reaches, in_all}
-use Rattle.bk_tiling.proofs.TilingLaws.{side_of, within_of}
+use Rattle.bk_tiling.proofs.TilingLaws.{own_cell, side_of, within_of}
 use Rattle.bk_tiling.specs.Column.{depth}
 use Rattle.bk_tiling.specs.declared.Square.{Square}
 use Rattle.bk_tiling.specs.Tiling.{IsOneOf, IsTiling, Tiling}
 use Rattle.bk_simple.specs.Simple.{IsPerfect}
-use Rattle.bk_lay.proofs.SquaresOnce.{own_cell}
 use Rattle.bk_lay.proofs.WordPlay.{NoneTwice, none_twice}
 use Rattle.bk_lay.specs.Depiction.{FillsFromTop}
 

@@ -4,7 +4,7 @@ use Rattle.std.proofs.Common.{List, [], ap, arith, inl, inr, length, refl, subst
 use Rattle.std.proofs.lemmas.Bool.{cases_lt}
 use Rattle.bk_laws.proofs.ZippedLists.{zip_length}
 use Rattle.bk_tiling.proofs.Cells.{column_from, column_left, column_right, counted_one, depth_comes_from, depth_reaches, in_all, no_two, over_from}
-use Rattle.bk_tiling.proofs.TilingLaws.{cell_once, side_of, wide_enough, within_of}
+use Rattle.bk_tiling.proofs.TilingLaws.{cell_once, own_cell, side_of, wide_enough, within_of}
 use Rattle.bk_tiling.specs.Column.{AreRuns, covers_column, depth}
 use Rattle.bk_tiling.specs.declared.Segment.{Segment}
 use Rattle.bk_tiling.specs.Tiling.{IsOneOf, IsTiling, IsWithin, Rectangle, Tiling, covers}
@@ -13,7 +13,7 @@ use Rattle.bk_simple.specs.Simple.{IsCompound}
 use Rattle.bk_word.specs.Outline.{start}
 use Rattle.bk_word.specs.Play.{outline_of}
 use Rattle.bk_word.specs.Word.{Word, order_of}
-use Rattle.bk_lay.proofs.SquaresOnce.{own_cell, squares_once}
+use Rattle.bk_lay.proofs.SquaresOnce.{squares_once}
 use Rattle.bk_lay.proofs.WordPlay.{NoneTwice, fewer, none_twice}
 use Rattle.bk_lay.specs.Depiction.{IsSegment}
 use Rattle.bk_lay.specs.TilingWord.{IsWordOf}

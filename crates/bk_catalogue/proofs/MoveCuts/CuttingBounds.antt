@@ -3,7 +3,7 @@ use Rattle.std.specs.List.{AllZip}
 use Rattle.std.proofs.Common.{List, [], arith, inl, inr, length, refl, subst, sym, ℕ, ◌++◌, ◌+◌, ◌∙◌, ◌∷◌, ◌≡◌, ◌≤◌}
 use Rattle.std.proofs.lemmas.List.{append-nil, append_assoc}
 use Rattle.bk_tiling.proofs.Cells.{covers_from, in_all, no_two}
-use Rattle.bk_tiling.proofs.TilingLaws.{cell_once, side_of, within_of}
+use Rattle.bk_tiling.proofs.TilingLaws.{cell_once, own_cell, side_of, within_of}
 use Rattle.bk_tiling.specs.Column.{AreRuns}
 use Rattle.bk_tiling.specs.declared.Segment.{Segment}
 use Rattle.bk_tiling.specs.Tiling.{IsOneOf, IsTiling, Tiling, covers}
@@ -12,7 +12,7 @@ use Rattle.bk_word.specs.Outline.{Outline, sizes_of, start}
 use Rattle.bk_word.specs.Play.{outline_of}
 use Rattle.bk_word.specs.Word.{Word, order_of}
 use Rattle.bk_word.specs.declared.Class.{Class}
-use Rattle.bk_lay.proofs.SquaresOnce.{own_cell, squares_once}
+use Rattle.bk_lay.proofs.SquaresOnce.{squares_once}
 use Rattle.bk_lay.proofs.LaidRuns.{one_of}
 use Rattle.bk_lay.proofs.WordPlay.{fewer}
 use Rattle.bk_lay.specs.Depiction.{IsSegment}

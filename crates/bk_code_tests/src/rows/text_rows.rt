@@ -1,4 +1,4 @@
-//! Worked rows, as tables.
+//! Rows of `bk_text`.
 
 use arrayvec::ArrayVec;
 use bk_text::*;

@@ -1,4 +1,4 @@
-//! Each command at its limits, and one call for each answer.
+//! Each command at its limits.
 
 use super::command_runs::*;
 use arrayvec::ArrayVec;

@@ -1,4 +1,4 @@
-//! Lists whose items are grouped or paired, as tables. The input comes in parts of eight bytes.
+//! Lists that are grouped, paired or verified, as tables. The input comes in parts of eight bytes.
 
 use super::command_runs::*;
 use super::command_words::words;

@@ -2,7 +2,7 @@ use Rattle.std.proofs.Common.{ap, arith, length, rules, ◌≡◌}
 use Rattle.std.specs.List.Sorted.{IsPartitionPoint}
 use Rattle.std.specs.Prelude.{false, true}
 use Rattle.std.proofs.lemmas.List.Sorted.{IsPartitionPoint-from_clause}
-use Rattle.bk_net.specs.CellOrder.{is_no_later}
+use Rattle.bk_tiling.specs.CodeOrder.{is_no_later}
 use Rattle.bk_net.proofs.SquareNumbers.{parted_at_cell}
 use Rattle.bk_dual.proofs.Numbers.{count_no_later}
 use Rattle.bk_dual.proofs.number_of.Goals as goal

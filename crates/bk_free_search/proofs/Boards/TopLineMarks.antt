@@ -1,7 +1,6 @@
 -- The squares at lines from the top, by the numbers of their left lines.
-use Rattle.std.proofs.Common.{Bool, IsTrue, List, [], ap, arith, cond, false, length, length-append, nat_eq, nat_le, refl, replicate, slice_index_or}
+use Rattle.std.proofs.Common.{Bool, List, [], ap, arith, cond, false, length, length-append, nat_eq, refl, replicate, slice_index_or}
 use Rattle.std.proofs.Common.{subst, suc, sym, true, zero, ℕ, ◌++◌, ◌+◌, ◌-◌, ◌<◌, ◌∙◌, ◌∷◌, ◌≡◌, ◌≤◌}
-use Rattle.std.proofs.lemmas.Bool.Decides.{nat_tests}
 use Rattle.std.proofs.lemmas.List.{length-replicate, map-append}
 use Rattle.bk_laws.proofs.NumberTests.{nat_eq-not_zero, nat_le-both_of_le, nat_le-not_both}
 use Rattle.bk_word.specs.Outline.{Outline, start, valley_of}
@@ -101,12 +100,9 @@ first_more (n ∷ w) more m e hung first then_first legal h before now =
 
 -- a line at the left of the valley that comes from the top, by its number
 pub left_on_line : (w : Word) (squares : List ℕ) (line top : ℕ) → squares ≡ valley_of (outline_of w) → (v : Word) → v ≡ w → IsLegal v
-    → line ≡ left_end (square_lines w) squares → top ≡ first_count w → 2 ≤ line → IsTrue (nat_le line top)
+    → line ≡ left_end (square_lines w) squares → top ≡ first_count w → is_top_line top line ≡ true
     → begins_on_line (edges_on_lines w) (valley_of (outline_of w)) ≡ true
-left_on_line w squares line top are v same legal line_is top_is least most = (λ i. begins_on_line (marks_of_lefts w (subst (λ
-    (u : Word). IsLegal u) same legal) i)
-    (sym are i)) ∙ sym (segment_top (first_count w) (lefts_of w) squares) ∙ ap (is_top_line (first_count w)) (sym (line_is ∙ end_left (square_lines w) squares))
-    ∙ nat_le-both_of_le 2 line line (first_count w) least (omega (arith, told line top most, top_is))
-  where
-    told : (a b : ℕ) → IsTrue (nat_le a b) → a ≤ b
-    told a b e = grind (arith, nat_tests)
+left_on_line w squares line top are v same legal line_is top_is told =
+    (λ i. begins_on_line (marks_of_lefts w (subst (λ (u : Word). IsLegal u) same legal) i) (sym are i))
+    ∙ sym (segment_top (first_count w) (lefts_of w) squares)
+    ∙ (λ i. is_top_line (sym top_is i) (sym (line_is ∙ end_left (square_lines w) squares) i)) ∙ told

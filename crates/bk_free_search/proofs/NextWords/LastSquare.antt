@@ -11,7 +11,7 @@ use Rattle.bk_word.specs.Play.{AreLegalFrom, IsLegal, outline_of}
 use Rattle.bk_word.specs.Signs.{is_even}
 use Rattle.bk_word.specs.Word.{Move, Word, order_of}
 use Rattle.bk_word.specs.declared.Sign.{Sign}
-use Rattle.bk_word.specs.declared.Sign.TheVariants.{Above, Even, Under}
+use Rattle.bk_word.specs.declared.Sign.TheVariants.{Even}
 use Rattle.bk_word.proofs.PlayLaws.{after-snoc, legal_front}
 use Rattle.bk_word.proofs.StoredBytes.{order_append, order_more}
 use Rattle.bk_word_net.proofs.Outlines.OutlineParts.{left_open, many_segments, right_open}
@@ -20,7 +20,7 @@ use Rattle.bk_word_net.proofs.Outlines.ValleyCut.{AtValley}
 use Rattle.bk_catalogue.proofs.HangingBounds.BoundsOfWords.{shape_of_word}
 use Rattle.bk_layout.specs.NodeCut.{ShareANode}
 use Rattle.bk_layout.proofs.NormalCuts.FewMoves.{a_move_hangs_at_walls, first_kept}
-use Rattle.bk_layout.proofs.NormalCuts.LastMoves.{a_move_leaves_segments, one_square_goes_on_even, too_many_at_left_is_normal_barren}
+use Rattle.bk_layout.proofs.NormalCuts.LastMoves.{a_move_leaves_segments, even_throughout, one_square_goes_on_even, too_many_at_left_is_normal_barren}
 use Rattle.bk_layout.proofs.NormalCuts.LastMoves.{too_many_at_right_is_normal_barren, too_wide_bottom_is_normal_barren}
 use Rattle.bk_layout.proofs.NormalCuts.MovesLeft.{legal}
 use Rattle.bk_layout.proofs.FreeCuts.SquaresLeft.{evens-cons, evens_most}
@@ -190,12 +190,6 @@ last_legal o m sides one even is = record {
 
 -- ---- the words that are sought
 
-all_even : (signs : List Sign) → count_by is_even signs ≡ length signs → signs ≡ replicate (length signs) Even
-all_even [] e = refl
-all_even (Above ∷ signs) e = absurd (omega (arith, e, evens-cons Above signs, evens_most signs))
-all_even (Under ∷ signs) e = absurd (omega (arith, e, evens-cons Under signs, evens_most signs))
-all_even (Even ∷ signs) e = ap (λ (ss : List Sign). Even ∷ ss) (all_even signs (omega (arith, e, evens-cons Even signs)))
-
 -- a legal move of one square is even with all neighbours of the valley
 pub is_even_square : (o : Outline) (m : Move) → IsLegalMove o m → m.count ≡ 1 → m.signs ≡ replicate (length m.signs) Even → m ≡ even_square o
 is_even_square o m move one even = λ i. record { count = one i; signs = signs i }
@@ -234,4 +228,4 @@ last_is_whole n front w sought one on = same ∙ ap (λ (k : Move). front ++ k �
     )
 
     square : (h).move ≡ even_square (outline_of front)
-    square = is_even_square (outline_of front) (h).move (h).legal count (all_even (h).move.signs even)
+    square = is_even_square (outline_of front) (h).move (h).legal count (even_throughout (h).move.signs even)

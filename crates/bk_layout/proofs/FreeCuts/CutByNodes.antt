@@ -1,9 +1,9 @@
 -- The cut by lines that share a node, from the numbers of lines that a word gives.
-use Rattle.std.proofs.Common.{List, Some, [], ap, arith, inl, inr, length, refl, replicate, slice_get, subst, suc, sym, ℕ, ◌++◌, ◌-◌, ◌<◌, ◌∙◌, ◌∷◌}
+use Rattle.std.proofs.Common.{Some, [], ap, arith, inl, inr, length, refl, slice_get, subst, suc, sym, ℕ, ◌++◌, ◌-◌, ◌<◌, ◌∙◌, ◌∷◌}
 use Rattle.std.proofs.Common.{◌≡◌, ◌≤◌, ◌⊎◌}
-use Rattle.std.proofs.lemmas.List.{length-append, length-map, length-replicate}
-use Rattle.bk_word.specs.Outline.{Outline, start, valley_of}
-use Rattle.bk_word.specs.Play.{AreLegalFrom, after_move, after_moves, outline_of}
+use Rattle.std.proofs.lemmas.List.{length-map}
+use Rattle.bk_word.specs.Outline.{Outline, start}
+use Rattle.bk_word.specs.Play.{AreLegalFrom, after_move, outline_of}
 use Rattle.bk_word.specs.Word.{Word, order_of}
 use Rattle.bk_word_net.proofs.Outlines.Numbering.{numbered_start}
 use Rattle.bk_word_net.proofs.Outlines.Shape.{hung_many}
@@ -11,28 +11,17 @@ use Rattle.bk_layout.specs.Layout.{Layout}
 use Rattle.bk_layout.specs.LayoutLaws.{HangByNodesFrom, IsWordOfLayout}
 use Rattle.bk_word.proofs.PlayLaws.{legal_front}
 use Rattle.bk_layout.proofs.FreeCuts.InnerLines.{AllKnown, IsKnown, known_along, known_at}
-use Rattle.bk_layout.proofs.FreeCuts.NumberedLines.{AllStand, all_along, index_stand, sides_long}
+use Rattle.bk_layout.proofs.FreeCuts.NumberedLines.{AllStand, all_along, index_stand}
 use Rattle.bk_layout.proofs.FreeCuts.SharedLines.{hung_less, open_low, square_low}
 use Rattle.bk_layout.proofs.FreeCuts.SharedPairs.{lines_share_the_node_above}
 use Rattle.bk_layout.specs.FreeCuts.{IsSound}
-use Rattle.bk_layout.specs.LineNumbers.{left_end, lefts_of, new_sides, numbered_line, right_end, sides_after, sides_along, sides_at, square_lines}
+use Rattle.bk_layout.specs.LineNumbers.{lefts_of, numbered_line, sides_at, square_lines}
 use Rattle.bk_layout.specs.NodeCut.{ShareANode, SharedNodeIsFreeBarren, TouchesClosed}
+use Rattle.bk_layout.proofs.FreeCuts.LineGaps.{along_long}
 
 nodes_front : (l : Layout) (f : ℕ → ℕ) (o : Outline) (front rest : Word) → HangByNodesFrom l f o (front ++ rest) → HangByNodesFrom l f o front
 nodes_front l f o [] rest p = tt
 nodes_front l f o (m ∷ front) rest p = (p.0, nodes_front l f (after_move o m) front rest p.1)
-
--- the word hangs a square for each pair of lines
-pub along_long : (o : Outline) (sides : List (ℕ × ℕ)) (w : Word) → length sides ≡ length o.hung → length (sides_along o sides w) ≡ length (after_moves o w).hung
-along_long o sides [] e = e
-along_long o sides (m ∷ w) e = along_long (after_move o m) (sides_after o sides m) w (omega (
-  arith,
-  e,
-  length-append sides (new_sides (length o.hung) m.count (left_end sides (valley_of o)) (right_end sides (valley_of o))),
-  sides_long (length o.hung) m.count (left_end sides (valley_of o)) (right_end sides (valley_of o)),
-  length-append o.hung (replicate m.count (length o.closed)),
-  length-replicate m.count (length o.closed),
-))
 
 -- each square of a word has its lines
 pub as_many_sides : (w : Word) → length (square_lines w) ≡ order_of w

@@ -36,13 +36,15 @@ pub nodes_rest : (l : Layout) (f : ℕ → ℕ) (o : Outline) (front rest : Word
 nodes_rest l f o [] rest p = p
 nodes_rest l f o (m ∷ front) rest p = nodes_rest l f (after_move o m) front rest p.1
 
-twins_rest : (o : Outline) (front rest : Word) → HangNoTwinsFrom o (front ++ rest) → HangNoTwinsFrom (after_moves o front) rest
-twins_rest o [] rest p = p
-twins_rest o (m ∷ front) rest p = twins_rest (after_move o m) front rest p.1
+-- if no move of a word hangs twins, none of those behind a beginning does
+pub twins_then : (o : Outline) (front rest : Word) → HangNoTwinsFrom o (front ++ rest) → HangNoTwinsFrom (after_moves o front) rest
+twins_then o [] rest p = p
+twins_then o (m ∷ front) rest p = twins_then (after_move o m) front rest p.1
 
-free_rest : (o : Outline) (front rest : Word) → AreFreeFrom o (front ++ rest) → AreFreeFrom (after_moves o front) rest
-free_rest o [] rest p = p
-free_rest o (m ∷ front) rest p = free_rest (after_move o m) front rest p.1
+-- the moves behind a beginning of a free word are free
+pub free_then : (o : Outline) (front rest : Word) → AreFreeFrom o (front ++ rest) → AreFreeFrom (after_moves o front) rest
+free_then o [] rest p = p
+free_then o (m ∷ front) rest p = free_then (after_move o m) front rest p.1
 
 -- ---- a move of one square under one
 
@@ -120,13 +122,13 @@ module _ (l : Layout) (fits : Fits l) (w : Word) (word : IsWordOfLayout l w) whe
 
   -- no move has the sign above at the left, where the valley has a left neighbour
   pub free_fits : (front : Word) (m : Move) (rest : Word) → w ≡ front ++ m ∷ rest → IsFreeMove (outline_of front) m
-  free_fits front m rest is = (free_rest start front (m ∷ rest) (subst (AreFreeFrom start) is word.free)).0
+  free_fits front m rest is = (free_then start front (m ∷ rest) (subst (AreFreeFrom start) is word.free)).0
 
   module _ (simple : IsSimpleLayout l) where
     -- no move has the sign even between two of its squares
     pub evens_fit : (front : Word) (m : Move) (rest : Word) → w ≡ front ++ m ∷ rest → Contains (own_signs (outline_of front) m) Even → ⊥
     evens_fit front m rest is = no_even (outline_of front) m
-        (twins_rest start front (m ∷ rest) (subst (HangNoTwinsFrom start) is (word.no_twins simple.twins))).0
+        (twins_then start front (m ∷ rest) (subst (HangNoTwinsFrom start) is (word.no_twins simple.twins))).0
 
     -- no move hangs one square under one
     pub pairs_fit : (front : Word) (m : Move) (rest : Word) → w ≡ front ++ m ∷ rest → HangsNoPair (outline_of front) m

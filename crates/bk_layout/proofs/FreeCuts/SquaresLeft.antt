@@ -22,6 +22,7 @@ use Rattle.bk_layout.proofs.NormalCuts.FewMoves.{few_moves, walls_left}
 use Rattle.bk_layout.proofs.FreeCuts.RunsOfLines.{wall_moves_hang_one}
 use Rattle.bk_layout.specs.NormalCuts.{TooManySquaresIsNormalBarren}
 use Rattle.bk_layout.specs.WordNumbers.{left_moves_from, right_moves_from}
+use Rattle.bk_layout.proofs.FreeCuts.CutsOfLayouts.{twins_then}
 
 -- ---- a move
 
@@ -124,11 +125,6 @@ squares_left o (m ∷ rest) legal shaped twins = omega (
   segments_after o m legal.0 shaped twins.0,
   squares_left (after_move o m) rest legal.1 (shaped_move o m legal.0 shaped) twins.1,
 )
-
--- moves that hang no twins hang none behind their first ones
-pub twins_then : (o : Outline) (front rest : Word) → HangNoTwinsFrom o (front ++ rest) → HangNoTwinsFrom (after_moves o front) rest
-twins_then o [] rest p = p
-twins_then o (m ∷ front) rest p = twins_then (after_move o m) front rest p.1
 
 -- the law
 pub too_many_squares_is_normal_barren : TooManySquaresIsNormalBarren

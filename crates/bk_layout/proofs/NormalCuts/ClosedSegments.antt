@@ -12,7 +12,7 @@ use Rattle.bk_word.specs.Outline.{Outline, start}
 use Rattle.bk_word.specs.Play.{AreLegalFrom, after_move, outline_of}
 use Rattle.bk_word.specs.Word.{Word, order_of}
 use Rattle.bk_word.proofs.PlayLaws.{legal_front}
-use Rattle.bk_word_net.proofs.WordFlows.NoLoose.{hung_number}
+use Rattle.bk_word_net.proofs.WordFlows.NoLoose.{closed_count, hung_number}
 use Rattle.bk_word_net.proofs.Outlines.Numbering.{Numbered, numbered_moves, numbered_start}
 use Rattle.bk_word_net.proofs.Outlines.Shape.{AllFilled, Shaped, hung_many, shaped_move, shaped_start}
 use Rattle.bk_layout.specs.Layout.{Layout}
@@ -28,7 +28,6 @@ use Rattle.bk_layout.specs.FreeCuts.{IsSound}
 use Rattle.bk_layout.specs.LineNumbers.{numbered_line, sides_along, sides_at, square_lines}
 use Rattle.bk_layout.proofs.FreeCuts.LineGaps.{along_long, lines_append, lines_at, lines_grow, lines_of_word}
 use Rattle.bk_layout.proofs.NormalCuts.MovesLeft.{legal, lines_end, lines_front, none_at_end, shaped}
-use Rattle.bk_layout.proofs.NormalCuts.NumbersShown.{closed_many}
 use Rattle.bk_layout.proofs.FreeCuts.RunsOfLines.{IsRow, Runs, not_one, rows_along, run_end, run_next}
 use Rattle.bk_layout.proofs.NormalCuts.WideSegments.{no_sign, wide_at, wide_gone}
 use Rattle.bk_layout.specs.NormalCuts.{touched_or_wide}
@@ -116,21 +115,21 @@ module _ (n : ℕ) (l : Layout) (w : Word) (sound : IsSound n l) (normal : IsNor
   row_front = at (rows_along start [] front legal_then shaped_start numbered_start refl (lines_of_word []) (inl refl))
     where
       at : IsRow (square_lines front) (outline_of front) → Runs (square_lines front) 0 (concat (outline_of front).segments) 1
-      at (inl e) = absurd (omega (arith, some, closed_many start front, ap (λ (o : Outline). length o.closed) e))
+      at (inl e) = absurd (omega (arith, some, closed_count start front, ap (λ (o : Outline). length o.closed) e))
       at (inr r) = r.1
 
   filled_front : AllFilled (outline_of front).segments
   filled_front = at (rows_along start [] front legal_then shaped_start numbered_start refl (lines_of_word []) (inl refl))
     where
       at : IsRow (square_lines front) (outline_of front) → AllFilled (outline_of front).segments
-      at (inl e) = absurd (omega (arith, some, closed_many start front, ap (λ (o : Outline). length o.closed) e))
+      at (inl e) = absurd (omega (arith, some, closed_count start front, ap (λ (o : Outline). length o.closed) e))
       at (inr r) = r.0
 
   row_end : Runs (square_lines w) 0 last 1
   row_end = at (rows_along start [] w (word.complete).legal shaped_start numbered_start refl (lines_of_word []) (inl refl))
     where
       at : IsRow (square_lines w) (outline_of w) → Runs (square_lines w) 0 (slice_index_or (outline_of w).segments 0 []) 1
-      at (inl e) = absurd (omega (arith, (word.complete).some, closed_many start w, ap (λ (o : Outline). length o.closed) e))
+      at (inl e) = absurd (omega (arith, (word.complete).some, closed_count start w, ap (λ (o : Outline). length o.closed) e))
       at (inr r) = subst (λ (xs : List ℕ). Runs (square_lines w) 0 xs 1) (concat-only_list (outline_of w).segments (word.complete).one) r.1
 
   numbered : Numbered (outline_of front)

@@ -25,7 +25,7 @@ use Rattle.bk_layout.proofs.NormalCuts.MovesLeft.{at_end, legal, shaped}
 use Rattle.bk_layout.proofs.NormalCuts.FewMoves.{few_moves, first_kept, right_moves_append, walls_left}
 use Rattle.bk_layout.proofs.NormalCuts.NumbersShown.{bottom_is, left_is, moves_is, right_is, top_is}
 use Rattle.bk_layout.proofs.FreeCuts.RunsOfLines.{wall_moves_hang_one}
-use Rattle.bk_layout.proofs.FreeCuts.SquaresLeft.{evens-cons, evens_most, segments_after, segments_then, twins_then, wall_or_side}
+use Rattle.bk_layout.proofs.FreeCuts.SquaresLeft.{evens-cons, evens_most, segments_after, segments_then, wall_or_side}
 use Rattle.bk_layout.proofs.NormalCuts.StrongWords.{ends, none_of, rules}
 use Rattle.bk_layout.specs.LastMoves.{AMoveLeavesSegments, AllUnderAtLeftIsNormalBarren, AllUnderAtRightIsNormalBarren, AllUnderIsNormalBarren}
 use Rattle.bk_layout.specs.LastMoves.{AreAllUnder, OneSquareGoesOnEven, even_square}
@@ -33,6 +33,7 @@ use Rattle.bk_layout.specs.LastMoves.{TooManyAtLeftIsNormalBarren, TooManyAtRigh
 use Rattle.bk_layout.specs.NormalCuts.{IsNormalBarren}
 use Rattle.bk_layout.specs.NormalLayout.{IsNormalLayout}
 use Rattle.bk_layout.specs.WordNumbers.{first_count, left_squares, right_moves_from, right_squares}
+use Rattle.bk_layout.proofs.FreeCuts.CutsOfLayouts.{twins_then}
 
 -- how many segments a move leaves
 pub a_move_leaves_segments : AMoveLeavesSegments
@@ -156,18 +157,19 @@ all_under_at_right_is_normal_barren n most front all half over l w rest sound no
 
 -- ---- one square, even at both sides
 
-all_even : (signs : List Sign) → count_by is_even signs ≡ length signs → signs ≡ replicate (length signs) Even
-all_even [] e = refl
-all_even (Above ∷ signs) e = absurd (omega (arith, e, evens-cons Above signs, evens_most signs))
-all_even (Under ∷ signs) e = absurd (omega (arith, e, evens-cons Under signs, evens_most signs))
-all_even (Even ∷ signs) e = ap (λ (ss : List Sign). Even ∷ ss) (all_even signs (omega (arith, e, evens-cons Even signs)))
+-- signs as many of which are even as there are signs are even throughout
+pub even_throughout : (signs : List Sign) → count_by is_even signs ≡ length signs → signs ≡ replicate (length signs) Even
+even_throughout [] e = refl
+even_throughout (Above ∷ signs) e = absurd (omega (arith, e, evens-cons Above signs, evens_most signs))
+even_throughout (Under ∷ signs) e = absurd (omega (arith, e, evens-cons Under signs, evens_most signs))
+even_throughout (Even ∷ signs) e = ap (λ (ss : List Sign). Even ∷ ss) (even_throughout signs (omega (arith, e, evens-cons Even signs)))
 
 -- a legal move of one square with even signs alone is that one
 is_even_square : (o : Outline) (m : Move) → IsLegalMove o m → m.count ≡ 1 → count_by is_even m.signs ≡ length m.signs → m ≡ even_square o
 is_even_square o m legal one even = λ i. record { count = one i; signs = signs i }
   where
     signs : m.signs ≡ replicate (open_side (has_left_wall o) + open_side (has_right_wall o)) Even
-    signs = all_even m.signs even ∙ ap (λ (k : ℕ). replicate k Even) (omega (arith, legal.signs, one))
+    signs = even_throughout m.signs even ∙ ap (λ (k : ℕ). replicate k Even) (omega (arith, legal.signs, one))
 
 -- the first move behind some moves
 goes_on : (n : ℕ) (l : Layout) (w front rest : Word) (m : Move) → IsSound n l → IsNormalLayout l → IsWordOfLayout l w → AllByRecursion BeginsNoEvenAbove w

@@ -1,11 +1,11 @@
 -- A word of a layout shows its numbers.
 use Rattle.std.proofs.Common.{Bool, List, Some, [], ap, arith, cond, count_by, inl, inr, length, nat_eq, refl, slice_get, slice_index_or, suc}
 use Rattle.std.proofs.Common.{sym, zero, ℕ, ◌+◌, ◌-◌, ◌<◌, ◌∙◌, ◌∷◌, ◌↔◌, ◌≡◌}
-use Rattle.std.proofs.lemmas.List.{length-append, length-map}
+use Rattle.std.proofs.lemmas.List.{length-map}
 use Rattle.std.proofs.lemmas.List.Sums.{sum_by-cons}
 use Rattle.bk_laws.proofs.NumberTests.{nat_eq-same_of_iff}
-use Rattle.bk_word.specs.Outline.{Outline, start, valley_of}
-use Rattle.bk_word.specs.Play.{after_move, after_moves, numbers_from, outline_of}
+use Rattle.bk_word.specs.Outline.{start}
+use Rattle.bk_word.specs.Play.{numbers_from, outline_of}
 use Rattle.bk_word.specs.Word.{Move, Word}
 use Rattle.bk_layout.specs.Layout.{Fits, Layout}
 use Rattle.bk_layout.specs.LayoutLaws.{IsWordOfLayout}
@@ -17,6 +17,7 @@ use Rattle.bk_layout.proofs.Lists.Totals.{renumbered, total_from}
 use Rattle.bk_layout.proofs.FreeCuts.LineGaps.{AreLineNumbers, IsGap, IsLine, along_long, lines_along}
 use Rattle.bk_layout.specs.LayoutCounts.{counts_of_layout}
 use Rattle.bk_layout.specs.WordNumbers.{AWordShowsNumbers, first_count, left_squares, right_squares}
+use Rattle.bk_word_net.proofs.WordFlows.NoLoose.{closed_count}
 
 -- ---- counts as sums
 
@@ -42,11 +43,6 @@ count_places P (x ∷ xs) f b each = omega (
 
     next : (k : ℕ) → b + 1 + k ≡ b + suc k
     next k = omega arith
-
--- a move closes a node
-pub closed_many : (o : Outline) (w : Word) → length (after_moves o w).closed ≡ length o.closed + length w
-closed_many o [] = omega arith
-closed_many o (m ∷ w) = omega (arith, closed_many (after_move o m) w, length-append o.closed (valley_of o ∷ []))
 
 module _ (l : Layout) (w : Word) (fits : Fits l) (walls : AreOuterWalls l) (word : IsWordOfLayout l w) where
   all : AreLineNumbers (square_lines w)
@@ -119,7 +115,7 @@ module _ (l : Layout) (w : Word) (fits : Fits l) (walls : AreOuterWalls l) (word
 module _ (l : Layout) (w : Word) (word : IsWordOfLayout l w) where
   -- a word of a layout has as many moves as the number of the layout's last node
   pub moves_is : length w ≡ l.bottom
-  moves_is = omega (arith, closed_many start w, word.net.nodes)
+  moves_is = omega (arith, closed_count start w, word.net.nodes)
 
   -- the first move of a word of a layout hangs as many squares as hang from the layout's top
   pub top_is : first_count w ≡ length (l.hanging 0)

@@ -25,7 +25,6 @@ use Rattle.bk_layout.specs.RuleR.{BeginsNoEvenAbove}
 use Rattle.bk_layout.proofs.NormalCuts.ClosedSegments.{closed_square}
 use Rattle.bk_layout.proofs.NormalCuts.MovesLeft.{at_end, legal, shaped}
 use Rattle.bk_layout.proofs.NormalCuts.FewMoves.{few_moves}
-use Rattle.bk_layout.proofs.FreeCuts.SquaresLeft.{twins_then}
 use Rattle.bk_layout.proofs.NormalCuts.PassCounts.{fewer_marks_ask_less}
 use Rattle.bk_word.specs.Signs.{is_under}
 use Rattle.bk_layout.proofs.NormalCuts.StrongMoves.{strong_after, weight_after}
@@ -35,6 +34,7 @@ use Rattle.bk_layout.specs.NormalCuts.{touched_or_wide}
 use Rattle.bk_layout.specs.WordNumbers.{first_count}
 use Rattle.bk_layout.specs.NormalLayout.{IsNormalLayout}
 use Rattle.bk_layout.specs.StrongBound.{StrongBoundIsNormalBarren, StrongWeightIsNormalBarren, strong_bound_of, strong_from, weight_of}
+use Rattle.bk_layout.proofs.FreeCuts.CutsOfLayouts.{free_then, twins_then}
 
 -- ---- along moves
 
@@ -170,10 +170,6 @@ one_marked n c low (x ∷ signs) (s ∷ segments) (b ∷ marks) long none each =
 )
 
 -- ---- a word of a normal layout
-
-free_then : (o : Outline) (front rest : Word) → AreFreeFrom o (front ++ rest) → AreFreeFrom (after_moves o front) rest
-free_then o [] rest p = p
-free_then o (m ∷ front) rest p = free_then (after_move o m) front rest p.1
 
 module _ (n : ℕ) (l : Layout) (w : Word) (sound : IsSound n l) (normal : IsNormalLayout l) (word : IsWordOfLayout l w) (many : 3 ≤ n)
     (keeps : AllByRecursion BeginsNoEvenAbove w) (front rest : Word) (is : w ≡ front ++ rest) where

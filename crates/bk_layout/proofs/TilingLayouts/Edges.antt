@@ -3,10 +3,10 @@ use Rattle.std.proofs.Common.{ap, arith, inl, inr, true, ℕ, ◌+◌, ◌-◌, 
 use Rattle.std.proofs.lemmas.Bool.{cases_lt}
 use Rattle.bk_tiling.proofs.Cells.{covers_from, over_from}
 use Rattle.bk_tiling.proofs.TilingGroups.{one_there}
-use Rattle.bk_tiling.proofs.TilingLaws.{side_of, within_of}
+use Rattle.bk_tiling.proofs.TilingLaws.{a_square_over_each_cell, side_of, within_of}
 use Rattle.bk_tiling.specs.Tiling.{IsOneOf, IsTiling, Tiling, covers}
 use Rattle.bk_tiling.specs.declared.Square.{Square}
-use Rattle.bk_net.proofs.GroupSquares.{a_square_over_each_cell, square_below_begins_at_the_bottom}
+use Rattle.bk_net.proofs.GroupSquares.{square_below_begins_at_the_bottom}
 
 -- the square lies over the cell
 pub record IsOn (i j : ℕ) (q : Square) : Type 0 where

@@ -16,7 +16,8 @@ use Rattle.bk_layout.proofs.TilingLayouts.Edges.{IsOn, side}
 use Rattle.bk_layout.specs.TilingLayout.{node_above}
 use Rattle.bk_layout.proofs.TilingLayouts.GroupNodes.{IsNode, end_within, ends_within, in_level, in_under, level_of_group, low, over, reaches, some_columns}
 use Rattle.bk_layout.proofs.TilingLayouts.GroupNodes.{tops, within}
-use Rattle.bk_layout.proofs.TilingLayouts.Nodes.{own_cell, own_group}
+use Rattle.bk_tiling.proofs.TilingLaws.{own_cell}
+use Rattle.bk_layout.proofs.TilingLayouts.Nodes.{own_group}
 
 module _ (t : Tiling) (tiling : IsTiling t) (v : ℕ) (g : List Square) (e : slice_get (square_groups t.squares) v ≡ Some g) where
   few : v < length (square_groups t.squares)

@@ -1,10 +1,10 @@
 -- The nodes of a tiling: which one each square hangs from and ends on, and that the bottom is one.
-use Rattle.std.proofs.Common.{List, Some, [], ap, arith, count_by, inl, inr, length, refl, slice_get, slice_index_or, sym, true, ◌+◌, ◌<◌, ◌≡◌, ◌≤◌, ◌⊎◌}
+use Rattle.std.proofs.Common.{List, Some, [], ap, arith, count_by, inl, inr, length, refl, slice_get, slice_index_or, sym, ◌+◌, ◌<◌, ◌≡◌, ◌≤◌, ◌⊎◌}
 use Rattle.std.proofs.lemmas.Option.{slice_get_within}
-use Rattle.bk_tiling.proofs.Cells.{covers_from, one_counted}
+use Rattle.bk_tiling.proofs.Cells.{one_counted}
 use Rattle.bk_tiling.proofs.Groups.{row_of}
 use Rattle.bk_tiling.proofs.TilingGroups.{known_groups}
-use Rattle.bk_tiling.proofs.TilingLaws.{cell_once, wide_enough}
+use Rattle.bk_tiling.proofs.TilingLaws.{cell_once, own_cell, wide_enough}
 use Rattle.bk_tiling.specs.SquareGroups.{square_groups}
 use Rattle.bk_tiling.specs.Tiling.{IsOneOf, IsTiling, Tiling, covers}
 use Rattle.bk_tiling.specs.declared.Square.{Square}
@@ -26,10 +26,6 @@ module _ (t : Tiling) (tiling : IsTiling t) where
     cell_once t tiling q.x q.y (omega (arith, side t tiling q h, right_within t tiling q h)) (omega (arith, side t tiling q h, bottom_within t tiling q h)),
   ))
 
-  -- a square covers its own corner
-  pub own_cell : (q : Square) → IsOneOf q t.squares → covers q.x q.y q ≡ true
-  own_cell q h = covers_from q.x q.y q (omega arith) (omega (arith, side t tiling q h)) (omega arith) (omega (arith, side t tiling q h))
-
   -- a square hangs from no bottom
   pub above_bottom : (q : Square) → IsOneOf q t.squares → node_above (square_groups t.squares) q < length (square_groups t.squares)
   above_bottom q h = cases (own_group q h).found
@@ -39,7 +35,12 @@ module _ (t : Tiling) (tiling : IsTiling t) where
           ⊎ ((node_above (square_groups t.squares) q ≡ length (square_groups t.squares))
           × (count_by (covers q.x q.y) (row_of (square_groups t.squares)) ≡ 0)) → node_above (square_groups t.squares) q < length (square_groups t.squares)
       cases (inl m) = m.0
-      cases (inr m) = absurd (omega (arith, m.1, ap (count_by (covers q.x q.y)) (row_is t tiling), one_counted (covers q.x q.y) t.squares q h (own_cell q h)))
+      cases (inr m) = absurd (omega (
+        arith,
+        m.1,
+        ap (count_by (covers q.x q.y)) (row_is t tiling),
+        one_counted (covers q.x q.y) t.squares q h (own_cell t tiling q h),
+      ))
 
   not_above_bottom : (q : Square) → IsOneOf q t.squares → node_above (square_groups t.squares) q ≡ length (square_groups t.squares) → ⊥
   not_above_bottom q h e = omega (arith, above_bottom q h, e)

@@ -84,15 +84,11 @@ fn flows_of_small_nets(rt: HostRuntime) {
 
 // Whether numbers of 64 bits are these.
 fn are_numbers(numbers: &[i64], want: &[i128]) -> bool {
-    if numbers.len() != want.len() {
-        return false;
-    }
-    for i in 0..want.len() {
-        if i128::from(numbers[i]) != want[i] {
-            return false;
-        }
-    }
-    true
+    numbers.len() == want.len()
+        && numbers
+            .iter()
+            .zip(want)
+            .all(|(number, other)| i128::from(*number) == *other)
 }
 
 // Whether a flow in 64 bits has this total and these currents.

@@ -1,5 +1,5 @@
-//! Words of three moves whose last one is ruled out by the sides of the first squares, and words whose isn't, as a
-//! table.
+//! Words of three moves, as a table: of some the last move is ruled out by the sides of the first squares, of others it
+//! isn't.
 
 ghost use Rattle.std.specs.Prelude.{◌≡◌};
 ghost use Rattle.bk_word.specs.Outline.{IsLegalMove};
@@ -109,12 +109,11 @@ fn next_move(skel: &Skel, count: u8, code: &mut u32) -> Move {
 fn has_even(skel: &Skel, m: &Move) -> bool {
     let (left, right) = skel.walls();
     let last = m.signs.len().saturating_sub(open_side(right));
-    for sign in m.signs.iter().take(last).skip(open_side(left)) {
-        if *sign == Sign::Even {
-            return true;
-        }
-    }
-    false
+    m.signs
+        .iter()
+        .take(last)
+        .skip(open_side(left))
+        .any(|sign| *sign == Sign::Even)
 }
 
 // Whether a move hangs one square under one square, or has the sign even between two of its own: then the search passes

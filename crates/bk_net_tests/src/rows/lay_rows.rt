@@ -1,4 +1,4 @@
-//! Worked rows, as tables.
+//! Rows of `bk_lay`.
 
 use super::tilings::*;
 use arrayvec::ArrayVec;

@@ -11,15 +11,7 @@ type Rectangle = (u64, u64, &'static [u64]);
 
 // Whether the sides of squares are these.
 fn are_sides(squares: &[Square], sides: &[u64]) -> bool {
-    if squares.len() != sides.len() {
-        return false;
-    }
-    for i in 0..sides.len() {
-        if squares[i].s != sides[i] {
-            return false;
-        }
-    }
-    true
+    squares.len() == sides.len() && squares.iter().zip(sides).all(|(q, side)| q.s == *side)
 }
 
 // Whether a tiling has this size and these sides.

@@ -1,4 +1,4 @@
-//! Worked rows, as tables.
+//! Rows of `bk_word`.
 
 use super::texts::built;
 use arrayvec::ArrayVec;

@@ -27,7 +27,10 @@ const IMPERFECT_OF_9: Listed = (&[6, 4, 5, 3, 1, 6, 5, 1, 4], "3ua.2aue.2ue.1a.1
 
 const PAIR: Listed = (&[1, 1], "2e");
 
-// So many moves a whole walk of order 9 pushes without the cut by the equations between sides.
+// So many moves a whole walk of order 9 pushes, where the equations between the sides of the first five squares cut it,
+// and so many without this cut. Both numbers are measured, and a change of a cut may change them.
+const PUSHES_OF_9: u64 = 1568;
+
 const PUSHES_WITHOUT_FORMS: u64 = 1569;
 
 const ONE_OF_10: &str = "3ua.2aue.2ue.2ea.1ee";
@@ -305,9 +308,6 @@ const EIGHTH_OF_11: &str = "2u.2aa.3uuu.2eaa.1ee.1ee";
 
 const SIXTEENTH_OF_11: &str = "2u.3eaa.3uue.2eae.1ee";
 
-// So many moves a whole walk of order 9 pushes, where the equations between the sides of the first five squares cut it.
-const PUSHES_OF_9: u64 = 1568;
-
 // Whether two members have the same word and the same code.
 fn are_same(entry: &Entry, same: &Entry) -> bool {
     entry.word.moves() > 0
@@ -387,7 +387,7 @@ fn equations_lose_no_member(rt: HostRuntime) {
     with_equations::<Brand>(&rt, rt.alloc(), Blank::new(1));
 }
 
-// The number of perfect members of order 16.
+// The number of perfect members of order 16 (sequence A002839 of the OEIS).
 const PERFECT_OF_16: usize = 9_016;
 
 // How many members a walk gives, or the most that a table has room for.

@@ -20,9 +20,8 @@ corner_fits p q r corners fits = (omega (arith, corners.right, fits.1), omega (a
 pub returns-in_err-tried-clause-none : goal.returns-in_err-tried-clause-none
 returns-in_err-tried-clause-none c =
     rw c.from_residual.ensures
-    (no_part_with_corners_where_none_is_between c.args.tiling.now c.squares-squares.ensures.kept.tiling c.args.i c.args.j none c.args.ends.0 c.args.ends.1
-    c.requires.right
-    c.requires.bottom c.requires.first c.requires.last
+    (no_part_with_corners_where_none_is_between c.args.tiling.now c.squares-squares.ensures.kept.tiling c.args.i c.args.j none c.args.right_end
+    c.requires.right c.requires.first c.requires.last
     (rw c.squares-squares.ensures.value at c.in_err-tried.ensures.none))
 
 pub returns-in_err-inside-clause-none : goal.returns-in_err-inside-clause-none

@@ -16,8 +16,8 @@ returns-then-crosses-clause-none c =
     let hangs = rw c.squares-squares.ensures.value at c.crosses.ensures.0 c.if-crosses.true in
     let few : c.loop-j.j < length c.args.tiling.now.squares = omega (arith, c.loop-j-test.true, c.order-j-end.ensures.value) in
     let behind : c.args.i < c.loop-j.j = omega arith in
-    no_part_begins_where_squares_are_too_low c.args.tiling.now c.squares-squares.ensures.kept.tiling c.args.i none c.right_end.result
-    (get_or c.args.tiling.now.squares c.loop-j.j none).y c.right_end.ensures
+    no_part_begins_where_squares_are_too_low c.args.tiling.now c.squares-squares.ensures.kept.tiling c.args.i none c.right_end-end.result
+    (get_or c.args.tiling.now.squares c.loop-j.j none).y c.right_end-end.ensures
     (none_higher c.args.tiling.now c.squares-squares.ensures.kept.tiling c.args.i none c.loop-j.j c.args.tiling.now.height behind few hangs.0 hangs.1)
     c.loop-j.j c.loop-j.invariant few (omega arith)
 
@@ -30,8 +30,8 @@ returns-clause-none c =
     no_part_begins_where_none_ends c.args.tiling.now c.args.i c.order-j-end.ensures.kept.tiling
     (subst (NoneBelow c.args.tiling.now c.args.i) e c.loop-j.invariant)
 
-pub right_end-requires : goal.right_end-requires
-right_end-requires c = c.requires
+pub right_end-end-requires : goal.right_end-end-requires
+right_end-end-requires c = c.requires
 
 pub overflow_step-j : goal.overflow_step-j
 overflow_step-j c = next_place_fits c.args.tiling.now c.squares-squares.ensures.kept c.args.i c.requires
@@ -56,10 +56,7 @@ pub part_at-requires-clause-last : goal.part_at-requires-clause-last
 part_at-requires-clause-last c = rw c.order-j-end.ensures.value at c.loop-j-test.true
 
 pub part_at-requires-clause-right : goal.part_at-requires-clause-right
-part_at-requires-clause-right c = c.right_end.ensures
-
-pub part_at-requires-clause-bottom : goal.part_at-requires-clause-bottom
-part_at-requires-clause-bottom c = λ r left top uncut low. rw c.height.ensures.value low
+part_at-requires-clause-right c = c.right_end-end.ensures
 
 pub returns-in-Some-clause-first : goal.returns-in-Some-clause-first
 returns-in-Some-clause-first c =

@@ -4,7 +4,7 @@ use Rattle.bk_sym.proofs.first_side.Goals as goal
 
 pub returns-then-comes_first : goal.returns-then-comes_first
 returns-then-comes_first c =
-    begins_with c.args.tiling.now c.args.which c.squares-q-items.result.now c.width-width.result c.height-height.result c.loop-q.q-index
+    begins_with c.args.tiling.now c.args.turn c.squares-q-items.result.now c.width-width.result c.height-height.result c.loop-q.q-index
     (record { x = 0; y = 0; s = 0 }) c.squares-q-items.ensures.kept.tiling c.squares-q-items.ensures.value c.width-width.ensures.value
     c.height-height.ensures.value
     (record {

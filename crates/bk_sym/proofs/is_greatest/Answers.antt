@@ -7,8 +7,8 @@ use Rattle.bk_sym.proofs.is_greatest.Goals as goal
 pub returns : goal.returns
 returns c =
     let t : Tiling = c.args.tiling.now in
-    let e : c.loop-which.which-index ≡ 7 = omega arith in (
-      (λ _. greatest_of_others t t c.requires.tiling (at_most-refl t) (subst (λ k. NoneGreater t (drop 1 turns) k t) e c.loop-which.invariant)),
+    let e : c.loop-turn.turn-index ≡ 7 = omega arith in (
+      (λ _. greatest_of_others t t c.requires.tiling (at_most-refl t) (subst (λ k. NoneGreater t (drop 1 turns) k t) e c.loop-turn.invariant)),
       (λ _. refl),
     )
 

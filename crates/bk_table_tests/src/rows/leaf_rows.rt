@@ -1,6 +1,6 @@
 //! Rows of `bk_found`.
 
-use bk_found::{Ties, leaf};
+use bk_found::{Ties, candidate_of};
 use bk_free_search::Board;
 use bk_play::SmallMove;
 use bk_short::Short;
@@ -22,7 +22,7 @@ fn signs_of(rt: &impl Abort, m: &Move) -> Short<Sign, 17> {
 }
 
 // Goes on by a move, which must be legal.
-fn push(rt: &impl Abort, board: &mut Board, m: &Move) {
+fn play(rt: &impl Abort, board: &mut Board, m: &Move) {
     let m = SmallMove {
         count: m.count,
         signs: signs_of(rt, m),
@@ -30,7 +30,7 @@ fn push(rt: &impl Abort, board: &mut Board, m: &Move) {
     assert!(rt;
         board.skel().legal(&m) && board.skel().order() + usize::from(m.count) <= INLINE_ORDER
     );
-    board.push(&m);
+    board.play(&m);
 }
 
 // No counts are said to tie.
@@ -43,7 +43,7 @@ const NO_TIES: Ties = Ties {
 // The tiling at a complete word, if one of the class is found.
 fn found_at(rt: &impl Abort, board: &Board, class: Class) -> Option<Tiling> {
     assert!(rt; board.skel().is_closed() && board.skel().order() <= INLINE_ORDER);
-    let placed = leaf(board.skel(), board.lefts(), NO_TIES, class)?;
+    let placed = candidate_of(board.skel(), board.lefts(), NO_TIES, class)?;
     match Tiling::try_new(placed.width, placed.height, &placed.squares) {
         Ok(tiling) => Some(tiling),
         Err(_) => None,
@@ -54,7 +54,7 @@ fn found_at(rt: &impl Abort, board: &Board, class: Class) -> Option<Tiling> {
 fn assert_leaf(rt: &impl Abort, word: &Word, class: Class, want: Option<Sides>) {
     let mut board = Board::new();
     for i in 0..word.moves() {
-        push(rt, &mut board, &word.get(i));
+        play(rt, &mut board, &word.get(i));
     }
     assert_found(rt, &found_at(rt, &board, class), want);
 }

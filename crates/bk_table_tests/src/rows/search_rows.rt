@@ -30,9 +30,7 @@ fn words_met(rt: &impl Abort, order: u8) -> usize {
     met.words
 }
 
-// Orders, and how many words are met. The same search in plain Rust, written apart, has as many leaves, where the last
-// of its ties (where a word has as many moves as can be and as many squares at the right as at the top, no more at the
-// left than at the bottom) is asked of a leaf.
+// Orders, and how many words are met. These numbers are measured, not derived; a change of a cut may change them.
 fn rows_of_orders() -> &'static [(u8, usize)] {
     &[
         (3, 0),

@@ -60,15 +60,13 @@ fn next_square<L: Ledger>(walk: &mut Walk, steps: &mut Steps<L>) -> Option<Tilin
 // Whether a tiling has this width and these sides.
 fn is_square(tiling: &Tiling, square: &Sides) -> bool {
     let (width, sides) = square;
-    if tiling.width() != *width || tiling.order() != sides.len() {
-        return false;
-    }
-    for (q, side) in tiling.squares().iter().zip(*sides) {
-        if q.s != *side {
-            return false;
-        }
-    }
-    true
+    tiling.width() == *width
+        && tiling.order() == sides.len()
+        && tiling
+            .squares()
+            .iter()
+            .zip(*sides)
+            .all(|(q, side)| q.s == *side)
 }
 
 // Whether the next square is this one, or none is left.

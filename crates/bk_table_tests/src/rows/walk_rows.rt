@@ -26,7 +26,7 @@ struct Wanted<'a> {
 }
 
 // A walk makes no table before it has pushed so many moves.
-const PATIENCE: u64 = 128;
+const PUSHES_BEFORE_A_TABLE: u64 = 128;
 
 // A copy of a word of at most 16 squares.
 fn copy_of(rt: &impl Abort, alloc: Global, word: &Word) -> Word
@@ -94,12 +94,8 @@ fn assert_walk<const ROOM: usize, L: Ledger>(
 
 // The first of the members that is of a class and whose word is after a cursor.
 fn first_after<'a>(members: &'a [Member], class: Class, cursor: &Word) -> Option<&'a Member> {
-    for member in members {
-        if member.is_of(class) && member.word.cmp(cursor) == Ordering::Greater {
-            return Some(member);
-        }
-    }
-    None
+    members.iter().find(|member| member.is_of(class)
+        && member.word.cmp(cursor) == Ordering::Greater)
 }
 
 // A walk without room for a table comes to this member first after a cursor.
@@ -148,7 +144,10 @@ fn walks<L: Ledger>(
 // makes no table pushes 29,818 at order 11 in the class perfect.
 fn assert_leaps(rt: &impl Abort, wanted: &Wanted, pushed: u64) {
     let for_members = (wanted.members.len() as u64).saturating_mul(u64::from(wanted.order));
-    assert!(rt; pushed >= PATIENCE && pushed <= PATIENCE.saturating_add(for_members));
+    assert!(rt;
+        pushed >= PUSHES_BEFORE_A_TABLE
+            && pushed <= PUSHES_BEFORE_A_TABLE.saturating_add(for_members)
+    );
 }
 
 fn from_start<L: Ledger>(rt: &impl Abort, alloc: Global, wanted: &Wanted, steps: &mut Steps<L>) {

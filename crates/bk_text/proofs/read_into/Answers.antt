@@ -3,7 +3,7 @@ use Rattle.std.proofs.lemmas.List.{length-drop}
 use Rattle.std.proofs.Common.{ap, arith, le_refl, lit<, subst, sym, zero-le, ◌∙◌}
 use Rattle.std.proofs.lemmas.List.{take_all}
 use Rattle.bk_text.specs.GatheredSides.{Gathered, gathered_after, line_gathered, nothing_gathered}
-use Rattle.bk_text.specs.LineReading.{next_line_place}
+use Rattle.bk_text.specs.LineReader.{next_line_place}
 use Rattle.bk_text.specs.CodeLine.{IsLine}
 use Rattle.bk_text.specs.declared.reader.Place.{Place}
 use Rattle.bk_text.specs.declared.reader.Place.TheVariants.{Start}

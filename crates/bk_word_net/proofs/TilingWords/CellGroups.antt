@@ -5,7 +5,7 @@ use Rattle.std.proofs.lemmas.Option.{slice_get_within}
 use Rattle.bk_laws.proofs.TestsAsNumbers.{nat_eq-same_if_counted}
 use Rattle.bk_tiling.proofs.Cells.{covers_from, in_all, one_counted, over_from}
 use Rattle.bk_tiling.proofs.Rows.{chain_total}
-use Rattle.bk_tiling.proofs.TilingLaws.{cell_once, side_of, within_of}
+use Rattle.bk_tiling.proofs.TilingLaws.{cell_once, own_cell, side_of, within_of}
 use Rattle.bk_tiling.specs.declared.Segment.{Segment}
 use Rattle.bk_tiling.specs.Tiling.{IsOneOf, IsTiling, Tiling, covers}
 use Rattle.bk_tiling.specs.declared.Square.{Square}
@@ -16,7 +16,6 @@ use Rattle.bk_net.proofs.GroupSquares.{get_index, group_of, in_group, row_is}
 use Rattle.bk_net.proofs.SmithLists.{has_group}
 use Rattle.bk_word.specs.Play.{IsComplete, outline_of}
 use Rattle.bk_word.specs.Word.{Word}
-use Rattle.bk_lay.proofs.SquaresOnce.{own_cell}
 use Rattle.bk_lay.proofs.WordPlay.{NoneTwice, none_twice, tiling_word_is_complete}
 use Rattle.bk_lay.specs.Depiction.{Depicts}
 use Rattle.bk_lay.specs.TilingWord.{IsWordOf}

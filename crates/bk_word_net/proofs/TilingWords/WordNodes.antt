@@ -8,14 +8,13 @@ use Rattle.bk_laws.proofs.Totals.{total}
 use Rattle.bk_laws.proofs.ListPlaces.{get_back, get_front, get_map, get_some, index_got, slice_get-unique}
 use Rattle.bk_laws.proofs.ZippedLists.{all_zip-slice_get}
 use Rattle.bk_tiling.proofs.Rows.{laid_sides}
-use Rattle.bk_tiling.proofs.TilingLaws.{side_of}
+use Rattle.bk_tiling.proofs.TilingLaws.{own_cell, side_of}
 use Rattle.bk_tiling.specs.declared.Segment.{Segment}
 use Rattle.bk_tiling.specs.Tiling.{IsOneOf, IsTiling, Tiling, covers}
 use Rattle.bk_tiling.specs.declared.Square.{Square}
 use Rattle.bk_tiling.specs.SquareGroups.{square_groups}
 use Rattle.bk_word.specs.Play.{outline_of}
 use Rattle.bk_word.specs.Word.{Word}
-use Rattle.bk_lay.proofs.SquaresOnce.{own_cell}
 use Rattle.bk_lay.proofs.LaidRuns.{one_of}
 use Rattle.bk_lay.specs.Depiction.{Hangs}
 use Rattle.bk_lay.specs.TilingWord.{IsWordOf}

@@ -1,4 +1,5 @@
 -- The word of a tiling lays all its squares, and has as many nodes as the tiling has groups.
+use Rattle.bk_tiling.proofs.TilingLaws.{own_cell}
 use Rattle.std.proofs.Common.{List, Some, arith, inl, length, refl, slice_get, slice_index_or, subst, sym, ℕ, ◌<◌, ◌∙◌, ◌≡◌}
 use Rattle.bk_laws.proofs.ZippedLists.{zip_length}
 use Rattle.bk_laws.proofs.ListPlaces.{get_some}
@@ -8,7 +9,6 @@ use Rattle.bk_tiling.specs.SquareGroups.{square_groups}
 use Rattle.bk_net.proofs.GroupSquares.{group_of, in_group}
 use Rattle.bk_word.specs.Play.{outline_of}
 use Rattle.bk_word.specs.Word.{Word}
-use Rattle.bk_lay.proofs.SquaresOnce.{own_cell}
 use Rattle.bk_lay.proofs.ValleySegment.{all_squares_laid_at_full_depth}
 use Rattle.bk_lay.specs.Depiction.{Hangs, IsSegment}
 use Rattle.bk_lay.specs.TilingWord.{IsWordOf}

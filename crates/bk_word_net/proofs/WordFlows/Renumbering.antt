@@ -1,4 +1,5 @@
 -- The net of a tiling's word is its Smith diagram, with nodes and wires renumbered.
+use Rattle.bk_tiling.proofs.TilingLaws.{own_cell}
 use Rattle.std.specs.List.{position_or_len}
 use Rattle.std.proofs.Common.{List, Some, [], ap, arith, inl, inr, length, map, option_map, refl, slice_get, slice_index_or, subst, suc, sym, zero}
 use Rattle.std.proofs.Common.{ℕ, ◌++◌, ◌+◌, ◌<◌, ◌∙◌, ◌∷◌, ◌≡◌, ◌≤◌, ◌⊎◌}
@@ -19,7 +20,7 @@ use Rattle.bk_net.specs.Diagram.{node_below, smith_diagram}
 use Rattle.bk_word.specs.Outline.{start}
 use Rattle.bk_word.specs.Play.{outline_of}
 use Rattle.bk_word.specs.Word.{Word}
-use Rattle.bk_lay.proofs.SquaresOnce.{own_cell, squares_once}
+use Rattle.bk_lay.proofs.SquaresOnce.{squares_once}
 use Rattle.bk_lay.proofs.LaidRuns.{one_of}
 use Rattle.bk_lay.proofs.WordPlay.{fewer}
 use Rattle.bk_lay.specs.TilingWord.{IsWordOf}

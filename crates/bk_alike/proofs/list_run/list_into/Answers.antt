@@ -1,8 +1,6 @@
-use Rattle.std.proofs.Common.{inl, inr, subst, sym, ◌≡◌, ◌⊎◌}
-use Rattle.bk_ports.proofs.OtherOutputs.{IsStop}
+use Rattle.std.proofs.Common.{inl}
+use Rattle.bk_ports.proofs.OtherOutputs.{stop_told}
 use Rattle.bk_ports.specs.Ending.{streams_between}
-use Rattle.bk_ports.specs.declared.Ended.{Ended}
-use Rattle.bk_ports.specs.declared.Ended.TheVariants.{NoMemory, ReadFailed, TooMany, WriteFailed}
 use Rattle.bk_alike.proofs.ClosedLists.{badly_told, closes_broken, closes_well, entered_from_the_start_of_listing, has_verdict, stops_listing, verdict_told}
 use Rattle.bk_alike.proofs.ClosedLists.{well_told}
 use Rattle.bk_alike.proofs.list_run.list_into.Goals as goal
@@ -39,13 +37,6 @@ returns-in-Err-clause-faults g c =
 
 pub returns-in-Err-clause-complete : goal.returns-in-Err-clause-complete
 returns-in-Err-clause-complete g c calm = absurd (calm.no_fault.writes (returns-in-Err-clause-faults g c).1)
-
--- it stopped at its lines
-stop_told : (ended : Ended) → (ended ≡ ReadFailed) ⊎ (ended ≡ WriteFailed) ⊎ (ended ≡ NoMemory) ⊎ (ended ≡ TooMany) → IsStop ended
-stop_told ended (inl e) = subst IsStop (sym e) tt
-stop_told ended (inr (inl e)) = subst IsStop (sym e) tt
-stop_told ended (inr (inr (inl e))) = subst IsStop (sym e) tt
-stop_told ended (inr (inr (inr e))) = subst IsStop (sym e) tt
 
 pub returns-in-ReadFailed : goal.returns-in-ReadFailed
 returns-in-ReadFailed g c = record {

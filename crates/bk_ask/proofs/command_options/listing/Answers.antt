@@ -22,14 +22,14 @@ returns-then-not-are_options-clause-none c =
 pub order_given-requires : goal.order_given-requires
 order_given-requires c = (c.if-not-are_options.ensures.0 refl).once
 
-pub class_in-requires : goal.class_in-requires
-class_in-requires c = (c.if-not-are_options.ensures.0 refl).once
+pub class_given-requires : goal.class_given-requires
+class_given-requires c = (c.if-not-are_options.ensures.0 refl).once
 
 pub cursor_given-requires : goal.cursor_given-requires
 cursor_given-requires c = (c.if-not-are_options.ensures.0 refl).once
 
-pub limit_in-requires : goal.limit_in-requires
-limit_in-requires c = (c.if-not-are_options.ensures.0 refl).once
+pub limit_given-requires : goal.limit_given-requires
+limit_given-requires c = (c.if-not-are_options.ensures.0 refl).once
 
 pub returns-in_err-order-clause-some : goal.returns-in_err-order-clause-some
 returns-in_err-order-clause-some c = if_some-of_none c.from_residual.result _ c.from_residual.ensures

@@ -13,8 +13,8 @@ pub returns-then-not-are_options-clause-none : goal.returns-then-not-are_options
 returns-then-not-are_options-clause-none c =
     nothing_paired (map string_bytes c.args.options.now) (λ kind asks. let known : false ≡ true = c.if-not-are_options.ensures.1 asks.options in cc)
 
-pub kind_in-requires : goal.kind_in-requires
-kind_in-requires c = (c.if-not-are_options.ensures.0 refl).once
+pub kind_given-requires : goal.kind_given-requires
+kind_given-requires c = (c.if-not-are_options.ensures.0 refl).once
 
 pub returns-in_err-kind-clause-some : goal.returns-in_err-kind-clause-some
 returns-in_err-kind-clause-some c = if_some-of_none c.from_residual.result _ c.from_residual.ensures

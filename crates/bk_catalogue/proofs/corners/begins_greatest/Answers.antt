@@ -1,8 +1,14 @@
-use Rattle.std.proofs.Common.{ap, ◌∙◌}
-use Rattle.bk_tiling.proofs.OrderLaws.{in_code_order-same}
-use Rattle.bk_tiling.specs.CodeOrder.{in_code_order}
+use Rattle.std.proofs.Common.{arith}
+use Rattle.bk_catalogue.proofs.Members.QuickTests.{not_greatest}
 use Rattle.bk_catalogue.proofs.corners.begins_greatest.Goals as goal
 
-pub returns : goal.returns
-returns c = λ e canonical. c.is_longest_first.ensures e c.args.tiling.now (c.squares.ensures.kept).tiling c.width.ensures.value c.height.ensures.value
-    (ap in_code_order c.squares.ensures.value ∙ in_code_order-same c.args.tiling.now.squares ((c.squares.ensures.kept).tiling).ordered) canonical
+pub returns-then-is_at_wall-2 : goal.returns-then-is_at_wall-2
+returns-then-is_at_wall-2 c = λ e canonical.
+    not_greatest c.args.tiling.now c.squares-squares.result.now c.width-width.result c.height-height.result c.loop-q.q-index
+    (c.squares-squares.ensures.kept).tiling c.squares-squares.ensures.value c.width-width.ensures.value c.height-height.ensures.value
+    (record {
+      within = omega (arith, c.loop-q.auto.q-index-end, c.loop-q-test.true);
+      longer = omega (arith, c.if-q-first.true);
+      left_or_right = c.is_at_wall.ensures c.if-is_at_wall.true;
+      top_or_bottom = c.is_at_wall-then-is_at_wall.ensures c.if-is_at_wall-2.true;
+    }) canonical

@@ -29,17 +29,8 @@ pub behind_valley-behind-requires-clause-place : goal.behind_valley-behind-requi
 behind_valley-behind-requires-clause-place c =
     (valley_of_equal c.skel-2.result.now c.args.board.now c.valley_place-valley.result c.skel-2.ensures.value c.valley_place-valley.ensures).stands.place_is
 
-pub look_ahead-ahead-requires-clause-few : goal.look_ahead-ahead-requires-clause-few
-look_ahead-ahead-requires-clause-few c = omega (arith, c.requires.few)
-
-pub look_ahead-ahead-requires-clause-left : goal.look_ahead-ahead-requires-clause-left
-look_ahead-ahead-requires-clause-left c = ap (λ p. nat_eq p 0)
-    (valley_of_equal c.skel-2.result.now c.args.board.now c.valley_place-valley.result c.skel-2.ensures.value c.valley_place-valley.ensures).stands.place_is
-
-pub look_ahead-ahead-requires-clause-right : goal.look_ahead-ahead-requires-clause-right
-look_ahead-ahead-requires-clause-right c = λ i. nat_eq
-    ((valley_of_equal c.skel-2.result.now c.args.board.now c.valley_place-valley.result c.skel-2.ensures.value c.valley_place-valley.ensures).stands.place_is i)
-    (length ((c.signs-signs.ensures ∙ ap (λ (w : Word). (outline_of w).signs) c.skel.ensures.value) i))
+pub look_ahead-ahead-requires : goal.look_ahead-ahead-requires
+look_ahead-ahead-requires c = record { few = omega (arith, c.requires.few) }
 
 pub needs_of-needs-requires-clause-before : goal.needs_of-needs-requires-clause-before
 needs_of-needs-requires-clause-before c = c.before_valley-before.ensures.few

@@ -19,10 +19,10 @@ pub left_end-line-requires : goal.left_end-line-requires
 left_end-line-requires c = valley_read-are_squares c.skel.result.now c.args.board.now c.skel.ensures.value c.skel.ensures.legal c.ends.result.now
     c.ends.ensures c.args.valley.now c.requires
 
-pub returns-then-line-ge2 : goal.returns-then-line-ge2
-returns-then-line-ge2 c told = left_on_line c.args.board.now (take (c.args.valley.now.end - c.args.valley.now.start)
+pub returns : goal.returns
+returns c told = left_on_line c.args.board.now (take (c.args.valley.now.end - c.args.valley.now.start)
     (drop c.args.valley.now.start c.ends.result.now)) c.left_end-line.result c.first.result
     (valley_read c.skel.result.now c.skel.ensures.legal (sizes_of (outline_of c.skel.result.now)) c.ends.result.now refl c.ends.ensures c.args.valley.now
     (subst (λ (w : Word). IsValleyPlace w c.args.valley.now) (sym c.skel.ensures.value) c.requires)
     ∙ ap (λ (w : Word). valley_of (outline_of w)) c.skel.ensures.value) c.skel.result.now c.skel.ensures.value c.skel.ensures.legal
-    c.left_end-line.ensures.value c.first.ensures c.if-line-ge2.true told
+    c.left_end-line.ensures.value c.first.ensures (sym c.is_top_line.ensures ∙ told)

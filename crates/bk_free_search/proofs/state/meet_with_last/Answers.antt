@@ -16,7 +16,7 @@ returns-in-None-clause-all g c w sought on = absurd (sought.fertile c.args.board
 pub returns-clause-all : goal.returns-clause-all
 returns-clause-all g c w sought on =
     let whole = last_is_whole c.args.order c.args.board.now w sought c.requires.one on
-    ∙ (λ i. c.args.board.now ++ sym c.in-Some.ensures.last i ∷ []) ∙ sym c.push.ensures in
+    ∙ (λ i. c.args.board.now ++ sym c.in-Some.ensures.last i ∷ []) ∙ sym c.play.ensures in
     subst (λ v. g.S.Leaves.has_met c.meet_closed.new.leaves v) (sym whole) (c.meet_closed.ensures.met (subst IsComplete whole sought.complete))
 
 pub last_move-requires-clause-least : goal.last_move-requires-clause-least
@@ -34,12 +34,12 @@ returns-in-None-clause-board g c = refl
 pub returns-clause-kept : goal.returns-clause-kept
 returns-clause-kept g c = c.meet_closed.ensures.kept
 
-pub push-requires-clause-legal : goal.push-requires-clause-legal
-push-requires-clause-legal g c = last_legal (outline_of c.args.board.now) c.in-Some.last (open_sides (outline_of c.args.board.now))
+pub play-requires-clause-legal : goal.play-requires-clause-legal
+play-requires-clause-legal g c = last_legal (outline_of c.args.board.now) c.in-Some.last (open_sides (outline_of c.args.board.now))
     (ap (λ (m : Move). m.count) c.in-Some.ensures.last) (ap (λ (m : Move). m.signs) c.in-Some.ensures.last) refl
 
-pub push-requires-clause-few : goal.push-requires-clause-few
-push-requires-clause-few g c = omega (arith, c.requires.one, c.requires.most, ap (λ (m : Move). m.count) c.in-Some.ensures.last)
+pub play-requires-clause-few : goal.play-requires-clause-few
+play-requires-clause-few g c = omega (arith, c.requires.one, c.requires.most, ap (λ (m : Move). m.count) c.in-Some.ensures.last)
 
 pub meet_closed-requires : goal.meet_closed-requires
 meet_closed-requires g c = record {
@@ -47,7 +47,7 @@ meet_closed-requires g c = record {
     arith,
     c.requires.one,
     c.requires.most,
-    ap order_of c.push.ensures,
+    ap order_of c.play.ensures,
     order_one c.args.board.now c.in-Some.last,
     ap (λ (m : Move). m.count) c.in-Some.ensures.last,
   );
@@ -55,11 +55,11 @@ meet_closed-requires g c = record {
 
 pub take_back-requires-clause-some : goal.take_back-requires-clause-some
 take_back-requires-clause-some g c =
-    omega (arith, ap (λ (w : Word). length w) c.push.ensures, length-append c.args.board.now (c.in-Some.last ∷ []))
+    omega (arith, ap (λ (w : Word). length w) c.play.ensures, length-append c.args.board.now (c.in-Some.last ∷ []))
 
 pub take_back-requires-clause-before : goal.take_back-requires-clause-before
 take_back-requires-clause-before g c = subst (λ (w : Word). IsBoardOutline w c.outline-before.result)
-    (sym (without_last c.args.board.now c.push.new.self c.in-Some.last c.push.ensures)) c.outline-before.ensures
+    (sym (without_last c.args.board.now c.play.new.self c.in-Some.last c.play.ensures)) c.outline-before.ensures
 
 pub returns-clause-board : goal.returns-clause-board
-returns-clause-board g c = c.take_back.ensures ∙ without_last c.args.board.now c.push.new.self c.in-Some.last c.push.ensures
+returns-clause-board g c = c.take_back.ensures ∙ without_last c.args.board.now c.play.new.self c.in-Some.last c.play.ensures

@@ -3,7 +3,7 @@ use Rattle.std.specs.List.Sorted.{IsPartitionPoint}
 use Rattle.std.specs.Prelude.{false, true}
 use Rattle.std.proofs.lemmas.List.Sorted.{IsPartitionPoint-from_clause}
 use Rattle.bk_net.proofs.NodeNumbers.{IsFound, lower_edge_fits, node_below_found}
-use Rattle.bk_net.specs.CellOrder.{is_no_later}
+use Rattle.bk_tiling.specs.CodeOrder.{is_no_later}
 use Rattle.bk_net.proofs.SquareNumbers.{parted_at_cell}
 use Rattle.bk_net.proofs.diagram.place_below.Goals as goal
 

@@ -7,7 +7,7 @@ use Rattle.bk_ports.specs.Causes.{Rose}
 use Rattle.bk_ports.specs.Answered.{CountFits}
 use Rattle.bk_ports.specs.Ending.{ended_of, streams_between, verdict_of}
 use Rattle.bk_ports.specs.Entering.{entering_from, entries_of}
-use Rattle.bk_ports.specs.Faults.{CountsTell, Faults}
+use Rattle.bk_ports.specs.Faults.{CountsTell, Faults, faults_told}
 use Rattle.bk_ports.specs.declared.Ended.{Ended}
 use Rattle.bk_ports.specs.declared.Ended.TheVariants.{TooMany}
 use Rattle.bk_ports.specs.declared.line.Stop.{Stop}
@@ -24,9 +24,9 @@ at_stop NoMemory faults same count = (same, count)
 
 stop_tells : (stop : Stop) (ended : Ended) (read read_after write now write_after : ℕ) → ended ≡ ended_of stop → read_after ≡ read → now ≡ write
     → CountFits {T = Bool} now write_after (Err stop)
-    → CountsTell ended (record { read = read; read_after = read_after; write = write; write_after = write_after })
+    → CountsTell ended (faults_told read read_after write write_after)
 stop_tells stop ended read read_after write now write_after is same at count =
-    let faults : Faults = record { read = read; read_after = read_after; write = write; write_after = write_after } in
+    let faults : Faults = faults_told read read_after write write_after in
     subst (λ (e : Ended). CountsTell e faults) (sym is)
     (at_stop stop faults same (subst (λ (n : ℕ). CountFits {T = Bool} n write_after (Err stop)) at count))
 
@@ -106,12 +106,8 @@ reads-preserved g c = record {
 
 pub returns-in-Ok-enter_last-clause-faults : goal.returns-in-Ok-enter_last-clause-faults
 returns-in-Ok-enter_last-clause-faults g c =
-    let faults : Faults = record {
-      read = g.S.Source.faults c.args.source.now;
-      read_after = g.S.Source.faults c.read_block.new.source;
-      write = g.O.Sink.faults c.args.out.now;
-      write_after = g.O.Sink.faults c.enter_last.new.out;
-    } in
+    let faults : Faults = faults_told (g.S.Source.faults c.args.source.now) (g.S.Source.faults c.read_block.new.source)
+    (g.O.Sink.faults c.args.out.now) (g.O.Sink.faults c.enter_last.new.out) in
     subst (λ (e : Ended). CountsTell e faults) (sym c.verdict.ensures)
     (at_verdict (c.reads.refused || c.in-Ok-enter_last.is_refused) faults (c.in-Ok.ensures.cause.ok ∙ c.reads.invariant.same_source)
     (c.in-Ok-enter_last.ensures.count ∙ c.reads.invariant.same_out))

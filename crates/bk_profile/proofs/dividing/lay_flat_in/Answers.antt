@@ -17,14 +17,14 @@ some_left (s ∷ sides) e = omega arith
 fewer_left : (all left taken : ℕ) → 0 < taken → left + taken ≡ all → left < all
 fewer_left all left taken some sum = omega (arith, some, sum)
 
-pub returns-then-width-gt-WIDEST_ROW-clause-refused : goal.returns-then-width-gt-WIDEST_ROW-clause-refused
-returns-then-width-gt-WIDEST_ROW-clause-refused c =
-    too_wide c.args.width c.sum_of.result c.args.sides.now c.requires.some c.requires.few c.requires.sides c.if-width-gt-WIDEST_ROW.true
+pub returns-then-width-gt-WIDEST_PROFILE-clause-refused : goal.returns-then-width-gt-WIDEST_PROFILE-clause-refused
+returns-then-width-gt-WIDEST_PROFILE-clause-refused c =
+    too_wide c.args.width c.sum_of.result c.args.sides.now c.requires.some c.requires.few c.requires.sides c.if-width-gt-WIDEST_PROFILE.true
     c.sum_of.ensures.sum
 
-pub returns-then-width-gt-WIDEST_ROW-clause-only : goal.returns-then-width-gt-WIDEST_ROW-clause-only
-returns-then-width-gt-WIDEST_ROW-clause-only c t has = absurd (flat_refused_has_none c.args.width c.args.sides.now (Gap 1 c.args.width c.sum_of.result)
-    (too_wide c.args.width c.sum_of.result c.args.sides.now c.requires.some c.requires.few c.requires.sides c.if-width-gt-WIDEST_ROW.true
+pub returns-then-width-gt-WIDEST_PROFILE-clause-only : goal.returns-then-width-gt-WIDEST_PROFILE-clause-only
+returns-then-width-gt-WIDEST_PROFILE-clause-only c t has = absurd (flat_refused_has_none c.args.width c.args.sides.now (Gap 1 c.args.width c.sum_of.result)
+    (too_wide c.args.width c.sum_of.result c.args.sides.now c.requires.some c.requires.few c.requires.sides c.if-width-gt-WIDEST_PROFILE.true
     c.sum_of.ensures.sum) t has)
 
 pub overflow_add-group : goal.overflow_add-group
@@ -71,7 +71,7 @@ pub restart-requires-clause-some : goal.restart-requires-clause-some
 restart-requires-clause-some c = c.requires.wide
 
 pub restart-requires-clause-narrow : goal.restart-requires-clause-narrow
-restart-requires-clause-narrow c = omega (arith, c.if-width-gt-WIDEST_ROW.false)
+restart-requires-clause-narrow c = omega (arith, c.if-width-gt-WIDEST_PROFILE.false)
 
 pub loop-rest-init : goal.loop-rest-init
 loop-rest-init c =
@@ -86,8 +86,8 @@ even_height-requires c =
 pub leave_tiling-requires : goal.leave_tiling-requires
 leave_tiling-requires c = c.in-Ok-even_height.ensures.even
 
-pub returns-then-width-gt-WIDEST_ROW-clause-same : goal.returns-then-width-gt-WIDEST_ROW-clause-same
-returns-then-width-gt-WIDEST_ROW-clause-same c = refl
+pub returns-then-width-gt-WIDEST_PROFILE-clause-same : goal.returns-then-width-gt-WIDEST_PROFILE-clause-same
+returns-then-width-gt-WIDEST_PROFILE-clause-same c = refl
 
 pub returns-in-Err-even_height-clause-same : goal.returns-in-Err-even_height-clause-same
 returns-in-Err-even_height-clause-same c = refl

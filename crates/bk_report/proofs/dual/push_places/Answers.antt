@@ -9,8 +9,8 @@ loop-number-init c = (sym (append-nil c.args.out.now.items), omega arith)
 pub push-requires : goal.push-requires
 push-requires c = omega arith
 
-pub push_node-requires-clause-room : goal.push_node-requires-clause-room
-push_node-requires-clause-room c = omega arith
+pub push_place-requires-clause-room : goal.push_place-requires-clause-room
+push_place-requires-clause-room c = omega arith
 
 pub loop-number-preserved : goal.loop-number-preserved
 loop-number-preserved c = grind (arith, append_assoc, append-nil, flat_map-append, take_at_read, length-append)

@@ -8,11 +8,12 @@ use Rattle.bk_sym.specs.Image.{image}
 use Rattle.bk_sym.specs.declared.Turn.TheVariants.{Swap}
 use Rattle.bk_dual.specs.Dual.{crossings, dual_diagram, dual_order}
 use Rattle.bk_report.specs.Answers.{wire_text}
+use Rattle.bk_report.specs.declared.net.TheConstants.{LARGEST_PLACE}
 use Rattle.bk_report.proofs.Spaces.{dual_pieces}
 use Rattle.bk_report.proofs.dual.write_dual.Goals as goal
 
 pub push_places-requires-clause-small : goal.push_places-requires-clause-small
-push_places-requires-clause-small c = subst (λ (l : List ℕ). All (λ n. n ≤ 999) l) (sym c.as_slice.ensures.value)
+push_places-requires-clause-small c = subst (λ (l : List ℕ). All (λ n. n ≤ LARGEST_PLACE) l) (sym c.as_slice.ensures.value)
     (all_small-below_1000 c.dual_order.result.items (order c.args.tiling.now) (c.dual_order.ensures.kept).few c.dual_order.ensures.range)
 
 pub returns-clause-line : goal.returns-clause-line

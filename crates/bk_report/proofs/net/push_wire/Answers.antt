@@ -10,25 +10,25 @@ wire_pieces front from to = simp append_assoc
 pub push-requires : goal.push-requires
 push-requires c = omega arith
 
-pub push_node-requires-clause-small : goal.push_node-requires-clause-small
-push_node-requires-clause-small c = c.requires.from
+pub push_place-requires-clause-small : goal.push_place-requires-clause-small
+push_place-requires-clause-small c = c.requires.from
 
-pub push_node-requires-clause-room : goal.push_node-requires-clause-room
-push_node-requires-clause-room c = omega arith
+pub push_place-requires-clause-room : goal.push_place-requires-clause-room
+push_place-requires-clause-room c = omega arith
 
 pub push-requires-2 : goal.push-requires-2
-push-requires-2 c = omega (arith, length-append {A = ℕ}, ap length c.push_node.ensures.text)
+push-requires-2 c = omega (arith, length-append {A = ℕ}, ap length c.push_place.ensures.text)
 
-pub push_node-requires-2-clause-small : goal.push_node-requires-2-clause-small
-push_node-requires-2-clause-small c = c.requires.to
+pub push_place-requires-2-clause-small : goal.push_place-requires-2-clause-small
+push_place-requires-2-clause-small c = c.requires.to
 
-pub push_node-requires-2-clause-room : goal.push_node-requires-2-clause-room
-push_node-requires-2-clause-room c = omega (arith, length-append {A = ℕ}, ap length c.push_node.ensures.text)
+pub push_place-requires-2-clause-room : goal.push_place-requires-2-clause-room
+push_place-requires-2-clause-room c = omega (arith, length-append {A = ℕ}, ap length c.push_place.ensures.text)
 
 pub returns-clause-short : goal.returns-clause-short
-returns-clause-short c = omega (arith, length-append {A = ℕ}, ap length c.push_node.ensures.text, ap length c.push_node-2.ensures.text)
+returns-clause-short c = omega (arith, length-append {A = ℕ}, ap length c.push_place.ensures.text, ap length c.push_place-2.ensures.text)
 
 pub returns-clause-text : goal.returns-clause-text
 returns-clause-text c =
-    rw (c.push_node-2.ensures.text, c.push-2.ensures.items, c.push_node.ensures.text, c.push.ensures.items)
+    rw (c.push_place-2.ensures.text, c.push-2.ensures.items, c.push_place.ensures.text, c.push.ensures.items)
     (wire_pieces c.args.out.now.items (decimal c.args.from) (decimal c.args.to))

@@ -16,7 +16,7 @@ returns-in-Close c =
     front_side c.args.bracket c.args.bytes.now c.number_in_front-side.result.0 c.number_in_front-side.result.1 true c.number_in_front-side.ensures.spelled
     (omega arith) (omega arith)
     (subst (λ (z : Bracket). Ends (get_or c.args.bytes.now c.number_in_front-side.result.1 0) z c.number_in_front-side.result.0 true)
-    (sym (c.are_of_one_kind.ensures c.if-are_of_one_kind.true))
+    (sym (c.is_like.ensures.0 c.if-is_like.true))
     (bracket_ends (get_or c.args.bytes.now c.number_in_front-side.result.1 0) c.number_in_front-side.result.0 c.in-Close.other (omega arith)
     (sym c.kind_of.ensures ∙ c.in-Close.is)))
 

@@ -24,13 +24,13 @@ close_rest-requires-clause-start g c = ap (λ (s : RestState). s.walk.cursor) c.
 pub returns-clause-closed : goal.returns-clause-closed
 returns-clause-closed g c =
     subst (λ (s : RestState). IfOk c.close_rest.result (λ differs. ClosesReport s.walk.order
-    (kept_of_rest s (record { foreign = c.args.state.foreign; repeated = c.args.state.repeated; refused = c.args.state.refused })) differs
+    (kept_of_rest s c.args.state.lines) differs
     (g.O.Sink.written c.args.out.now) (g.O.Sink.written c.close_rest.new.out))) c.of-rest.ensures c.close_rest.ensures.closed
 
 pub returns-clause-begun : goal.returns-clause-begun
 returns-clause-begun g c =
     subst (λ (s : RestState). OnErr c.close_rest.result (IsClosingBegun s.walk.order
-    (kept_of_rest s (record { foreign = c.args.state.foreign; repeated = c.args.state.repeated; refused = c.args.state.refused }))
+    (kept_of_rest s c.args.state.lines)
     (g.O.Sink.written c.args.out.now) (g.O.Sink.written c.close_rest.new.out))) c.of-rest.ensures c.close_rest.ensures.begun
 
 pub returns-clause-cause : goal.returns-clause-cause

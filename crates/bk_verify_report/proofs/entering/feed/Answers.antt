@@ -23,7 +23,7 @@ returns-in_ok-write_all-in-Ok-Repeats-clause-outcome g c line has =
     let fed = subst (λ (f : Fed). IsFed c.args.state.now.entries c.args.number c.args.tiling.now f c.feed.new.self) c.in-Ok-Repeats.field-0-is
     c.in-Ok-Repeats.ensures.fed in
     written_one c.args.state.now c.args.number line false (record c.args.state.now
-    { entries = c.feed.new.self; repeated = c.args.state.now.repeated + 1 })
+    { entries = c.feed.new.self; lines = record c.args.state.now.lines { repeated = c.args.state.now.lines.repeated + 1 } })
     (g.O.Sink.written c.args.out.now) (g.O.Sink.written c.write_all.new.self) (repeats_line c.args.number c.in-Ok-Repeats.first) c.as_slice.result.now
     (c.as_slice.ensures.value ∙ c.write_repeats.ensures) (feeds c.args.tiling.now (Repeats c.in-Ok-Repeats.first) c.feed.new.self has fed)
     c.in_ok-write_all-in-Ok-Repeats.ensures.ok
@@ -34,7 +34,7 @@ returns-in_err-write_all-in-Ok-Repeats-clause-failed g c line has =
     c.in-Ok-Repeats.ensures.fed in
     on_err-intro c.from_residual.result
     (begun_one c.args.state.now c.args.number line false (record c.args.state.now
-    { entries = c.feed.new.self; repeated = c.args.state.now.repeated + 1 })
+    { entries = c.feed.new.self; lines = record c.args.state.now.lines { repeated = c.args.state.now.lines.repeated + 1 } })
     (g.O.Sink.written c.args.out.now) (g.O.Sink.written c.write_all.new.self) (repeats_line c.args.number c.in-Ok-Repeats.first) c.as_slice.result.now
     (c.as_slice.ensures.value ∙ c.write_repeats.ensures) (feeds c.args.tiling.now (Repeats c.in-Ok-Repeats.first) c.feed.new.self has fed)
     c.in_err-write_all-in-Ok-Repeats.ensures.err)
@@ -44,7 +44,7 @@ returns-in_ok-write_all-in-Ok-Foreign-clause-outcome g c line has =
     let fed = subst (λ (f : Fed). IsFed c.args.state.now.entries c.args.number c.args.tiling.now f c.feed.new.self) c.in-Ok-Foreign.field-0-is
     c.in-Ok-Foreign.ensures.fed in
     written_one c.args.state.now c.args.number line false (record c.args.state.now
-    { entries = c.feed.new.self; foreign = c.args.state.now.foreign + 1 })
+    { entries = c.feed.new.self; lines = record c.args.state.now.lines { foreign = c.args.state.now.lines.foreign + 1 } })
     (g.O.Sink.written c.args.out.now) (g.O.Sink.written c.write_all-in-Ok-Foreign.new.self) (foreign_line c.args.number) c.as_slice-in-Ok-Foreign.result.now
     (c.as_slice-in-Ok-Foreign.ensures.value ∙ c.write_foreign.ensures) (feeds c.args.tiling.now Foreign c.feed.new.self has fed)
     c.in_ok-write_all-in-Ok-Foreign.ensures.ok
@@ -55,7 +55,7 @@ returns-in_err-write_all-in-Ok-Foreign-clause-failed g c line has =
     c.in-Ok-Foreign.ensures.fed in
     on_err-intro c.from_residual-in_err-write_all-in-Ok-Foreign.result
     (begun_one c.args.state.now c.args.number line false (record c.args.state.now
-    { entries = c.feed.new.self; foreign = c.args.state.now.foreign + 1 })
+    { entries = c.feed.new.self; lines = record c.args.state.now.lines { foreign = c.args.state.now.lines.foreign + 1 } })
     (g.O.Sink.written c.args.out.now) (g.O.Sink.written c.write_all-in-Ok-Foreign.new.self) (foreign_line c.args.number) c.as_slice-in-Ok-Foreign.result.now
     (c.as_slice-in-Ok-Foreign.ensures.value ∙ c.write_foreign.ensures) (feeds c.args.tiling.now Foreign c.feed.new.self has fed)
     c.in_err-write_all-in-Ok-Foreign.ensures.err)

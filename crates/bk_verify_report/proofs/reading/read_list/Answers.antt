@@ -1,7 +1,8 @@
 use Rattle.std.proofs.Common.{subst, sym}
+use Rattle.bk_ports.proofs.OtherOutputs.{stop_told}
 use Rattle.bk_ports.specs.Ending.{streams_between}
 use Rattle.bk_ports.specs.Entering.{entering_from, entries_of}
-use Rattle.bk_verify_report.proofs.Ending.{calm_at, stop_told, whole_at}
+use Rattle.bk_verify_report.proofs.Ending.{calm_at, whole_at}
 use Rattle.bk_verify_report.proofs.EndingAtLines.{entered_from_none_entered, stops_at_lines}
 use Rattle.bk_verify_report.specs.ListLine.{none_entered}
 use Rattle.bk_verify_report.specs.ListReading.{IsListRead, rules}

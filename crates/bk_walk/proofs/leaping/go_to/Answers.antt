@@ -29,32 +29,32 @@ next_move g c =
     going_next c.args.tree.now.order c.moves.tree c.args.number c.moves.invariant.goes c.moves.invariant.stays.order
     c.skel-in-moves.ensures.kept c.skel-in-moves.result.now c.skel-in-moves.ensures.value few c.read_next.new.m c.read_next.ensures
 
-pub play-requires-clause-legal : goal.play-requires-clause-legal
-play-requires-clause-legal g c =
-    let next = next_move g (goal.at.play-requires-clause-legal g c).After-read_next in
+pub push-requires-clause-legal : goal.push-requires-clause-legal
+push-requires-clause-legal g c =
+    let next = next_move g (goal.at.push-requires-clause-legal g c).After-read_next in
     next.legal
 
-pub play-requires-clause-few : goal.play-requires-clause-few
-play-requires-clause-few g c =
-    let next = next_move g (goal.at.play-requires-clause-few g c).After-read_next in
+pub push-requires-clause-few : goal.push-requires-clause-few
+push-requires-clause-few g c =
+    let next = next_move g (goal.at.push-requires-clause-few g c).After-read_next in
     omega (arith, next.few, c.moves.invariant.stays.order)
 
 pub moves-smaller : goal.moves-smaller
 moves-smaller g c =
     let next = next_move g (goal.at.moves-smaller g c).After-read_next in
-    played_nearer c.moves.tree c.play.new.self c.read_next.new.m c.play.ensures.state c.args.tree.now.order c.args.number
+    played_nearer c.moves.tree c.push.new.self c.read_next.new.m c.push.ensures.state c.args.tree.now.order c.args.number
     c.moves.invariant.stays.order next
 
 pub moves-preserved : goal.moves-preserved
 moves-preserved g c =
     let next = next_move g (goal.at.moves-preserved g c).After-read_next in
     record {
-      goes = played_goes c.moves.tree c.play.new.self c.read_next.new.m c.play.ensures.state c.args.tree.now.order c.args.number next;
+      goes = played_goes c.moves.tree c.push.new.self c.read_next.new.m c.push.ensures.state c.args.tree.now.order c.args.number next;
       ordered = c.moves.invariant.ordered;
-      one_each = played_each c.moves.tree c.play.new.self c.read_next.new.m c.play.ensures.state c.args.steps.now (length c.args.tree.now.front)
-          c.moves.steps c.play.new.steps c.moves.invariant.one_each c.play.ensures.step;
-      stays = stays_then c.args.tree.now c.moves.tree c.play.new.self c.args.steps.now c.moves.steps c.play.new.steps c.moves.invariant.stays
-          (played_stays c.moves.tree c.play.new.self c.read_next.new.m c.play.ensures.state c.moves.steps c.play.new.steps c.play.ensures.step);
+      one_each = played_each c.moves.tree c.push.new.self c.read_next.new.m c.push.ensures.state c.args.steps.now (length c.args.tree.now.front)
+          c.moves.steps c.push.new.steps c.moves.invariant.one_each c.push.ensures.step;
+      stays = stays_then c.args.tree.now c.moves.tree c.push.new.self c.args.steps.now c.moves.steps c.push.new.steps c.moves.invariant.stays
+          (played_stays c.moves.tree c.push.new.self c.read_next.new.m c.push.ensures.state c.moves.steps c.push.new.steps c.push.ensures.step);
     }
 
 pub returns-clause-at : goal.returns-clause-at

@@ -21,12 +21,12 @@ number_with-number-requires-clause-few g c = let kept = c.skel.ensures.kept in
 
 pub fill-requires : goal.fill-requires
 fill-requires g c = let kept = c.skel.ensures.kept in
-    (search tests, (omega arith, omega (arith, c.order-in-Nothing.ensures, kept.most)))
+    (search tests, (omega arith, omega (arith, c.order-in-Unknown.ensures, kept.most)))
 
-pub returns-in-Nothing : goal.returns-in-Nothing
-returns-in-Nothing g c = tells_here c.args.tree.now c.skel.result.now c.next.result.now c.order-in-Nothing-2.result c.class-in-Nothing-2.result
-    c.number_with-number.result c.answer_of_table-in-Nothing.result c.skel.ensures.kept c.requires c.skel.ensures.value c.next.ensures
-    c.order-in-Nothing-2.ensures c.class-in-Nothing-2.ensures c.number_with-number.ensures c.answer_of_table-in-Nothing.ensures
+pub returns-in-Unknown : goal.returns-in-Unknown
+returns-in-Unknown g c = tells_here c.args.tree.now c.skel.result.now c.next.result.now c.order-in-Unknown-2.result c.class-in-Unknown-2.result
+    c.number_with-number.result c.answer_of_table-in-Unknown.result c.skel.ensures.kept c.requires c.skel.ensures.value c.next.ensures
+    c.order-in-Unknown-2.ensures c.class-in-Unknown-2.ensures c.number_with-number.ensures c.answer_of_table-in-Unknown.ensures
 
 pub returns-in_default : goal.returns-in_default
 returns-in_default g c = tells_here c.args.tree.now c.skel.result.now c.next.result.now c.order-2.result c.class.result c.number_with-number.result
@@ -36,5 +36,5 @@ returns-in_default g c = tells_here c.args.tree.now c.skel.result.now c.next.res
 pub answer_of_table-requires : goal.answer_of_table-requires
 answer_of_table-requires g c = search tests
 
-pub answer_of_table-requires-in-Nothing : goal.answer_of_table-requires-in-Nothing
-answer_of_table-requires-in-Nothing g c = search tests
+pub answer_of_table-requires-in-Unknown : goal.answer_of_table-requires-in-Unknown
+answer_of_table-requires-in-Unknown g c = search tests

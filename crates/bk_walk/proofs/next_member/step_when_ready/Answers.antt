@@ -27,8 +27,8 @@ realise-requires g c = subst (λ (n : ℕ). IsMembersWord n c.leap.new.tree.clas
 pub shorten-requires : goal.shorten-requires
 shorten-requires g c = omega arith
 
-pub returns-in-Nothing : goal.returns-in-Nothing
-returns-in-Nothing g c = record { leads = c.walk_on.ensures.leads; member = c.walk_on.ensures.member; stays = c.walk_on.ensures.stays }
+pub returns-in-Unknown : goal.returns-in-Unknown
+returns-in-Unknown g c = record { leads = c.walk_on.ensures.leads; member = c.walk_on.ensures.member; stays = c.walk_on.ensures.stays }
 
 pub returns-in-Next : goal.returns-in-Next
 returns-in-Next g c =

@@ -581,8 +581,8 @@ with_move-bars_move-requires g t c = record { next = c.requires.next; valley = c
 pub with_move-returns-then-bars_move : goal.with_move-returns-then-bars_move
 with_move-returns-then-bars_move g t c = none_from c.args.leaves.now (c.bars_move.ensures c.if-bars_move.true)
 
-pub with_move-push-requires : goal.with_move-push-requires
-with_move-push-requires g t c = record { legal = c.requires.next.legal; few = omega (arith, c.requires.next.few, c.requires.next.most) }
+pub with_move-play-requires : goal.with_move-play-requires
+with_move-play-requires g t c = record { legal = c.requires.next.legal; few = omega (arith, c.requires.next.few, c.requires.next.most) }
 
 pub with_move-meet_all-requires : goal.with_move-meet_all-requires
 with_move-meet_all-requires g t c κs within = (
@@ -590,29 +590,29 @@ with_move-meet_all-requires g t c κs within = (
   (within, (c.requires.next.least, (c.requires.next.most, omega (arith, more, c.requires.next.few)))),
 )
   where
-    more : order_of c.push.new.self ≡ order_of c.args.self.now.board + c.args.begun.now.m.count
-    more = ap order_of c.push.ensures ∙ order_one c.args.self.now.board c.args.begun.now.m
+    more : order_of c.play.new.self ≡ order_of c.args.self.now.board + c.args.begun.now.m.count
+    more = ap order_of c.play.ensures ∙ order_one c.args.self.now.board c.args.begun.now.m
 
 pub with_move-take_back-requires : goal.with_move-take_back-requires
 with_move-take_back-requires g t c = record {
   some = omega (
     arith,
     ap (λ (s : Search). length s.board) c.meet_all.ensures.same,
-    ap (λ (v : Word). length v) c.push.ensures,
+    ap (λ (v : Word). length v) c.play.ensures,
     length-append c.args.self.now.board (c.args.begun.now.m ∷ []),
   );
   before = subst (λ (v : Word). IsBoardOutline v c.outline-before.result)
       (sym (without_last c.args.self.now.board c.meet_all.new.self.board c.args.begun.now.m (ap (λ (s : Search). s.board) c.meet_all.ensures.same
-      ∙ c.push.ensures))) c.outline-before.ensures;
+      ∙ c.play.ensures))) c.outline-before.ensures;
 }
 
 pub with_move-returns : goal.with_move-returns
 with_move-returns g t c = record {
-  all = λ w sought on. c.meet_all.ensures.all w sought (subst (λ (v : Word). GoesOn v w) (sym c.push.ensures) on);
+  all = λ w sought on. c.meet_all.ensures.all w sought (subst (λ (v : Word). GoesOn v w) (sym c.play.ensures) on);
   kept = c.meet_all.ensures.kept;
   same = λ i. record {
     board = (c.take_back.ensures ∙ without_last c.args.self.now.board c.meet_all.new.self.board c.args.begun.now.m
-        (ap (λ (s : Search). s.board) c.meet_all.ensures.same ∙ c.push.ensures)) i;
+        (ap (λ (s : Search). s.board) c.meet_all.ensures.same ∙ c.play.ensures)) i;
     order = (ap (λ (s : Search). s.order) c.meet_all.ensures.same) i;
   };
 }

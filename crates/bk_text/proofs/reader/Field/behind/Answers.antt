@@ -1,9 +1,9 @@
 -- Each arm of `behind` gives what the definition gives at that field and that byte.
 use Rattle.std.specs.Prelude.{None, Option, refl, ℕ, ◌≡◌}
 use Rattle.std.proofs.Common.{sym, ◌∙◌}
-use Rattle.bk_text.specs.LineReading.{behind_number}
+use Rattle.bk_text.specs.LineReader.{behind_number}
 use Rattle.bk_text.specs.declared.reader.Bracket.{Bracket}
-use Rattle.bk_text.specs.declared.reader.Field.TheVariants.{Column, First, Height, Second, Side, Third}
+use Rattle.bk_text.specs.declared.reader.Field.TheVariants.{First, Height, RowSide, Second, Side, Third}
 use Rattle.bk_text.specs.declared.reader.Header.{Header}
 use Rattle.bk_text.specs.declared.reader.ByteKind.{ByteKind}
 use Rattle.bk_text.specs.declared.reader.ByteKind.TheVariants.{Blank, Close, Comma, Cross, Open, Semicolon}
@@ -32,10 +32,10 @@ none_third : (order width n : ℕ) (k : ByteKind) → (k ≡ Blank → ⊥) → 
 none_third order width n Blank blank = absurd (blank refl)
 none_third order width n k blank = refl
 
-none_column : (table : Table) (n : ℕ) (k : ByteKind) → (k ≡ Blank → ⊥) → (k ≡ Semicolon → ⊥) → None ≡ behind_number (Column table) n k
-none_column table n Blank blank semicolon = absurd (blank refl)
-none_column table n Semicolon blank semicolon = absurd (semicolon refl)
-none_column table n k blank semicolon = refl
+none_row_side : (table : Table) (n : ℕ) (k : ByteKind) → (k ≡ Blank → ⊥) → (k ≡ Semicolon → ⊥) → None ≡ behind_number (RowSide table) n k
+none_row_side table n Blank blank semicolon = absurd (blank refl)
+none_row_side table n Semicolon blank semicolon = absurd (semicolon refl)
+none_row_side table n k blank semicolon = refl
 
 none_side : (header : Header) (bracket : Bracket) (n : ℕ) (k : ByteKind) → (k ≡ Blank → ⊥) → (k ≡ Comma → ⊥) → ((b : Bracket) → k ≡ Close b → ⊥)
     → None ≡ behind_number (Side header bracket) n k
@@ -68,11 +68,11 @@ returns-in-Height-Open c = sym (λ i. behind_number (c.in-Height-Open.is-0 i) c.
 pub returns-in-Third-Blank : goal.returns-in-Third-Blank
 returns-in-Third-Blank c = sym (λ i. behind_number (c.in-Third-Blank.is-0 i) c.args.value (c.in-Third-Blank.is-1 i))
 
-pub returns-in-Column-Blank : goal.returns-in-Column-Blank
-returns-in-Column-Blank c = sym (λ i. behind_number (c.in-Column-Blank.is-0 i) c.args.value (c.in-Column-Blank.is-1 i))
+pub returns-in-RowSide-Blank : goal.returns-in-RowSide-Blank
+returns-in-RowSide-Blank c = sym (λ i. behind_number (c.in-RowSide-Blank.is-0 i) c.args.value (c.in-RowSide-Blank.is-1 i))
 
-pub returns-in-Column-Semicolon : goal.returns-in-Column-Semicolon
-returns-in-Column-Semicolon c = sym (λ i. behind_number (c.in-Column-Semicolon.is-0 i) c.args.value (c.in-Column-Semicolon.is-1 i))
+pub returns-in-RowSide-Semicolon : goal.returns-in-RowSide-Semicolon
+returns-in-RowSide-Semicolon c = sym (λ i. behind_number (c.in-RowSide-Semicolon.is-0 i) c.args.value (c.in-RowSide-Semicolon.is-1 i))
 
 pub returns-in-Side-Blank : goal.returns-in-Side-Blank
 returns-in-Side-Blank c = sym (λ i. behind_number (c.in-Side-Blank.is-0 i) c.args.value (c.in-Side-Blank.is-1 i))
@@ -106,7 +106,7 @@ returns-in_default-4 c =
 pub returns-in_default-5 : goal.returns-in_default-5
 returns-in_default-5 c =
     let d = c.in_default in
-    (none_column d.field-0-0 c.args.value c.args.kind d.not-Blank-1 d.not-Semicolon-1) ∙ sym (λ i. behind_number (d.is-0 i) c.args.value c.args.kind)
+    (none_row_side d.field-0-0 c.args.value c.args.kind d.not-Blank-1 d.not-Semicolon-1) ∙ sym (λ i. behind_number (d.is-0 i) c.args.value c.args.kind)
 
 pub returns-in_default-6 : goal.returns-in_default-6
 returns-in_default-6 c =

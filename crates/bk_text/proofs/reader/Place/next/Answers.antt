@@ -1,8 +1,8 @@
 -- Each arm of `next` gives what the definition gives at that place and that byte.
 use Rattle.std.proofs.Common.{None, Option, Some, ap, refl, sym, ℕ, ◌∙◌, ◌≡◌}
-use Rattle.bk_text.specs.LineReading.{next_line_place}
+use Rattle.bk_text.specs.LineReader.{next_line_place}
 use Rattle.bk_text.specs.declared.reader.Bracket.{Bracket}
-use Rattle.bk_text.specs.declared.reader.Field.TheVariants.{Column, Height, Third}
+use Rattle.bk_text.specs.declared.reader.Field.TheVariants.{Height, RowSide, Third}
 use Rattle.bk_text.specs.declared.reader.Header.{Header}
 use Rattle.bk_text.specs.declared.reader.ByteKind.{ByteKind}
 use Rattle.bk_text.specs.declared.reader.ByteKind.TheVariants.{Blank, Digit, Open}
@@ -49,8 +49,8 @@ from-requires-in-Digit-kind c = tt
 pub from-requires-in-Digit-kind-2 : goal.from-requires-in-Digit-kind-2
 from-requires-in-Digit-kind-2 c = tt
 
-pub behind_column-requires : goal.behind_column-requires
-behind_column-requires c = tt
+pub behind_row_side-requires : goal.behind_row_side-requires
+behind_row_side-requires c = tt
 
 pub before_side-requires : goal.before_side-requires
 before_side-requires c = tt
@@ -98,7 +98,7 @@ returns-in-Blank-kind c = λ i. next_line_place (sym c.in-BehindThird.is i) (sym
 
 pub returns-in-Digit-kind-2 : goal.returns-in-Digit-kind-2
 returns-in-Digit-kind-2 c =
-    ap (λ (n : ℕ). Some (Number (Column c.in-BehindThird.table) n)) c.from-in-Digit-kind-2.ensures
+    ap (λ (n : ℕ). Some (Number (RowSide c.in-BehindThird.table) n)) c.from-in-Digit-kind-2.ensures
     ∙ (λ i. next_line_place (sym c.in-BehindThird.is i) (sym c.in-Digit-kind-2.is i))
 
 pub returns-in_default-kind-2 : goal.returns-in_default-kind-2
@@ -106,8 +106,8 @@ returns-in_default-kind-2 c =
     none_third c.in-BehindThird.table c.args.kind c.in_default-kind-2.not-Blank c.in_default-kind-2.not-Digit
     ∙ ap (λ (p : Place). next_line_place p c.args.kind) (sym c.in-BehindThird.is)
 
-pub returns-in-BehindColumn : goal.returns-in-BehindColumn
-returns-in-BehindColumn c = c.behind_column.ensures ∙ ap (λ (p : Place). next_line_place p c.args.kind) (sym c.in-BehindColumn.is)
+pub returns-in-BehindRowSide : goal.returns-in-BehindRowSide
+returns-in-BehindRowSide c = c.behind_row_side.ensures ∙ ap (λ (p : Place). next_line_place p c.args.kind) (sym c.in-BehindRowSide.is)
 
 pub returns-in-Blank-kind-2 : goal.returns-in-Blank-kind-2
 returns-in-Blank-kind-2 c = λ i. next_line_place (sym c.in-BeforeGroup.is i) (sym c.in-Blank-kind-2.is i)

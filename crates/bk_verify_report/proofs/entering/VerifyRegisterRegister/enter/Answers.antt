@@ -23,18 +23,20 @@ returns-in-Ok-None-clause-outcome g c =
 
 pub returns-in_ok-write_all-in-Err-clause-outcome : goal.returns-in_ok-write_all-in-Err-clause-outcome
 returns-in_ok-write_all-in-Err-clause-outcome g c =
-    written_one c.args.self.now c.args.number c.args.line.now true (record c.self.inside.kept { refused = c.self.inside.kept.refused + 1 })
+    written_one c.args.self.now c.args.number c.args.line.now true
+    (record c.self.inside.kept { lines = record c.self.inside.kept.lines { refused = c.self.inside.kept.lines.refused + 1 } })
     (g.O.Sink.written c.args.out.now) (g.O.Sink.written c.write_all.new.self) (refused_line c.args.number c.in-Err.refused) c.as_slice.result.now
     (c.as_slice.ensures.value ∙ c.write_line_refused.ensures)
     (subst (λ (s : Verifying). EntersLine c.args.self.now c.args.number c.args.line.now
     (record { pieces = refused_line c.args.number c.in-Err.refused ∷ []; refused = true })
-    (record s { refused = s.refused + 1 })) (sym c.self.view_is) (refuses c.in-Err.refused c.in-Err.ensures.refused))
+    (record s { lines = record s.lines { refused = s.lines.refused + 1 } })) (sym c.self.view_is) (refuses c.in-Err.refused c.in-Err.ensures.refused))
     c.in_ok-write_all-in-Err.ensures.ok
 
 pub returns-in_err-write_all-in-Err-clause-failed : goal.returns-in_err-write_all-in-Err-clause-failed
 returns-in_err-write_all-in-Err-clause-failed g c =
     on_err-intro c.from_residual.result
-    (begun_one c.args.self.now c.args.number c.args.line.now true (record c.args.self.now { refused = c.args.self.now.refused + 1 })
+    (begun_one c.args.self.now c.args.number c.args.line.now true
+    (record c.args.self.now { lines = record c.args.self.now.lines { refused = c.args.self.now.lines.refused + 1 } })
     (g.O.Sink.written c.args.out.now) (g.O.Sink.written c.write_all.new.self) (refused_line c.args.number c.in-Err.refused) c.as_slice.result.now
     (c.as_slice.ensures.value ∙ c.write_line_refused.ensures) (refuses c.in-Err.refused c.in-Err.ensures.refused) c.in_err-write_all-in-Err.ensures.err)
 
@@ -45,7 +47,7 @@ pub feed-requires-clause-ready : goal.feed-requires-clause-ready
 feed-requires-clause-ready g c = subst (λ (s : Verifying). CountsAreBelow s c.args.number) (sym c.self.view_is) c.requires.ready
 
 pub overflow_add-self : goal.overflow_add-self
-overflow_add-self g c = omega (arith, c.requires.early, c.requires.ready.refused, ap (λ (s : Verifying). s.refused) c.self.view_is)
+overflow_add-self g c = omega (arith, c.requires.early, c.requires.ready.refused, ap (λ (s : Verifying). s.lines.refused) c.self.view_is)
 
 pub returns-in-Ok-None-clause-cause : goal.returns-in-Ok-None-clause-cause
 returns-in-Ok-None-clause-cause g c = cause-of_same refl
@@ -96,7 +98,7 @@ pub returns-in_ok-write_all-in-Err-clause-ready : goal.returns-in_ok-write_all-i
 returns-in_ok-write_all-in-Err-clause-ready g c =
     let ready = c.requires.ready in
     record {
-      foreign = omega (arith, ready.foreign, ap (λ (s : Verifying). s.foreign) c.self.view_is);
-      repeated = omega (arith, ready.repeated, ap (λ (s : Verifying). s.repeated) c.self.view_is);
-      refused = omega (arith, ready.refused, ap (λ (s : Verifying). s.refused) c.self.view_is);
+      foreign = omega (arith, ready.foreign, ap (λ (s : Verifying). s.lines.foreign) c.self.view_is);
+      repeated = omega (arith, ready.repeated, ap (λ (s : Verifying). s.lines.repeated) c.self.view_is);
+      refused = omega (arith, ready.refused, ap (λ (s : Verifying). s.lines.refused) c.self.view_is);
     }
