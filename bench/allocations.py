@@ -1,6 +1,6 @@
 #!/usr/bin/env python3
-"""Refuses each allocation of `flow`, `solve`, `word`, `alike` and `verify` in turn, and says what the program then does; and counts those of the
-other commands, which make none.
+"""Refuses each allocation of `flow`, `solve`, `word`, `alike`, `pair` and `verify` in turn, and says what the program then does; and counts those of
+the other commands, which make none.
 
     bench/allocations.py PROGRAM
 
@@ -32,6 +32,7 @@ COMMANDS = [
     (["solve"], ["2u.2aa.2ue.2eue.1e", "1" + ".1" * 199]),
     (["word"], [NINE, TOWER]),
     (["alike"], ["[1", NINE]),
+    (["pair"], ["[1", NINE]),
     (["verify", "--order", "9"], ["[1", NINE]),
 ]
 

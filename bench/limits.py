@@ -4,7 +4,8 @@
     bench/limits.py [--order N] [--runs K] PROGRAM
 
 PROGRAM is the built program, crates/bk_main/out/bk_main. The entries are the first, a middle one and the last, and the last whose word begins
-with each number of squares at the top. The times are of the processor, the least of K runs, which take turns.
+with each number of squares at the top. Prints a markdown table: seconds, and how much that is of the whole listing. N is by default 16. The times
+are of the processor, the least of K runs, by default 5, which take turns.
 """
 import argparse
 import sys

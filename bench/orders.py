@@ -3,8 +3,9 @@
 
     bench/orders.py [--orders N..] [--runs K] BEFORE AFTER
 
-BEFORE and AFTER are built programs, crates/bk_main/out/bk_main of two clones. The times are of the processor, in milliseconds: the least and the median of
-K runs, which take turns. Callgrind counts the instructions, and counts each byte of a `rep stosb` as one.
+BEFORE and AFTER are built programs, crates/bk_main/out/bk_main of two clones. Prints a markdown table, a row for each order, by default 2 to 11. The
+times are of the processor, in milliseconds: the least and the median of K runs, by default 200, which take turns. Callgrind (valgrind) counts the
+instructions, and counts each byte of a `rep stosb` as one.
 """
 import argparse
 import statistics

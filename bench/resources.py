@@ -1,5 +1,8 @@
-"""What a run of a command takes: time, and memory at the peak, by bench/peak_memory.c, and instructions, by callgrind (valgrind). And what else several
-scripts need: words of a command line, the code of squares, and the rows of a table."""
+"""Measures what a run of a command takes: time, and memory at the peak, by bench/peak_memory.c, and instructions, by callgrind (valgrind). And what
+else several scripts need: words of a command line, the code of squares, and the rows of a table.
+
+It isn't called by itself: the other scripts of bench/ import it.
+"""
 import argparse
 import os
 import re

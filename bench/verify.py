@@ -4,8 +4,8 @@
     bench/verify.py PROGRAM [ORDER]
 
 PROGRAM is the built program, crates/bk_main/out/bk_main, and ORDER is by default 16. The list is made here from the codes that `list` writes. `check`
-over the same lines and `list` are timed beside it. The memory of a run is its largest resident set; an entry's is what a list with all entries takes
-more than one with none.
+over the same lines and `list` are timed beside it. Prints a line for each of the three, the ratio of the times, and the memory. The memory of a run
+is its largest resident set; an entry's is what a list with all entries takes more than one with none. The times are of the processor.
 """
 import argparse
 import random

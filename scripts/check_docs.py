@@ -9,7 +9,7 @@
 - What is made from the sources or from README.md is as it would be made now: docs/DEFINITIONS.md, and the completion and the manual page in share/.
 - docs/CLAIM.md shows the definitions that what it claims stands on, as they are now (scripts/claim.py).
 - What a public contract rests on stands in specs/Lib.antt under what the crate says (scripts/headings.py).
-- No line is wider than 120 columns, but for those of tables.
+- No line is wider than 120 columns, but for those of tables. Each row of a table has as many cells as its head.
 - What the scripts of scripts/, bench/ and examples/ import is there (scripts/imports.py).
 
 Prints what differs, and at the end how many examples and names were tried and how many differ; the status is 1 if something does. With --write what
@@ -255,6 +255,21 @@ def wide_lines():
         yield from (f"{page}:{k}: {len(it)} columns" for k, it in enumerate(lines, 1) if len(it) > WIDEST and not it.startswith("|"))
 
 
+def cells_of(line):
+    """Returns how many cells a line of a table has. A `|` ends one between backticks too, unless a backslash is before it."""
+    return len(re.findall(r"(?<!\\)\|", line.rstrip().removeprefix("|").removesuffix("|"))) + 1
+
+
+def uneven_rows():
+    """Says which rows of tables have other numbers of cells than the first line of their table."""
+    for page in pages():
+        wanted = None
+        for k, line in enumerate(without_blocks(text_of(page)).split("\n"), 1):
+            wanted = (wanted or cells_of(line)) if line.startswith("|") else None
+            if wanted and cells_of(line) != wanted:
+                yield f"{page}:{k}: {cells_of(line)} cells, and {wanted} in the head of the table"
+
+
 # ---- what is made
 
 
@@ -307,6 +322,7 @@ def differences(is_written, given, tried):
     yield from wrong_inventories()
     yield from wrong_headings()
     yield from wide_lines()
+    yield from uneven_rows()
     yield from wrong_imports()
     if can_be_tried(given):
         yield from wrong_examples(given or PROGRAM, tried)
