@@ -11,6 +11,7 @@
 - What a public contract rests on stands in specs/Lib.antt under what the crate says (scripts/headings.py).
 - No line is wider than 120 columns, but for those of tables. Each row of a table has as many cells as its head.
 - What the scripts of scripts/, bench/ and examples/ import is there (scripts/imports.py).
+- Each library that a line of crates.txt names is named in a file of its crate.
 
 Prints what differs, and at the end how many examples and names were tried and how many differ; the status is 1 if something does. With --write what
 is made is made anew first.
@@ -249,6 +250,13 @@ def wrong_inventories():
                     yield f"{page}: {crate} is in {found[crate][0]}, and in {wanted} by crates.txt"
 
 
+def needless_libraries():
+    """Says which libraries crates.txt names that no file of the crate does: each makes the proofs of all crates above dearer."""
+    for crate, named in named_by_crate().items():
+        words = {it for part in PARTS for file in files_of(crate, *part) for it in re.findall(r"\w+", text_of(file))}
+        yield from (f"crates.txt: {crate} needs no {it}" for it in named if it not in words)
+
+
 def wide_lines():
     for page in pages():
         lines = text_of(page).split("\n")
@@ -320,6 +328,7 @@ def differences(is_written, given, tried):
     yield from wrong_claim(is_written)
     yield from wrong_names(tried)
     yield from wrong_inventories()
+    yield from needless_libraries()
     yield from wrong_headings()
     yield from wide_lines()
     yield from uneven_rows()

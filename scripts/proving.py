@@ -5,6 +5,7 @@ import importlib.machinery
 import importlib.util
 import os
 import shutil
+import threading
 import time
 
 from running import COMMANDS, at_work
@@ -44,6 +45,8 @@ class Toolchain:
         self.is_there = bool(self.identity)
         # With no toolchain on the PATH the program that is there may still be right: then that which made it is asked about.
         self.identity = self.identity or bytes_of(MADE_BY)
+        # (what `rt` knows of crates is no matter for two threads at once)
+        self.turn = threading.Lock()
 
     @functools.cached_property
     def crate_of_rt(self):
@@ -55,10 +58,11 @@ class Toolchain:
 
     def stamp(self, crate):
         """Returns the sum by which `rt` knows whether the library of a crate is right, or nothing if this toolchain's `rt` has none."""
-        try:
-            return self.crate_of_rt(crate.folder).stamp().encode()
-        except (Exception, SystemExit):  # pylint: disable=broad-exception-caught
-            return b""
+        with self.turn:
+            try:
+                return self.crate_of_rt(crate.folder).stamp().encode()
+            except (Exception, SystemExit):  # pylint: disable=broad-exception-caught
+                return b""
 
     def library(self, name):
         """Returns where a library of the toolchain lies."""

@@ -18,6 +18,7 @@ use Rattle.bk_answer.specs.declared.command.MemoryCommand.TheVariants.{Flow, Sol
 use Rattle.bk_answer.specs.declared.plain.PlainCommand.TheVariants.{Check}
 use Rattle.bk_answer.proofs.Accepting.{accepted_exactly, first_byte, refusal_byte}
 use Rattle.bk_answer.proofs.KeptFronts.{front_answer}
+use Rattle.bk_laws.proofs.NumberOrder.{le_or_gt}
 
 module _ (bytes : List ℕ) (pieces : List (List ℕ)) (refused : Bool) (an : AnswersCodeLine (Plain Check) bytes pieces refused) where
   -- any line
@@ -77,11 +78,8 @@ a_reply command line pieces refused an =
 
 -- what is kept of a line that is not too long is the line
 kept_whole : (line : List ℕ) → length (kept_front line) ≤ 8192 → kept_front line ≡ line
-kept_whole line short = either (two (length line))
+kept_whole line short = either (le_or_gt (length line) 8193)
   where
-    two : (n : ℕ) → (n ≤ 8193) ⊎ (8193 < n)
-    two n = grind arith
-
     either : (length line ≤ 8193) ⊎ (8193 < length line) → kept_front line ≡ line
     either (inl h) = take_all 8193 line h
     either (inr h) = absurd (omega (arith, length-take-le 8193 line (omega arith)))

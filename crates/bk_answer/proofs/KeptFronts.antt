@@ -2,7 +2,6 @@
 use Rattle.std.proofs.Common.{List, [], arith, inl, inr, length, subst, sym, ℕ, ◌<◌, ◌∷◌, ◌≡◌, ◌≤◌, ◌⊎◌}
 use Rattle.std.specs.Prelude.{Bool, true, ◌↔◌}
 use Rattle.std.proofs.lemmas.List.{length-take-le, take_all}
-use Rattle.bk_laws.proofs.NumberOrder.{at_most_or_above_8193}
 use Rattle.bk_ports.specs.Lines.{kept_front}
 use Rattle.bk_report.specs.Refusals.{refusal_line}
 use Rattle.bk_report.specs.declared.refusal.Refused.{Refused}
@@ -17,6 +16,7 @@ use Rattle.bk_answer.proofs.OneNetAnswer.{long_net_answer}
 use Rattle.bk_answer.proofs.OneAnswer.{Cause, CommandCause, at_item, at_long, at_many, at_text, by_line, by_tiling, cause_of, command_cause}
 use Rattle.bk_answer.specs.Answer.{AnswersLine}
 use Rattle.bk_answer.specs.CodeAnswer.{AnswersCodeLine, answers, any_command, no_item, refuses}
+use Rattle.bk_laws.proofs.NumberOrder.{le_or_gt}
 
 -- a line of more than 8,192 bytes is refused as too long, whatever it holds
 long_cause : (bytes : List ℕ) (r : Refused) → 8192 < length bytes → Cause bytes r → r ≡ Long
@@ -48,7 +48,7 @@ long_answer (Memory Solve) = long_word_answer
 
 -- what is kept of a line has just the answers that the line has
 pub front_answer : AFrontHasTheAnswer
-front_answer command bytes pieces refused = either (at_most_or_above_8193 (length bytes))
+front_answer command bytes pieces refused = either (le_or_gt (length bytes) 8193)
   where
     either : (length bytes ≤ 8193) ⊎ (8193 < length bytes) → AnswersLine command (kept_front bytes) pieces refused ↔ AnswersLine command bytes pieces refused
     either (inl h) =

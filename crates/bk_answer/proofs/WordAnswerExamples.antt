@@ -9,7 +9,7 @@ use Rattle.bk_tiling.proofs.TilingTest.{tiling_from_test}
 use Rattle.bk_tiling.specs.Scale.{IsPrimitiveTiling}
 use Rattle.bk_tiling.specs.Tiling.{IsTiling}
 use Rattle.bk_sym.proofs.CanonicalPrimitive.{canonical_primitive}
-use Rattle.bk_sym.specs.declared.Turn.TheVariants.{FlipX, FlipY, Half, Same, Swap, SwapFlipX, SwapFlipY, SwapHalf}
+use Rattle.bk_sym.specs.declared.Turn.TheVariants.{Same}
 use Rattle.bk_word.proofs.ItemParts.{item_found}
 use Rattle.bk_word.proofs.WordExamples.{two}
 use Rattle.bk_word.specs.Play.{IsComplete}

@@ -15,10 +15,19 @@ use Rattle.bk_tiling.specs.Tiling.{Tiling, order}
 use Rattle.bk_answer.specs.Replies.{IsReplyWith, accepted_if}
 use Rattle.bk_answer.specs.Telling.{IsAnswerTo, TellsPieces, tells}
 use Rattle.bk_answer.specs.declared.command.Command.{Command}
+use Rattle.bk_answer.specs.declared.command.Command.TheVariants.{Plain}
+use Rattle.bk_answer.specs.declared.plain.PlainCommand.{PlainCommand}
 
 -- what is told of a tiling by this command
-pub by_command : (command this : Command) (t : Tiling) (pieces : List (List ℕ)) → command ≡ this → IsAnswerTo this t pieces → IsAnswerTo command t pieces
-by_command command this t pieces e = subst (λ (c : Command). IsAnswerTo c t pieces) (sym e)
+pub by_command : (command this : PlainCommand) (t : Tiling) (pieces : List (List ℕ)) → command ≡ this → IsAnswerTo (Plain this) t pieces
+    → IsAnswerTo (Plain command) t pieces
+by_command command this t pieces e = subst (λ (c : PlainCommand). IsAnswerTo (Plain c) t pieces) (sym e)
+
+-- what a buffer has is told of a tiling by this command, as one line
+pub line_by_command : (command this : PlainCommand) (t : Tiling) (buffer line : List ℕ) → command ≡ this → buffer ≡ line
+    → IsAnswerTo (Plain this) t (line ∷ []) → IsAnswerTo (Plain command) t (buffer ∷ [])
+line_by_command command this t buffer line e is an =
+    by_command command this t (buffer ∷ []) e (subst (λ (l : List ℕ). IsAnswerTo (Plain this) t (l ∷ [])) (sym is) an)
 
 -- one piece is written
 module _ {T : Type 0} (A : List (List ℕ) → Bool → Type 0) (V : Type 0) (a b : Option (List ℕ)) where

@@ -135,25 +135,14 @@ impl PlainCommand {
         ensures cause { HasCause (O.faults out.old) (O.faults out.new) result }
     {
         match self {
-            PlainCommand::Check => {
-                write_check(tiling, buffer);
-                accepted(out.write_all(buffer.as_slice()))
-            }
-            PlainCommand::Canon => {
-                write_canonical(tiling, buffer);
-                accepted(out.write_all(buffer.as_slice()))
-            }
-            PlainCommand::Images => accepted(write_images(tiling, buffer, out)),
-            PlainCommand::Net => {
-                write_net(tiling, buffer);
-                accepted(out.write_all(buffer.as_slice()))
-            }
-            PlainCommand::Dual => {
-                write_dual(tiling, buffer);
-                accepted(out.write_all(buffer.as_slice()))
-            }
-            PlainCommand::Draw => accepted(write_drawing(tiling, out)),
+            PlainCommand::Check => write_check(tiling, buffer),
+            PlainCommand::Canon => write_canonical(tiling, buffer),
+            PlainCommand::Images => return accepted(write_images(tiling, buffer, out)),
+            PlainCommand::Net => write_net(tiling, buffer),
+            PlainCommand::Dual => write_dual(tiling, buffer),
+            PlainCommand::Draw => return accepted(write_drawing(tiling, out)),
         }
+        accepted(out.write_all(buffer.as_slice()))
     }
 }
 

@@ -2,7 +2,7 @@
 use Rattle.std.specs.Fmt.{digits}
 use Rattle.std.specs.Prelude.{None, Some, codes}
 use Rattle.std.proofs.Common.{List, [], ap, arith, false, inr, length, lit<, lit≤, nat_eq, refl, slice_index, ℕ, ◌∷◌, ◌≡◌}
-use Rattle.std.proofs.lemmas.Bool.Decides.{nat_tests}
+use Rattle.std.proofs.lemmas.Bool.{eqb-false}
 use Rattle.bk_laws.proofs.Membership.{contains-none}
 use Rattle.bk_word.proofs.WordExamples.{staircase}
 use Rattle.bk_word.specs.declared.Class.TheVariants.{Imperfect, Perfect}
@@ -17,10 +17,7 @@ use Rattle.bk_ask.proofs.Unasked.{nothing_listed, nothing_with_options}
 
 -- texts that differ at a place differ
 differ : (xs ys : List ℕ) (i : ℕ) → nat_eq (slice_index xs i) (slice_index ys i) ≡ false → xs ≡ ys → ⊥
-differ xs ys i t e = apart (slice_index xs i) (slice_index ys i) t (ap (λ bytes. slice_index bytes i) e)
-  where
-    apart : (a b : ℕ) → nat_eq a b ≡ false → a ≡ b → ⊥
-    apart a b t e = grind (arith, nat_tests)
+differ xs ys i t e = eqb-false (slice_index xs i) (slice_index ys i) t (ap (λ bytes. slice_index bytes i) e)
 
 -- ---- options, and their values
 

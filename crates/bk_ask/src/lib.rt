@@ -67,9 +67,9 @@ pub enum Ask {
     Help,
 }
 
-/// What the words of a command line ask, without the program's name. The first word is the command. `check`, `canon`,
-/// `images`, `net`, `flow`, `word`, `solve`, `draw`, `dual`, `alike` and `help` stand alone. After `list`, `trial`,
-/// `verify` and `pair` come pairs of a name and a value, in any order and each name at most once.
+/// What the words of a command line ask, without the program's name. The first word is the command, one of those in the
+/// text of `help`. Behind a command that has options come pairs of a name and a value, in any order and each name at
+/// most once. Any other command stands alone.
 ///
 /// `list` has `--order` with 2 to 16. It may have `--class` with `perfect`, `imperfect` or `simple`, and without it the
 /// class is `perfect`; `--from` with the text of a word of order at most 16; and `--limit` with 0 to 1,000,000,000.
@@ -119,10 +119,10 @@ fn command_alone(name: &str) -> Option<Ask>
 }
 
 // How a command line is built.
-const USAGE: &[u8; 42] = b"usage: bouwkamp COMMAND [--NAME VALUE]...\n";
+const USAGE: &[u8] = b"usage: bouwkamp COMMAND [--NAME VALUE]...\n";
 
 // Each command with what it does.
-const COMMANDS: &[u8; 526] = b"\
+const COMMANDS: &[u8] = b"\
 check: test each code\n\
 canon: canonical code of each code\n\
 images: the eight images of each code\n\

@@ -5,7 +5,7 @@
 use Rattle.std.specs.Prelude.{List, None, Option, Some, [], cond, length, nat_lt, replicate, take, ℕ, ◌++◌, ◌+◌, ◌-◌}
 use Rattle.std.specs.Prelude.{◌∷◌, ◌≡◌}
 use Rattle.std.specs.declared.cmp.Ordering.TheVariants.{Less}
-use Rattle.bk_word.specs.Outline.{IsLegalMove, Outline, has_left_wall, has_right_wall, open_side}
+use Rattle.bk_word.specs.Outline.{IsLegalMove, Outline}
 use Rattle.bk_word.specs.Word.{Move, move_cmp}
 use Rattle.bk_word.specs.declared.Sign.{Sign}
 use Rattle.bk_word.specs.declared.Sign.TheVariants.{Above, Even, Under}
@@ -41,10 +41,6 @@ move_with_signs count None = record { count = count + 1; signs = [] }
 -- the move that is next after all of the same count whose signs begin with these
 abbrev pub move_after : Move → Move
 move_after m = move_with_signs m.count (signs_after m.signs)
-
--- how many sides of the leftmost valley are no walls
-abbrev pub open_sides : Outline → ℕ
-open_sides o = open_side (has_left_wall o) + open_side (has_right_wall o)
 
 -- how many signs a legal move of `count` squares has at a valley of which `sides` sides are open
 abbrev pub signs_wanted : ℕ → ℕ → ℕ

@@ -62,8 +62,8 @@ fn is_line_in(segment: &[u8], lines: &[bool]) -> bool
     segment.iter().any(|square| on_line(lines, *square))
 }
 
-/// Whether the left edge of the segment of these squares, by their numbers from 1, lies on a line, where the list says
-/// it of all squares.
+/// Whether the left edge of a segment lies on a line: `segment` has the numbers of its squares from left to right, from
+/// 1, and `lines` says of each square whether its left edge does, by its number.
 pub fn begins_on_line(segment: &[u8], lines: &[bool]) -> bool
     ensures { result ≡ begins_on_line lines.now segment.now }
 {

@@ -43,7 +43,8 @@ fn tally_with(tally: Tally, sign: Sign) -> Tally
     }
 }
 
-/// The closing bound of signs: how many of the segments between which they stand must be closed at least.
+/// The closing bound of the signs between the open segments, from left to right: how many of these segments must be
+/// closed at least. There must be fewer signs than `TALLY_LIMIT`.
 pub fn closing_bound(signs: &[Sign]) -> usize
     requires { length signs.now < TALLY_LIMIT }
     ensures { result ≡ bound_of signs.now }
@@ -79,8 +80,9 @@ fn tally_of(signs: &[Sign], room: usize) -> Option<Tally>
     Some(tally)
 }
 
-/// How many of the signs bring the closing bound of those before and these above the room that there is; `None` exactly
-/// where all of them don't. It looks no further than to the first that does.
+/// How many of `signs` bring the closing bound of `before` and these together above `room`, the number of squares that
+/// are left, below `TALLY_LIMIT`. `None` comes exactly where all of them don't. It looks no further than to the first
+/// that does.
 pub fn first_over(before: &[Sign], signs: &[Sign], room: usize) -> Option<usize>
     requires { room < TALLY_LIMIT }
     ensures over { IfSome result (λ kept. room < bound_of (before.now ++ take kept signs.now)) }
@@ -99,7 +101,7 @@ pub fn first_over(before: &[Sign], signs: &[Sign], room: usize) -> Option<usize>
     None
 }
 
-/// How many signs are under behind the one at the place.
+/// How many of `signs` are under behind the one at `place`, from 0: a place of the list, or its end.
 pub fn unders_behind(signs: &[Sign], place: usize) -> usize
     requires { place ≤ length signs.now }
     ensures { result ≡ count_by is_under (drop (place + 1) signs.now) }

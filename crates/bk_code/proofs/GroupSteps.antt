@@ -53,9 +53,9 @@ before_some true s (group ∷ code) = omega arith
 before_some false s code = omega arith
 
 -- squares have a group
-pub groups_some : (q : Square) (squares : List Square) → 0 < length (side_groups (q ∷ squares))
-groups_some q [] = omega arith
-groups_some q (r ∷ squares) =
+pub side_groups-some : (q : Square) (squares : List Square) → 0 < length (side_groups (q ∷ squares))
+side_groups-some q [] = omega arith
+side_groups-some q (r ∷ squares) =
     subst (λ (code : Code). 0 < length code) (sym (groups_cons q r squares)) (before_some (stands_beside q r) q.s (side_groups (r ∷ squares)))
 
 -- the square after some others
@@ -75,7 +75,7 @@ groups_next (p ∷ r ∷ squares) q rest =
     groups_cons p r (squares ++ q ∷ [])
     ∙ ap (with_side_before (stands_beside p r) p.s) more
     ∙ sym (before_next (stands_beside p r) (begins_group (r ∷ squares ++ q ∷ rest) (length (r ∷ squares))) p.s q.s (side_groups (r ∷ squares))
-    (groups_some r squares))
+    (side_groups-some r squares))
     ∙ ap (λ (code : Code). side_groups_with_a_next_side (begins_group (r ∷ squares ++ q ∷ rest) (length (r ∷ squares))) code q.s)
     (sym (groups_cons p r squares))
 

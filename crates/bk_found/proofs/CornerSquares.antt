@@ -3,7 +3,7 @@
 use Rattle.std.specs.Prelude.{cond, max, nat_abs, neg_ℤ, pos, ℤ, ◌&&◌, ◌==◌, ◌||◌, ◌≤ℤ◌}
 use Rattle.std.proofs.Common.{Bool, List, [], ap, arith, false, length, map, refl, slice_index_or, subst, suc, sym, true, zero, ℕ, ◌+◌, ◌<◌, ◌∙◌}
 use Rattle.std.proofs.Common.{◌≡◌, ◌≤◌}
-use Rattle.bk_laws.proofs.NumberTests.{eq_test-same_of_equivalent, nat_eq-of_different}
+use Rattle.std.proofs.lemmas.Bool.{ne_eqb}
 use Rattle.bk_laws.proofs.ListItems.{slice_index_or-map}
 use Rattle.bk_tiling.specs.Scale.{IsPrimitiveTiling}
 use Rattle.bk_tiling.specs.SquareGroups.{square_groups}
@@ -42,6 +42,7 @@ use Rattle.bk_found.specs.ToldCorners.{in_top_corner, side_in}
 use Rattle.bk_found.specs.declared.corners.Contact.{Contact}
 use Rattle.bk_found.specs.declared.corners.Longest.{Longest}
 use Rattle.bk_found.specs.declared.ties.Ties.{Ties}
+use Rattle.bk_laws.proofs.NumberTests.{eq_test-of_iff}
 
 -- the greatest value of a function, number by number from the first
 abbrev greatest_from : (ℕ → ℕ) → ℕ → ℕ → ℕ
@@ -143,13 +144,16 @@ module _ (t : Tiling) (w : Word) (f : Flow) (tiling : IsTiling t) (primitive : I
     reversed_under e = (pair_is t tiling w s k h).1 ∙ ap (λ (b : Bool). s.node (finish_of b wire)) e
 
     top_told : s.is_reversed (s.square k) ≡ false → (wire.0 == 0) ≡ (q.y == 0)
-    top_told e = eq_test-same_of_equivalent wire.0 0 q.y 0 (λ z. (at_top t tiling q in_tiling).0 (above e ∙ ap s.node z ∙ s.net.first))
-        (λ z. same_node wire.0 0 below.0 some (sym (above e) ∙ (at_top t tiling q in_tiling).1 z ∙ sym s.net.first))
+    top_told e = eq_test-of_iff wire.0 0 q.y 0 (
+      (λ z. (at_top t tiling q in_tiling).0 (above e ∙ ap s.node z ∙ s.net.first)),
+      (λ z. same_node wire.0 0 below.0 some (sym (above e) ∙ (at_top t tiling q in_tiling).1 z ∙ sym s.net.first)),
+    )
 
     bottom_told : s.is_reversed (s.square k) ≡ false → (wire.1 == last_node (net_of_word w)) ≡ (q.y + q.s == t.height)
-    bottom_told e = eq_test-same_of_equivalent wire.1 (last_node (net_of_word w)) (q.y + q.s) t.height
-        (λ z. (on_bottom t tiling q in_tiling).0 (under e ∙ ap s.node z ∙ bottom_is))
-        (λ z. same_node wire.1 (last_node (net_of_word w)) below.1 last_below (sym (under e) ∙ (on_bottom t tiling q in_tiling).1 z ∙ sym bottom_is))
+    bottom_told e = eq_test-of_iff wire.1 (last_node (net_of_word w)) (q.y + q.s) t.height (
+      (λ z. (on_bottom t tiling q in_tiling).0 (under e ∙ ap s.node z ∙ bottom_is)),
+      (λ z. same_node wire.1 (last_node (net_of_word w)) below.1 last_below (sym (under e) ∙ (on_bottom t tiling q in_tiling).1 z ∙ sym bottom_is)),
+    )
 
     left_told : s.is_reversed (s.square k) ≡ false → nat_abs (line_place f.total (right_edges w f) (slice_index_or (lefts_of w) k 0)) ≡ q.x
     left_told e = ap nat_abs (left_place ∙ line_of_the_word_stands_at_a_left_edge t w f tiling primitive s flow positive lowest k h
@@ -173,22 +177,22 @@ module _ (t : Tiling) (w : Word) (f : Flow) (tiling : IsTiling t) (primitive : I
 
     -- a reversed square lies at neither end, nor is it told so
     no_top : s.is_reversed (s.square k) ≡ true → (q.y == 0) ≡ false
-    no_top e = nat_eq-of_different q.y 0 (λ z.
+    no_top e = ne_eqb q.y 0 (λ z.
         let first : wire.1 ≡ 0 = same_node wire.1 0 below.1 some (sym (reversed_above e) ∙ (at_top t tiling q in_tiling).1 z ∙ sym s.net.first) in
         omega (arith, first, later))
 
     no_bottom : s.is_reversed (s.square k) ≡ true → (q.y + q.s == t.height) ≡ false
-    no_bottom e = nat_eq-of_different (q.y + q.s) t.height (λ z.
+    no_bottom e = ne_eqb (q.y + q.s) t.height (λ z.
         let last : wire.0 ≡ last_node (net_of_word w) =
         same_node wire.0 (last_node (net_of_word w)) below.0 last_below (sym (reversed_under e) ∙ (on_bottom t tiling q in_tiling).1 z ∙ sym bottom_is) in
         omega (arith, last, later, below.1))
 
     no_top_told : s.is_reversed (s.square k) ≡ true → (wire.0 == 0) ≡ false
-    no_top_told e = nat_eq-of_different wire.0 0
+    no_top_told e = ne_eqb wire.0 0
         (λ z. omega (arith, (((a_tiling_has_a_layout t tiling).0).nodes.ends_below (s.square k) inside).0, reversed_under e ∙ ap s.node z ∙ s.net.first))
 
     no_bottom_told : s.is_reversed (s.square k) ≡ true → (wire.1 == last_node (net_of_word w)) ≡ false
-    no_bottom_told e = nat_eq-of_different wire.1 (last_node (net_of_word w))
+    no_bottom_told e = ne_eqb wire.1 (last_node (net_of_word w))
         (λ z. omega (arith, ((a_tiling_has_a_layout t tiling).0).nodes.hangs_above (s.square k) inside, reversed_above e ∙ ap s.node z ∙ bottom_is))
 
     side_is : (corner : Contact → Bool) → NeedsTopOrBottom corner → (b : Bool) → s.is_reversed (s.square k) ≡ b

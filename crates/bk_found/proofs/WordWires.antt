@@ -47,9 +47,6 @@ kept_start : Kept start
 kept_start = record { shaped = shaped_start; played = played_start; begun = λ k h. absurd (omega arith); filled = inl refl }
 
 module _ (o : Outline) (m : Move) (kept : Kept o) where
-  news : List ℕ
-  news = replicate m.count (length o.closed)
-
   old_or_new : (k : ℕ) → k < length (after_move o m).hung → (k < length o.hung) ⊎ (length o.hung ≤ k) → BeginsAt (after_move o m) k
   old_or_new k h (inl low) = from (kept.begun k low)
     where

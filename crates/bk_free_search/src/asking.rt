@@ -146,7 +146,7 @@ fn before_valley(board: &Board, marks: LineSet, valley: &ValleyPlace) -> Before
 }
 
 /// How many segments stand beside it.
-pub(crate) fn open_sides(beside: &Beside) -> OpenSides
+pub(crate) fn sides_beside(beside: &Beside) -> OpenSides
     ensures left { result.left ≡ open_side beside.now.left_wall }
     ensures right { result.right ≡ open_side beside.now.right_wall }
 {

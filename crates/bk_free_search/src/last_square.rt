@@ -3,10 +3,10 @@
 #![tactic(auto)]
 
 ghost use Rattle.std.specs.Prelude.{IfNone, IfSome, IsTrue, replicate, ◌+◌, ◌≡◌, ◌≤◌};
+ghost use Rattle.bk_word.specs.Outline.{open_sides};
 ghost use Rattle.bk_word.specs.Play.{outline_of};
 ghost use Rattle.bk_word.specs.Word.{order_of};
 ghost use Rattle.bk_word.specs.declared.Sign.TheVariants.{Even};
-ghost use Rattle.bk_catalogue.specs.NextMove.{open_sides};
 ghost use Rattle.bk_layout.specs.LastMoves.{even_square};
 ghost use Rattle.bk_layout.specs.NormalCuts.{IsNormalBarren};
 

@@ -11,7 +11,7 @@ ghost use Rattle.bk_free_search.specs.Sought.{IsNextMove};
 ghost use Rattle.bk_free_search.specs.Unchanged.{MeetsAllBy, MeetsAllFrom};
 ghost use Rattle.bk_word.specs.declared.TheConstants.{INLINE_ORDER, LARGEST_LISTED_ORDER};
 
-use crate::asking::{Asked, Beside, asked_with, open_sides, stand_beside};
+use crate::asking::{Asked, Beside, asked_with, sides_beside, stand_beside};
 use crate::board::Board;
 use crate::cuts::least_count;
 use crate::questions::{
@@ -101,7 +101,7 @@ impl Search {
             return;
         }
         let left = self.order - self.board.skel().order() as u8;
-        let sides = open_sides(&around);
+        let sides = sides_beside(&around);
         let mut begun = not_begun();
         'counts: for count in least_count(self.board.skel(), &around.valley)..left {
             begin(&mut begun, sides, count, usize::from(left - count));

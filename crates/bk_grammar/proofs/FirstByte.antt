@@ -8,8 +8,8 @@ pub regroup : (A B C : List ℕ → Type 0) (bs : List ℕ) → (A then B then C
 regroup A B C bs (a, x, e, ha, (b, c, f, hb, hc)) = (a ++ b, c, e ∙ ap (λ z. a ++ z) f ∙ sym (append_assoc a b c), (a, b, refl, ha, hb), hc)
 
 -- a part of a text seen as one of a wider grammar
-pub under : (A B C : List ℕ → Type 0) (bs : List ℕ) → ((x : List ℕ) → B x → C x) → (A then B) bs → (A then C) bs
-under A B C bs f (a, x, e, ha, hb) = (a, x, e, ha, f x hb)
+pub then_weaken_second : (A B C : List ℕ → Type 0) (bs : List ℕ) → ((x : List ℕ) → B x → C x) → (A then B) bs → (A then C) bs
+then_weaken_second A B C bs f (a, x, e, ha, hb) = (a, x, e, ha, f x hb)
 
 -- a byte before what completes a line
 pub blank_first : (R : List ℕ → Type 0) (b : ℕ) (bs : List ℕ) → IsBlank b → (Blanks then R) bs → (Blanks then R) (b ∷ bs)

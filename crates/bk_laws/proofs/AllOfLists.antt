@@ -9,9 +9,9 @@ use Rattle.std.proofs.Math.IntN.{*ℤ_comm}
 use Rattle.std.proofs.Math.Nat.{div-le_self, dvd-mul_left, mul-dvd-mul_left, mul_comm}
 use Rattle.std.proofs.lemmas.Int.{ints, unsigned_abs-mul}
 use Rattle.std.proofs.lemmas.List.Elements.{All-from_recursion}
+use Rattle.std.proofs.lemmas.Option.{same_Some}
 use Rattle.bk_laws.proofs.ListPlaces.{head_same, tail_same}
 use Rattle.bk_laws.proofs.Magnitudes.{quotient_by_zero_or_one}
-use Rattle.bk_laws.proofs.Outcomes.{some-injective}
 use Rattle.bk_laws.proofs.Truth.{or-monotone}
 use Rattle.bk_laws.proofs.WholeNumbers.{abs-mul, abs-quotient, divisor_times_quotient, one-*ℤ}
 
@@ -116,7 +116,7 @@ quotients_by_zero_or_one g (z ∷ zs) h all = λ i. quotient_by_zero_or_one g z 
 -- if an item passes a test, the test of any item of the list passes
 pub list_any-slice_get : (p : ℕ → Bool) (xs : List ℕ) (k x : ℕ) → slice_get xs k ≡ Some x → p x ≡ true → list_any p xs ≡ true
 list_any-slice_get p [] k x e h = absurd (cc)
-list_any-slice_get p (y ∷ xs) zero x e h = or_left (p y) (list_any p xs) (ap p (some-injective y x e) ∙ h)
+list_any-slice_get p (y ∷ xs) zero x e h = or_left (p y) (list_any p xs) (ap p (same_Some y x e) ∙ h)
 list_any-slice_get p (y ∷ xs) (suc k) x e h = behind (p y) (list_any-slice_get p xs k x e h)
   where
     behind : (b : Bool) → list_any p xs ≡ true → (b || list_any p xs) ≡ true
@@ -230,7 +230,7 @@ all-get_or_of_take P (x ∷ xs) (suc k) (suc j) d all hk hl = all-get_or_of_take
 abbrev pub AreUpTo : ℕ → List ℤ → Type 0
 AreUpTo b zs = AllByRecursion (λ z. nat_abs z ≤ b) zs
 
--- the quotients of numbers that are at most b in magnitude are so, too
+-- the quotients of numbers that are at most b in magnitude are at most b in magnitude
 pub divided_up_to : (b g : ℕ) (zs : List ℤ) → AreUpTo b zs → AreUpTo b (map (λ n. int_div n (pos g)) zs)
 divided_up_to b g [] all = tt
 divided_up_to b g (z ∷ zs) all = (omega (arith, abs-quotient g z, div-le_self (nat_abs z) g, all.0), divided_up_to b g zs all.1)

@@ -4,8 +4,9 @@ use Rattle.std.proofs.Common.{ap, arith, bit_and, bit_or, inl, inr, subst, sym, 
 use Rattle.std.proofs.lemmas.Nat.{and_le_l, shr-shr, shr_le}
 use Rattle.std.proofs.lemmas.Nat.Bits.{bit_at-lt, bit_at-trailing_zeros, bit_at_and, bit_at_mask_above, bit_at_mask_below}
 use Rattle.std.proofs.lemmas.Nat.Bits.{bit_at_mask_inside, bit_at_ones_above, bit_at_or, bit_at_set_other, bit_at_set_same}
-use Rattle.std.proofs.lemmas.Bool.{cases_eq}
+use Rattle.std.proofs.lemmas.Bool.{cases_eq, cases_lt}
 use Rattle.bk_laws.proofs.Multiples.{pow_two-below_32}
+use Rattle.bk_laws.proofs.NumberOrder.{le_or_gt}
 
 -- a bit that was added is set
 pub bit_at-added : (n k : ℕ) → k < 32 → bit_at (bit_or n (1 * 2 ^ k % 2 ^ 32)) k ≡ 1
@@ -54,11 +55,8 @@ some_bit-of_positive n below some = let t = bit_at-trailing_zeros w32 n some bel
 
 -- the bits of the difference of two powers of 2 lie between their exponents
 pub bit_at-between : (from end i : ℕ) → from ≤ end → end < 32 → bit_at (1 * 2 ^ end % 2 ^ 32 - 1 * 2 ^ from % 2 ^ 32) i ≡ 1 → (from ≤ i) × (i < end)
-bit_at-between from end i order few has = (by_low (two from i), by_high (two i end))
+bit_at-between from end i order few has = (by_low (le_or_gt from i), by_high (le_or_gt i end))
   where
-    two : (a b : ℕ) → (a ≤ b) ⊎ (b < a)
-    two a b = grind arith
-
     same : 1 * 2 ^ end % 2 ^ 32 - 1 * 2 ^ from % 2 ^ 32 ≡ 2 ^ end - 2 ^ from
     same = (λ j. pow_two-below_32 end few j - pow_two-below_32 from (omega (arith, order, few)) j)
 
@@ -67,7 +65,7 @@ bit_at-between from end i order few has = (by_low (two from i), by_high (two i e
     by_low (inr h) = absurd (omega (arith, has, ap (λ n. bit_at n i) same, bit_at_mask_below from end i h))
 
     by_high : (i ≤ end) ⊎ (end < i) → i < end
-    by_high h = by_end (two end i)
+    by_high h = by_end (le_or_gt end i)
       where
         by_end : (end ≤ i) ⊎ (i < end) → i < end
         by_end (inl g) = absurd (omega (arith, has, ap (λ n. bit_at n i) same, bit_at_mask_above from end i g))
@@ -83,11 +81,8 @@ bit_at-all_between from end i few low high = ap (λ n. bit_at n i) same ∙ bit_
 -- where some of the bits from one on are set, one of them is
 pub some_bit-in_window : (n start many : ℕ) → n < 2 ^ 32 → many < 31 → 0 < bit_and (n / 2 ^ start) (1 * 2 ^ (many + 1) % 2 ^ 32 - 1)
     → (t : ℕ) × (t ≤ many) × (bit_at n (start + t) ≡ 1)
-some_bit-in_window n start many below few some = (found.0, by_two (two found.0 (many + 1)), here)
+some_bit-in_window n start many below few some = (found.0, by_two (cases_lt found.0 (many + 1)), here)
   where
-    two : (a b : ℕ) → (a < b) ⊎ (b ≤ a)
-    two a b = grind arith
-
     mask : 1 * 2 ^ (many + 1) % 2 ^ 32 - 1 ≡ 2 ^ (many + 1) - 1
     mask = ap (λ k. k - 1) (pow_two-below_32 (many + 1) (omega (arith, few)))
 

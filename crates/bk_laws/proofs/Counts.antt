@@ -2,17 +2,17 @@
 use Rattle.std.specs.Prelude.{Bool, List, [], cond, count_by, filter, get_or, length, suc, true, zero, ℕ, ◌<◌, ◌∷◌, ◌≡◌, ◌≤◌}
 use Rattle.std.proofs.Common.{ap, arith, false, inl, inr, map, refl, sym, ◌+◌, ◌==◌, ◌||◌, ◌∙◌, ◌⊎◌}
 use Rattle.std.proofs.lemmas.List.Sums.{get_or-le-sum_by, sum_by-cons}
-use Rattle.std.proofs.lemmas.Bool.{both_ways, cases_Bool, true≢false}
+use Rattle.std.proofs.lemmas.Bool.{both_ways, cases_Bool, eq-eqb, true≢false}
 use Rattle.std.proofs.lemmas.Bool.Decides.{nat_tests}
 use Rattle.std.specs.List.{AllByRecursion, list_any}
 
--- one that passes is counted
+-- where an item of a list passes a test, the test counts at least 1
 pub count_one : {X : Type 0} (p : X → Bool) (xs : List X) (k : ℕ) (d : X) → k < length xs → p (get_or xs k d) ≡ true → 1 ≤ count_by p xs
 count_one p xs k d below e =
     let here : ◌≡◌ {A = ℕ} (cond (p (get_or xs k d)) 1 0) 1 = ap (λ b. cond b 1 0) e in
     omega (arith, here, get_or-le-sum_by (λ x. cond (p x) 1 0) xs k d below)
 
--- two at different places are counted twice
+-- where two items of a list at different places pass a test, the test counts at least 2
 pub count_two : {X : Type 0} (p : X → Bool) (xs : List X) (a b : ℕ) (d : X) → a < b → b < length xs
     → p (get_or xs a d) ≡ true → p (get_or xs b d) ≡ true → 2 ≤ count_by p xs
 count_two p [] a b d ab l t u = absurd (omega arith)
@@ -59,9 +59,6 @@ count_by-eq_in_counting_list n from (x ∷ xs) all low high =
     least : (a b : ℕ) → a ≤ b → (a ≡ b) ⊎ (a + 1 ≤ b)
     least a b h = grind arith
 
-    same : (a b : ℕ) → a ≡ b → (a == b) ≡ true
-    same a b e = grind (arith, nat_tests)
-
     apart : (a b : ℕ) → a < b → (a == b) ≡ false
     apart a b h = grind (arith, nat_tests)
 
@@ -72,7 +69,7 @@ count_by-eq_in_counting_list n from (x ∷ xs) all low high =
     by (inl e) rest = omega (
       arith,
       count_by-eq_cons n x xs,
-      ap (λ (b : Bool). cond {A = ℕ} b 1 0) (same x n (omega (arith, all 0 (omega arith), e))),
+      ap (λ (b : Bool). cond {A = ℕ} b 1 0) (eq-eqb x n (omega (arith, all 0 (omega arith), e))),
       count_by-eq_in_counting_list_below n (from + 1) xs next (omega (arith, e)),
     )
     by (inr h) rest = omega (

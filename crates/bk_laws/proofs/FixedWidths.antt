@@ -61,7 +61,7 @@ held_in_w64-of_below_pow_63 a h = to_z-of_z w64 a (fits_w64-of_below_pow_63 a h)
 pub held_widened-factor : (x p : ℤ) → x ≡ to_z w64 (of_z w64 p) → nat_abs p < 2 ^ 63 → to_z w128 (of_z w128 x) ≡ p
 held_widened-factor x p e h = ap (λ (z : ℤ). to_z w128 (of_z w128 z)) (e ∙ held_in_w64-of_below_pow_63 p h) ∙ to_z-of_z w128 p (fits_w128-of_below_pow_63 p h)
 
--- the product of two such numbers, held in 64 bits and widened, is their product
+-- the product of two numbers of magnitude below 2^63, held in 64 bits and widened, is their product
 pub held_widened-product : (x y p a : ℤ) → x ≡ to_z w64 (of_z w64 p) → y ≡ to_z w64 (of_z w64 a) → nat_abs p < 2 ^ 63 → nat_abs a < 2 ^ 63
     → to_z w128 (of_z w128 (to_z w128 (of_z w128 x) *ℤ to_z w128 (of_z w128 y))) ≡ p *ℤ a
 held_widened-product x y p a ex ey hp ha =

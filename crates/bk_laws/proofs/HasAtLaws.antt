@@ -1,7 +1,6 @@
 -- What follows of the item that a list has at a place.
 use Rattle.std.proofs.Common.{List, length, slice_index_or, sym, ℕ, ◌<◌, ◌∙◌, ◌≡◌}
-use Rattle.std.proofs.lemmas.Option.{get_or_from_slice_get, slice_get-get_or, slice_get_within}
-use Rattle.bk_laws.proofs.Outcomes.{some-injective}
+use Rattle.std.proofs.lemmas.Option.{get_or_from_slice_get, same_Some, slice_get-get_or, slice_get_within}
 use Rattle.bk_laws.specs.HasAt.{HasAt}
 
 -- the item that a list has at a place is read there, whatever stands for an item past the end
@@ -18,4 +17,4 @@ has_at-within xs k d within = slice_get-get_or xs k d within
 
 -- two items that a list has at one place are the same
 pub has_at-one : {A : Type 0} (xs : List A) (k : ℕ) (x y : A) → HasAt xs k x → HasAt xs k y → x ≡ y
-has_at-one xs k x y first second = some-injective x y (sym first ∙ second)
+has_at-one xs k x y first second = same_Some x y (sym first ∙ second)

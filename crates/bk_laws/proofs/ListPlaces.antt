@@ -5,10 +5,9 @@ use Rattle.std.proofs.Common.{slice_index_or, subst, suc, sym, take}
 use Rattle.std.proofs.Common.{take_all, zero, ℕ, ◌++◌, ◌+◌, ◌<◌, ◌∙◌, ◌∷◌, ◌≡◌, ◌⊎◌}
 use Rattle.std.proofs.lemmas.Grind.{take_at_read}
 use Rattle.std.proofs.lemmas.List.{append_assoc, length-append, take-append-drop}
-use Rattle.std.proofs.lemmas.Option.{get_or_from_slice_get, slice_get_within}
+use Rattle.std.proofs.lemmas.Option.{get_or_from_slice_get, same_Some, slice_get_within}
 use Rattle.std.specs.Prelude.{ℤ}
 use Rattle.bk_laws.proofs.ListParts.{drop-cons_one_more}
-use Rattle.bk_laws.proofs.Outcomes.{some-injective}
 
 -- equal lists have one first item
 pub head_same : {A : Type 0} (x y : A) (xs ys : List A) → x ∷ xs ≡ y ∷ ys → x ≡ y
@@ -80,24 +79,6 @@ get_back [] ys k j d e = λ i. slice_index_or ys (same i) d
 get_back (x ∷ xs) ys k zero d e = absurd (omega arith)
 get_back (x ∷ xs) ys k (suc j) d e = get_back xs ys k j d (omega arith)
 
--- what stands at a place, by either way of reading it
-pub index_got : (xs : List ℕ) (k x : ℕ) → slice_get xs k ≡ Some x → slice_index_or xs k 0 ≡ x
-index_got [] k x e = absurd (cc)
-index_got (y ∷ xs) zero x e = cc
-index_got (y ∷ xs) (suc k) x e = index_got xs k x e
-
--- a place within a list has an item
-pub got_index : (xs : List ℕ) (k : ℕ) → k < length xs → slice_get xs k ≡ Some (slice_index_or xs k 0)
-got_index [] k h = absurd (omega arith)
-got_index (y ∷ xs) zero h = refl
-got_index (y ∷ xs) (suc k) h = got_index xs k (omega arith)
-
--- what is got stands within the list
-pub got_low : (xs : List ℕ) (k x : ℕ) → slice_get xs k ≡ Some x → k < length xs
-got_low [] k x e = absurd (cc)
-got_low (y ∷ xs) zero x e = omega arith
-got_low (y ∷ xs) (suc k) x e = omega (arith, got_low xs k x e)
-
 -- a list after a part of it was lent and written is what was written
 pub refill-whole : {X : Type 0} (old written : List X) → length written ≡ length old → refill (length old) old written ≡ written
 refill-whole {X = X} old written e =
@@ -117,7 +98,7 @@ slice_get-append_front_back xs ys k x low e = let r = get_some xs k low in r.1 �
 -- what stands among repeated items is the item
 pub slice_get-replicate_is : (n c k v : ℕ) → slice_get (replicate n c) k ≡ Some v → c ≡ v
 slice_get-replicate_is zero c k v e = absurd (cc)
-slice_get-replicate_is (suc n) c zero v e = some-injective c v e
+slice_get-replicate_is (suc n) c zero v e = same_Some c v e
 slice_get-replicate_is (suc n) c (suc k) v e = slice_get-replicate_is n c k v e
 
 -- what is got from a list that is empty or another one is got from that one
@@ -133,7 +114,7 @@ pub slice_get-concat : (segments : List (List ℕ)) (i : ℕ) (s : List ℕ) (k 
     → slice_get (concat segments) (length (concat (take i segments)) + k) ≡ Some x
 slice_get-concat [] i s k x e f = absurd (cc)
 slice_get-concat (t ∷ segments) zero s k x e f = ap (slice_get (t ++ concat segments)) place
-    ∙ get_append t (concat segments) k x (subst (λ (u : List ℕ). slice_get u k ≡ Some x) (sym (some-injective t s e)) f)
+    ∙ get_append t (concat segments) k x (subst (λ (u : List ℕ). slice_get u k ≡ Some x) (sym (same_Some t s e)) f)
   where
     place : length (concat (take 0 (t ∷ segments))) + k ≡ k
     place = omega arith
@@ -154,7 +135,7 @@ slice_get-concat (t ∷ segments) (suc i) s k x e f = ap (slice_get (t ++ concat
 pub length-concat_take_next : (segments : List (List ℕ)) (i : ℕ) (s : List ℕ) → slice_get segments i ≡ Some s
     → length (concat (take (suc i) segments)) ≡ length (concat (take i segments)) + length s
 length-concat_take_next [] i s e = absurd (cc)
-length-concat_take_next (t ∷ segments) zero s e = omega (arith, length-append t [], ap length (some-injective t s e))
+length-concat_take_next (t ∷ segments) zero s e = omega (arith, length-append t [], ap length (same_Some t s e))
 length-concat_take_next (t ∷ segments) (suc i) s e =
     omega (arith, length-append t (concat (take (suc i) segments)), length-append t (concat (take i segments)), length-concat_take_next segments i s e)
 
@@ -185,13 +166,13 @@ slice_get-others_kept (x ∷ lists) news (suc p) (suc i) s e other = onto (slice
 -- the list that is got at a place is the one that is read there
 pub slice_index_or-of_slice_get : (lists : List (List ℕ)) (i : ℕ) (s : List ℕ) → slice_get lists i ≡ Some s → slice_index_or lists i [] ≡ s
 slice_index_or-of_slice_get [] i s e = absurd (slice_get-empty i s e)
-slice_index_or-of_slice_get (t ∷ lists) zero s e = some-injective t s e
+slice_index_or-of_slice_get (t ∷ lists) zero s e = same_Some t s e
 slice_index_or-of_slice_get (t ∷ lists) (suc i) s e = slice_index_or-of_slice_get lists i s e
 
 -- what is got from one list of lists is its first
 pub slice_get-only_first : (lists : List (List ℕ)) (i : ℕ) (s : List ℕ) → length lists ≡ 1 → slice_get lists i ≡ Some s → slice_index_or lists 0 [] ≡ s
 slice_get-only_first [] i s one e = absurd (omega arith)
-slice_get-only_first (t ∷ lists) zero s one e = some-injective t s e
+slice_get-only_first (t ∷ lists) zero s one e = same_Some t s e
 slice_get-only_first (t ∷ []) (suc i) s one e = absurd (slice_get-empty i s e)
 slice_get-only_first (t ∷ u ∷ lists) (suc i) s one e = absurd (omega arith)
 
@@ -216,8 +197,8 @@ drop-cons_slice_get (x ∷ xs) (suc k) q e = drop-cons_slice_get xs k q e
 
 -- a list of one item has no other
 pub slice_get-only_item : (xs : List ℕ) (k q x : ℕ) → length xs ≡ 1 → slice_get xs 0 ≡ Some q → slice_get xs k ≡ Some x → x ≡ q
-slice_get-only_item xs zero q x one e f = some-injective x q (sym f ∙ e)
-slice_get-only_item xs (suc k) q x one e f = absurd (omega (arith, one, got_low xs (suc k) x f))
+slice_get-only_item xs zero q x one e f = same_Some x q (sym f ∙ e)
+slice_get-only_item xs (suc k) q x one e f = absurd (omega (arith, one, slice_get_within xs (suc k) x f))
 
 -- the first items, with the next one
 pub take-snoc_next : {A : Type 0} (xs : List A) (i : ℕ) (x : A) → slice_get xs i ≡ Some x → take (i + 1) xs ≡ take i xs ++ x ∷ []
@@ -227,12 +208,6 @@ take-snoc_next xs i x e = (take_at_read xs i x (slice_get_within xs i x e)).1 �
 pub take-cons_drop : {A : Type 0} (xs : List A) (i : ℕ) (x : A) → slice_get xs i ≡ Some x → xs ≡ take i xs ++ x ∷ drop (i + 1) xs
 take-cons_drop xs i x e = sym (take-append-drop (i + 1) xs) ∙ ap (λ l. l ++ drop (i + 1) xs) (take-snoc_next xs i x e)
     ∙ append_assoc (take i xs) (x ∷ []) (drop (i + 1) xs)
-
--- a number within a list is got as it is read
-pub slice_get-get_or : (numbers : List ℤ) (i : ℕ) (d : ℤ) → i < length numbers → slice_get numbers i ≡ Some (get_or numbers i d)
-slice_get-get_or [] i d h = absurd (omega arith)
-slice_get-get_or (n ∷ numbers) zero d h = refl
-slice_get-get_or (n ∷ numbers) (suc i) d h = slice_get-get_or numbers i d (omega arith)
 
 -- one of the first numbers stands at its place
 pub slice_get-from_take : (numbers : List ℤ) (n k : ℕ) (number : ℤ) → k < length (take n numbers) → get_or (take n numbers) k number ≡ number

@@ -95,7 +95,7 @@ abs-signed true zero = refl
 abs-signed true (suc n) = refl
 abs-signed false n = refl
 
--- a difference taken the other way round is of the same magnitude
+-- the differences of two numbers in either order are of one magnitude
 pub abs-difference_swapped : (u v : ℤ) → nat_abs (u -ℤ v) ≡ nat_abs (v -ℤ u)
 abs-difference_swapped u v = omega (arith, ints)
 

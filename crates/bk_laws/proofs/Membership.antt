@@ -3,11 +3,11 @@ use Rattle.std.specs.List.{AllByRecursion}
 use Rattle.std.specs.Prelude.{AllPairs, slice_index_or, ℤ}
 use Rattle.std.proofs.Common.{Contains, Err, IsTrue, List, MatchResult, Ok, Result, Some, [], ap, arith, get_or, inl, inr, is_ok, length, map, refl, slice_get}
 use Rattle.std.proofs.Common.{slice_index, subst, suc, sym, take, zero, ℕ, ◌++◌, ◌<◌, ◌↔◌, ◌∙◌, ◌∷◌, ◌≡◌, ◌≢◌, ◌≤◌, ◌⊎◌}
+use Rattle.std.proofs.lemmas.Bool.{cases_lt}
 use Rattle.std.proofs.lemmas.List.{get_or_default, length-take, length-take-le}
 use Rattle.std.proofs.lemmas.List.Elements.{Contains-append_left, Contains-push}
-use Rattle.std.proofs.lemmas.Option.{slice_get_within}
+use Rattle.std.proofs.lemmas.Option.{same_Some, slice_get_within}
 use Rattle.bk_laws.proofs.NoneRepeated.{IsIn, NoneRepeated}
-use Rattle.bk_laws.proofs.Outcomes.{some-injective}
 
 -- what a list contains, the list with one more before it contains
 pub contains-later : {X : Type 0} (y : X) (xs : List X) (x : X) → Contains xs x → Contains (y ∷ xs) x
@@ -48,11 +48,8 @@ pub contains-of_search : (xs : List ℕ) (x : ℕ) (r : Result ℕ ℕ) → Matc
     (λ i. (i ≤ length xs) × ((k : ℕ) → k < i → slice_index xs k < x) × ((k : ℕ) → i ≤ k → k < length xs → x < slice_index xs k))
     → IsTrue (is_ok r) ↔ Contains xs x
 contains-of_search xs x (Ok i) h = (λ e. (i, h.0, get_or_default xs i x 0 h.0 ∙ h.1), λ c. refl)
-contains-of_search xs x (Err i) h = (λ e. absurd (cc), λ (k, low, is). absurd (at k low (sym (get_or_default xs k x 0 low) ∙ is) (two k i)))
+contains-of_search xs x (Err i) h = (λ e. absurd (cc), λ (k, low, is). absurd (at k low (sym (get_or_default xs k x 0 low) ∙ is) (cases_lt k i)))
   where
-    two : (a b : ℕ) → (a < b) ⊎ (b ≤ a)
-    two a b = grind arith
-
     at : (k : ℕ) → k < length xs → slice_index xs k ≡ x → (k < i) ⊎ (i ≤ k) → ⊥
     at k low e (inl g) = let less = h.1 k g in omega (arith, less, e)
     at k low e (inr g) = let more = h.2 k g low in omega (arith, more, e)
@@ -66,7 +63,7 @@ contains-slice_index (y ∷ xs) (suc place) x few is = let c = contains-slice_in
 -- what is got at a place is in the list
 pub is_in-of_slice_get : (xs : List ℕ) (k x : ℕ) → slice_get xs k ≡ Some x → IsIn x xs
 is_in-of_slice_get [] k x e = absurd (cc)
-is_in-of_slice_get (y ∷ xs) zero x e = inl (sym (some-injective y x e))
+is_in-of_slice_get (y ∷ xs) zero x e = inl (sym (same_Some y x e))
 is_in-of_slice_get (y ∷ xs) (suc k) x e = inr (is_in-of_slice_get xs k x e)
 
 -- what is in a list is got at a place

@@ -105,11 +105,8 @@ pow_two-below_32 k low = shl_whole 1 1 k 32 (omega arith) (omega (arith, low)) �
 
 -- a greater exponent below 32 has no less a power of 2 in 32 bits
 pub pow_two-rising : (from end : ℕ) → from ≤ end → end < 32 → 1 * 2 ^ from % 2 ^ 32 ≤ 1 * 2 ^ end % 2 ^ 32
-pow_two-rising from end order low = cases (two from end)
+pow_two-rising from end order low = cases (cases_lt from end)
   where
-    two : (a b : ℕ) → (a < b) ⊎ (b ≤ a)
-    two a b = grind arith
-
     cases : (from < end) ⊎ (end ≤ from) → 1 * 2 ^ from % 2 ^ 32 ≤ 1 * 2 ^ end % 2 ^ 32
     cases (inl h) = omega (arith, pow_below from end h, pow_two-below_32 from (omega (arith, low, order)), pow_two-below_32 end low)
     cases (inr h) = let same : from ≡ end = omega (arith, h, order) in omega (arith, ap (λ k. 1 * 2 ^ k % 2 ^ 32) same)

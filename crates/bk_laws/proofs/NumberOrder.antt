@@ -3,10 +3,6 @@ use Rattle.std.specs.Prelude.{int_div, pos}
 use Rattle.std.proofs.Common.{ap, arith, inl, inr, max, min, refl, subst, suc, zero, ℕ, ◌+◌, ◌/◌, ◌<◌, ◌≡◌, ◌≢◌, ◌≤◌, ◌⊎◌}
 use Rattle.std.proofs.lemmas.Bool.{cases_lt}
 
--- a number is at most 8193, or above it
-pub at_most_or_above_8193 : (n : ℕ) → (n ≤ 8193) ⊎ (8193 < n)
-at_most_or_above_8193 n = grind arith
-
 -- of two numbers the first is at most the second, or above it
 pub le_or_gt : (a b : ℕ) → (a ≤ b) ⊎ (b < a)
 le_or_gt a b = grind arith
@@ -40,10 +36,6 @@ le_suc-last_or_less k n h = grind arith
 -- a number of at most 0 is 0
 pub le_zero-is_zero : (k : ℕ) → k ≤ 0 → k ≡ 0
 le_zero-is_zero k h = omega arith
-
--- a number below a successor is below the one before, or the same
-pub lt_suc-less_or_same : (i k : ℕ) → i < suc k → (i < k) ⊎ (i ≡ k)
-lt_suc-less_or_same i k h = grind arith
 
 -- a number that isn't 0 as an integer is positive
 pub positive_of_not_zero : (n : ℕ) → (pos n ≡ pos 0 → ⊥) → 0 < n

@@ -1,44 +1,17 @@
 -- What the tests of numbers tell: of equality, of less, and of at most.
 use Rattle.std.specs.Cmp.{both_ways}
-use Rattle.std.proofs.Common.{arith, false, inl, inr, leb-true, nat_eq, nat_le, nat_lt, suc, sym, true, ℕ, ◌&&◌, ◌+◌, ◌-◌, ◌<◌, ◌==◌, ◌||◌, ◌↔◌, ◌∙◌}
+use Rattle.std.proofs.Common.{arith, false, inl, inr, leb-true, nat_eq, nat_le, nat_lt, suc, true, ℕ, ◌&&◌, ◌+◌, ◌-◌, ◌<◌, ◌==◌, ◌||◌, ◌↔◌}
 use Rattle.std.proofs.Common.{◌≡◌, ◌≤◌, ◌⊎◌}
-use Rattle.std.proofs.lemmas.Bool.{and_from, and_parts, cases_Bool, cases_eq, cases_lt, eq-eqb}
+use Rattle.std.proofs.lemmas.Bool.{and_from, and_parts, cases_eq, cases_lt, eq-eqb, eqb-true, ne_eqb}
 use Rattle.std.proofs.lemmas.Bool.Decides.{nat_tests}
 
 -- a number that the test finds to be 4 is 4
 pub eq_four-from_test : (n : ℕ) → (n == 4) ≡ true → n ≡ 4
 eq_four-from_test n e = grind (arith, nat_tests)
 
--- the test of equality passes for equal numbers, given the other way round
-pub eq_test-of_equal_swapped : (k i : ℕ) → i ≡ k → (i == k) ≡ true
-eq_test-of_equal_swapped k i h = grind (arith, nat_tests)
-
 -- a successor isn't found to be 0
 pub nat_eq-suc_zero_or_false : (m : ℕ) → nat_eq (suc m) 0 || false ≡ true → ⊥
 nat_eq-suc_zero_or_false m e = grind (arith, nat_tests)
-
--- two tests of equality are one if each equality follows from the other
-pub eq_test-same_of_equivalent : (a b c d : ℕ) → (a ≡ b → c ≡ d) → (c ≡ d → a ≡ b) → (a == b) ≡ (c == d)
-eq_test-same_of_equivalent a b c d there back = cases (cases_Bool (a == b)) (cases_Bool (c == d))
-  where
-    equal : (x y : ℕ) → (x == y) ≡ true → x ≡ y
-    equal x y e = grind (arith, nat_tests)
-
-    tested : (x y : ℕ) → x ≡ y → (x == y) ≡ true
-    tested x y e = grind (arith, nat_tests)
-
-    cases : ((a == b) ≡ true) ⊎ ((a == b) ≡ false) → ((c == d) ≡ true) ⊎ ((c == d) ≡ false) → (a == b) ≡ (c == d)
-    cases (inl e) h = e ∙ sym (tested c d (there (equal a b e)))
-    cases (inr e) (inl h) = tested a b (back (equal c d h)) ∙ sym h
-    cases (inr e) (inr h) = e ∙ sym h
-
--- numbers that the test finds equal are equal
-pub eq-from_nat_eq : (a b : ℕ) → nat_eq a b ≡ true → a ≡ b
-eq-from_nat_eq a b e = grind (arith, nat_tests)
-
--- numbers that the test finds to differ differ
-pub ne-from_nat_eq : (a b : ℕ) → nat_eq a b ≡ false → a ≡ b → ⊥
-ne-from_nat_eq a b e = grind (arith, nat_tests)
 
 -- a number of at most another that the test finds to differ is less
 pub lt-from_le_and_nat_eq : (p n : ℕ) → p ≤ n → nat_eq p n ≡ false → p < n
@@ -47,10 +20,6 @@ lt-from_le_and_nat_eq p n within e = grind (arith, nat_tests)
 -- a number that the test finds to be at most one is found to be at most a greater one
 pub nat_le-weaken : (top k n : ℕ) → k ≤ n → nat_le top k ≡ true → nat_le top n ≡ true
 nat_le-weaken top k n h e = grind (arith, nat_tests)
-
--- the test finds a number to be at most another that is so
-pub nat_le-of_le : (top n : ℕ) → top ≤ n → nat_le top n ≡ true
-nat_le-of_le top n h = grind (arith, nat_tests)
 
 -- two pairs of numbers in order pass the test of both
 pub nat_le-both_of_le : (a b c d : ℕ) → a ≤ b → c ≤ d → (nat_le a b && nat_le c d) ≡ true
@@ -67,14 +36,6 @@ nat_eq-not_zero n h = grind (arith, nat_tests)
 -- of two numbers of which one is less, the test of equality fails
 pub nat_eq-of_less_or_greater : (m n : ℕ) → (m < n) ⊎ (n < m) → nat_eq m n ≡ false
 nat_eq-of_less_or_greater m n h = grind (arith, nat_tests)
-
--- a number that the test finds less is less
-pub lt-from_nat_lt : (a b : ℕ) → nat_lt a b ≡ true → a < b
-lt-from_nat_lt a b e = grind (arith, nat_tests)
-
--- where the test finds no number less, the other is at most it
-pub le-from_not_nat_lt : (a b : ℕ) → nat_lt a b ≡ false → b ≤ a
-le-from_not_nat_lt a b e = grind (arith, nat_tests)
 
 -- counted back from the end w, n places from a on begin at the start where they ended at the end
 pub eq_test-counted_back_start : (w a n : ℕ) → a + n ≤ 0 + w → (w - a - n == 0) ≡ (a + n == w)
@@ -111,28 +72,14 @@ nat_eq-same_of_iff x y c iff = cases (cases_eq x c) (cases_eq y c)
     cases (inr e) (inl f) = absurd (e (iff.1 f))
     cases (inr e) (inr f) = none e f
 
--- equal numbers pass the test
-pub nat_eq-of_equal : (n k : ℕ) → n ≡ k → nat_eq n k ≡ true
-nat_eq-of_equal n k e = grind (arith, nat_tests)
-
--- numbers that differ fail the test
-pub nat_eq-of_different : (n k : ℕ) → (n ≡ k → ⊥) → nat_eq n k ≡ false
-nat_eq-of_different n k e = grind (arith, nat_tests)
-
 -- two numbers are equal and pass the test, or differ and fail it
 pub eq_test-cases : (x y : ℕ) → ((x ≡ y) × ((x == y) ≡ true)) ⊎ ((x ≡ y → ⊥) × ((x == y) ≡ false))
 eq_test-cases x y = cases (cases_lt x y) (cases_lt y x)
   where
-    no_eq : (x y : ℕ) → (x ≡ y → ⊥) → (x == y) ≡ false
-    no_eq x y e = grind (arith, nat_tests)
-
-    is_eq : (x y : ℕ) → x ≡ y → (x == y) ≡ true
-    is_eq x y e = grind (arith, nat_tests)
-
     cases : (x < y) ⊎ (y ≤ x) → (y < x) ⊎ (x ≤ y) → ((x ≡ y) × ((x == y) ≡ true)) ⊎ ((x ≡ y → ⊥) × ((x == y) ≡ false))
-    cases (inl h) k = let differ : x ≡ y → ⊥ = λ e. omega arith in inr (differ, no_eq x y differ)
-    cases (inr h) (inl k) = let differ : x ≡ y → ⊥ = λ e. omega arith in inr (differ, no_eq x y differ)
-    cases (inr h) (inr k) = let same : x ≡ y = omega arith in inl (same, is_eq x y same)
+    cases (inl h) k = let differ : x ≡ y → ⊥ = λ e. omega arith in inr (differ, ne_eqb x y differ)
+    cases (inr h) (inl k) = let differ : x ≡ y → ⊥ = λ e. omega arith in inr (differ, ne_eqb x y differ)
+    cases (inr h) (inr k) = let same : x ≡ y = omega arith in inl (same, eq-eqb x y same)
 
 -- a number above 10 isn't found to be 10
 pub eq_ten-not_above : (b : ℕ) → 10 < b → (b == 10) ≡ false
@@ -154,11 +101,11 @@ digit_byte-positive b h =
     let high = leb-true b 57 parts.1 in
     (omega arith, omega arith, omega arith)
 
--- two numbers, moved alike, pass the test of order as before
+-- a test of order of two numbers, both greater by d, is that of the numbers
 pub nat_le-shifted : (a i d : ℕ) → nat_le (a + d) (i + d) ≡ nat_le a i
 nat_le-shifted a i d = grind (arith, nat_tests)
 
--- a number before the end of a range, moved with it, passes the test as before
+-- a test whether a number is below the end of a range, both moved by d, is that of the number and the range
 pub nat_lt-shifted : (i a s d : ℕ) → nat_lt (i + d) ((a + d) + s) ≡ nat_lt i (a + s)
 nat_lt-shifted i a s d = grind (arith, nat_tests)
 
@@ -171,4 +118,4 @@ digit_byte-from_test b h =
 -- two tests of numbers for equality are one if one passes where the other does
 pub eq_test-of_iff : (a b c d : ℕ) → (a ≡ b) ↔ (c ≡ d) → (a == b) ≡ (c == d)
 eq_test-of_iff a b c d e =
-    both_ways (a == b) (c == d) (λ f. nat_eq-of_equal c d (e.0 (eq-from_nat_eq a b f))) (λ f. nat_eq-of_equal a b (e.1 (eq-from_nat_eq c d f)))
+    both_ways (a == b) (c == d) (λ f. eq-eqb c d (e.0 (eqb-true a b f))) (λ f. eq-eqb a b (e.1 (eqb-true c d f)))

@@ -4,8 +4,8 @@ use Rattle.std.proofs.Common.{Bool, List, Some, [], ap, arith, cond, drop, false
 use Rattle.std.proofs.Common.{slice_index_or, subst, suc, sym, take, true, zero, ℕ, ◌++◌, ◌+◌, ◌<◌, ◌||◌, ◌∷◌, ◌≡◌, ◌≤◌, ◌⊎◌}
 use Rattle.std.proofs.lemmas.Bool.{cases_eq}
 use Rattle.std.proofs.lemmas.Bool.Decides.{nat_tests}
+use Rattle.std.proofs.lemmas.Option.{same_Some}
 use Rattle.bk_laws.proofs.ListPlaces.{slice_index_or-of_slice_get}
-use Rattle.bk_laws.proofs.Outcomes.{some-injective}
 use Rattle.bk_laws.proofs.TestsAsNumbers.{cond_count-nat_eq_other, cond_count-nat_eq_same, nat_eq-same_or_no_count}
 
 -- how often the number stands in the list
@@ -54,7 +54,7 @@ times-some_of_nonempty (a ∷ xs) some = (a, counted (nat_eq a a) same)
 -- a number that stands at a place is counted
 pub times-positive_of_slice_get : (xs : List ℕ) (k q : ℕ) → slice_get xs k ≡ Some q → 0 < times q xs
 times-positive_of_slice_get [] k q e = absurd (cc)
-times-positive_of_slice_get (x ∷ xs) zero q e = omega (arith, cond_count-nat_eq_same q x (sym (some-injective x q e)))
+times-positive_of_slice_get (x ∷ xs) zero q e = omega (arith, cond_count-nat_eq_same q x (sym (same_Some x q e)))
 times-positive_of_slice_get (x ∷ xs) (suc k) q e = omega (arith, times-positive_of_slice_get xs k q e)
 
 -- a number that stands in a list is counted in all
@@ -62,7 +62,7 @@ pub times_in-positive_of_slice_get : (z : ℕ) (segments : List (List ℕ)) (i k
     times_in z segments
 times_in-positive_of_slice_get z [] i k s e f = absurd (cc)
 times_in-positive_of_slice_get z (t ∷ segments) zero k s e f =
-    omega (arith, times-positive_of_slice_get t k z (subst (λ (u : List ℕ). slice_get u k ≡ Some z) (sym (some-injective t s e)) f))
+    omega (arith, times-positive_of_slice_get t k z (subst (λ (u : List ℕ). slice_get u k ≡ Some z) (sym (same_Some t s e)) f))
 times_in-positive_of_slice_get z (t ∷ segments) (suc i) k s e f = omega (arith, times_in-positive_of_slice_get z segments i k s e f)
 
 -- a number that is counted stands at a place
@@ -94,9 +94,9 @@ pub unique_place-of_times_le_one : (xs : List ℕ) (q : ℕ) → times q xs ≤ 
 unique_place-of_times_le_one [] q few j k e f = absurd (cc)
 unique_place-of_times_le_one (x ∷ xs) q few zero zero e f = refl
 unique_place-of_times_le_one (x ∷ xs) q few zero (suc k) e f =
-    absurd (omega (arith, few, cond_count-nat_eq_same q x (sym (some-injective x q e)), times-positive_of_slice_get xs k q f))
+    absurd (omega (arith, few, cond_count-nat_eq_same q x (sym (same_Some x q e)), times-positive_of_slice_get xs k q f))
 unique_place-of_times_le_one (x ∷ xs) q few (suc j) zero e f =
-    absurd (omega (arith, few, cond_count-nat_eq_same q x (sym (some-injective x q f)), times-positive_of_slice_get xs j q e))
+    absurd (omega (arith, few, cond_count-nat_eq_same q x (sym (same_Some x q f)), times-positive_of_slice_get xs j q e))
 unique_place-of_times_le_one (x ∷ xs) q few (suc j) (suc k) e f = ap suc (unique_place-of_times_le_one xs q (omega (arith, few)) j k e f)
 
 -- the image of a counted number is counted in the mapped list

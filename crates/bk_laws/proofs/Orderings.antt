@@ -5,9 +5,9 @@ use Rattle.std.specs.Ordering.{is_le, nat_cmp, ordering_reverse, ordering_then}
 use Rattle.std.specs.declared.cmp.Ordering.{Ordering}
 use Rattle.std.proofs.Common.{Equal, Greater, Less, List, [], ap, arith, inl, inr, refl, subst, sym, true, ℕ, ◌*◌, ◌+◌, ◌-◌, ◌<◌, ◌∙◌, ◌∷◌, ◌≡◌, ◌≤◌, ◌⊎◌}
 use Rattle.std.proofs.Math.Nat.{mul-le-mul_right}
+use Rattle.std.proofs.lemmas.Bool.{false≢true}
 use Rattle.std.proofs.lemmas.Bool.Decides.{nat_tests}
 use Rattle.bk_laws.proofs.NumberOrder.{lt_or_eq_or_gt}
-use Rattle.bk_laws.proofs.Truth.{false-is_not_true}
 
 -- greater isn't less
 pub greater-is_not_less : Greater ≡ Less → ⊥
@@ -113,9 +113,9 @@ pub slice_cmp-antisymmetric : (xs ys : List ℕ) → is_le (slice_cmp nat_cmp xs
 slice_cmp-antisymmetric xs ys a b = cases (slice_cmp nat_cmp xs ys) refl
   where
     cases : (r : Ordering) → slice_cmp nat_cmp xs ys ≡ r → xs ≡ ys
-    cases Less e = absurd (false-is_not_true (sym (ap is_le (nat_list_cmp_total.antisymm ys xs ∙ ap ordering_reverse e)) ∙ b))
+    cases Less e = absurd (false≢true (sym (ap is_le (nat_list_cmp_total.antisymm ys xs ∙ ap ordering_reverse e)) ∙ b))
     cases Equal e = slice_cmp-equal xs ys e
-    cases Greater e = absurd (false-is_not_true (sym (ap is_le e) ∙ a))
+    cases Greater e = absurd (false≢true (sym (ap is_le e) ∙ a))
 
 -- of three lists of numbers in order, the first is at most the third
 pub slice_cmp-transitive : (xs ys zs : List ℕ) → is_le (slice_cmp nat_cmp xs ys) ≡ true → is_le (slice_cmp nat_cmp ys zs) ≡ true → is_le
@@ -123,9 +123,9 @@ pub slice_cmp-transitive : (xs ys zs : List ℕ) → is_le (slice_cmp nat_cmp xs
 slice_cmp-transitive xs ys zs a b = cases (slice_cmp nat_cmp xs ys) refl (slice_cmp nat_cmp ys zs) refl
   where
     cases : (r : Ordering) → slice_cmp nat_cmp xs ys ≡ r → (q : Ordering) → slice_cmp nat_cmp ys zs ≡ q → is_le (slice_cmp nat_cmp xs zs) ≡ true
-    cases Greater e q f = absurd (false-is_not_true (sym (ap is_le e) ∙ a))
+    cases Greater e q f = absurd (false≢true (sym (ap is_le e) ∙ a))
     cases Equal e q f = subst (λ (list : List ℕ). is_le (slice_cmp nat_cmp list zs) ≡ true) (sym (slice_cmp-equal xs ys e)) b
-    cases Less e Greater f = absurd (false-is_not_true (sym (ap is_le f) ∙ b))
+    cases Less e Greater f = absurd (false≢true (sym (ap is_le f) ∙ b))
     cases Less e Equal f = subst (λ (list : List ℕ). is_le (slice_cmp nat_cmp xs list) ≡ true) (slice_cmp-equal ys zs f) a
     cases Less e Less f = ap is_le (nat_list_cmp_total.trans xs ys zs e f)
 

@@ -54,26 +54,6 @@ pub option_to_list-at_most_one : (o : Option ℕ) → length (option_to_list o) 
 option_to_list-at_most_one None = omega arith
 option_to_list-at_most_one (Some a) = omega arith
 
--- two equal options have the same value
-pub some-injective : {A : Type 0} (x y : A) → ◌≡◌ {A = Option A} (Some x) (Some y) → x ≡ y
-some-injective x y e = cc
-
--- two values of one option are one
-pub some-unique_of_same : {n : Option ℕ} (p q : ℕ) → n ≡ Some p → n ≡ Some q → p ≡ q
-some-unique_of_same p q e f = some-injective p q (sym e ∙ f)
-
--- two equal options of pairs have the same parts
-pub some_pair-injective : (a b c d : ℕ) → ◌≡◌ {A = Option (ℕ × ℕ)} (Some (a, b)) (Some (c, d)) → (a ≡ c) × (b ≡ d)
-some_pair-injective a b c d e = (ap first e, ap second e)
-  where
-    first : Option (ℕ × ℕ) → ℕ
-    first None = 0
-    first (Some x) = x.0
-
-    second : Option (ℕ × ℕ) → ℕ
-    second None = 0
-    second (Some x) = x.1
-
 -- where there is an error, anything holds of a success
 pub if_ok-of_error : {T E : Type 0} (Q : E → Type 0) (r : Result T E) (P : T → Type 0) → IsErrAnd r Q → IfOk r P
 if_ok-of_error Q (Ok x) P h = absurd h
@@ -111,11 +91,6 @@ on_ok-of_error {A} {E} P r e is = subst (λ (r : Result A E). OnOk r P) (sym is)
 pub none-from_is_some : (limit : Option ℕ) → is_some limit ≡ false → limit ≡ None
 none-from_is_some None e = refl
 none-from_is_some (Some n) e = absurd (cc)
-
--- what a result promises of a success holds if it isn't found to be an error
-pub on_ok-use : {T E : Type 0} (r : Result T E) (P : Type 0) → OnOk r P → is_err r ≡ false → P
-on_ok-use (Ok v) P h e = h
-on_ok-use (Err f) P h e = absurd (cc)
 
 -- a success is not found to be an error
 pub ok-is_not_err : {T E : Type 0} (r : Result T E) → IsOk r → is_err r ≡ true → false ≡ true

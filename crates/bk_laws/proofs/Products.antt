@@ -1,9 +1,10 @@
 -- Products of whole numbers by a common factor, by their order.
 use Rattle.std.proofs.Common.{ap, arith, inl, inr, ℕ, ◌*◌, ◌<◌, ◌≡◌, ◌≤◌, ◌⊎◌}
 use Rattle.std.proofs.Math.Nat.{mul-lt-mul_of_pos_left}
-use Rattle.std.proofs.lemmas.Bool.{eq-eqb, eqb-true}
+use Rattle.std.proofs.lemmas.Bool.{cases_order, eq-eqb, eqb-true}
 use Rattle.std.specs.Cmp.{both_ways}
 use Rattle.std.specs.Prelude.{◌==◌}
+use Rattle.bk_laws.proofs.NumberOrder.{le_or_gt}
 
 -- a positive factor keeps the order: std's law with its numbers written out
 pub mul_below : (k m n : ℕ) → 0 < k → m < n → k * m < k * n
@@ -11,11 +12,8 @@ mul_below k m n h l = mul-lt-mul_of_pos_left l h
 
 -- a positive factor is cancelled from an equation
 pub mul_one : (k m n : ℕ) → 0 < k → k * m ≡ k * n → m ≡ n
-mul_one k m n h e = cases (three m n)
+mul_one k m n h e = cases (cases_order m n)
   where
-    three : (m n : ℕ) → (m ≡ n) ⊎ (m < n) ⊎ (n < m)
-    three m n = grind arith
-
     cases : (m ≡ n) ⊎ (m < n) ⊎ (n < m) → m ≡ n
     cases (inl same) = same
     cases (inr (inl l)) = absurd (omega (arith, e, mul_below k m n h l))
@@ -23,11 +21,8 @@ mul_one k m n h e = cases (three m n)
 
 -- a positive factor is cancelled from an order
 pub mul_not_below : (k m n : ℕ) → k * m ≤ k * n → 0 < k → m ≤ n
-mul_not_below k m n e h = cases (two m n)
+mul_not_below k m n e h = cases (le_or_gt m n)
   where
-    two : (m n : ℕ) → (m ≤ n) ⊎ (n < m)
-    two m n = grind arith
-
     cases : (m ≤ n) ⊎ (n < m) → m ≤ n
     cases (inl a) = a
     cases (inr a) = absurd (omega (arith, e, mul_below k n m h a))

@@ -4,6 +4,7 @@ use Rattle.std.proofs.Common.{List, [], ap, arith, drop, get_or, inl, inr, lengt
 use Rattle.std.proofs.Common.{cond, ◌+◌, ◌-◌, ◌<◌, ◌==◌, ◌∙◌, ◌∷◌, ◌≡◌, ◌≢◌, ◌≤◌, ◌⊎◌}
 use Rattle.std.proofs.lemmas.List.{drop_all, drop_more, length-append}
 use Rattle.std.proofs.lemmas.List.Sums.{sum_by-cons, sum_by-take-drop}
+use Rattle.bk_laws.proofs.NumberOrder.{le-same_or_less}
 use Rattle.bk_laws.proofs.Totals.{total}
 use Rattle.bk_laws.proofs.TestsAsNumbers.{cond-of_different, cond-of_equal}
 use Rattle.std.proofs.lemmas.Bool.{cases_eq}
@@ -41,11 +42,9 @@ sum_by_range-none_counts f k a (suc n) after none = omega (
 -- a sum of terms that are 0 but for one number is the term of this number
 pub sum_by_range-one_counts : (f : ℕ → ℕ) (k a n : ℕ) → a ≤ k → k < a + n → ((j : ℕ) → j ≢ k → f j ≡ 0) → sum_by f (range_with_len a n) ≡ f k
 sum_by_range-one_counts f k a zero from to none = absurd (omega arith)
-sum_by_range-one_counts f k a (suc n) from to none = cases (two a k from) (λ less. sum_by_range-one_counts f k (a + 1) n (omega arith) (omega arith) none)
+sum_by_range-one_counts f k a (suc n) from to none =
+    cases (le-same_or_less a k from) (λ less. sum_by_range-one_counts f k (a + 1) n (omega arith) (omega arith) none)
   where
-    two : (a k : ℕ) → a ≤ k → (a ≡ k) ⊎ (a < k)
-    two a k h = grind arith
-
     cases : (a ≡ k) ⊎ (a < k) → (a < k → sum_by f (range_with_len (a + 1) n) ≡ f k) → sum_by f (range_with_len a (suc n)) ≡ f k
     cases (inl same) more = omega (arith, sum_by-cons f a (range_with_len (a + 1) n), sum_by_range-none_counts f k (a + 1) n (omega arith) none, ap f same)
     cases (inr less) more = omega (arith, sum_by-cons f a (range_with_len (a + 1) n), none a (λ e. omega arith), more less)

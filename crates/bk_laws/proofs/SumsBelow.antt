@@ -1,6 +1,7 @@
 -- Sums over the numbers below one, and of spans of numbers that count the same.
 use Rattle.std.specs.Prelude.{nat_le, nat_lt, ◌&&◌, ◌*◌}
 use Rattle.std.proofs.Common.{Bool, ap, arith, cond, false, inl, inr, min, refl, suc, true, zero, ℕ, ◌+◌, ◌-◌, ◌<◌, ◌∙◌, ◌≡◌, ◌≤◌, ◌⊎◌}
+use Rattle.std.proofs.lemmas.Bool.{cases_lt}
 use Rattle.std.proofs.lemmas.Bool.Decides.{nat_tests}
 use Rattle.std.proofs.lemmas.Grind.{common_steps}
 
@@ -33,11 +34,8 @@ sum_below-le_times f b (suc n) most = omega (arith, sum_below-le_times f b n mos
 pub sum_below-full : (f : ℕ → ℕ) (b n : ℕ) → ((i : ℕ) → f i ≤ b) → sum_below f n ≡ n * b → (i : ℕ) → i < n → f i ≡ b
 sum_below-full f b zero most full i low = absurd (omega arith)
 sum_below-full f b (suc n) most full i low =
-    cases (split i n) (sum_below-full f b n most (omega (arith, full, sum_below-le_times f b n most, most n)) i)
+    cases (cases_lt i n) (sum_below-full f b n most (omega (arith, full, sum_below-le_times f b n most, most n)) i)
   where
-    split : (i n : ℕ) → (i < n) ⊎ (n ≤ i)
-    split i n = grind arith
-
     cases : (i < n) ⊎ (n ≤ i) → (i < n → f i ≡ b) → f i ≡ b
     cases (inl h) rest = rest h
     cases (inr h) rest = let last : i ≡ n = omega arith in ap f last ∙ omega (arith, full, sum_below-le_times f b n most, most n)

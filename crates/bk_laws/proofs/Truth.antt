@@ -1,6 +1,6 @@
 -- Tests that pass or fail, one or two of them; and facts that are decided.
-use Rattle.std.proofs.Common.{Bool, IsTrue, ap, false, inl, inr, not, refl, sym, true, ◌&&◌, ◌||◌, ◌↔◌, ◌∙◌, ◌≡◌, ◌⊎◌}
-use Rattle.std.proofs.lemmas.Bool.{or_left, or_right, true≢false}
+use Rattle.std.proofs.Common.{Bool, IsTrue, ap, false, inl, inr, refl, sym, true, ◌&&◌, ◌||◌, ◌↔◌, ◌≡◌, ◌⊎◌}
+use Rattle.std.proofs.lemmas.Bool.{false_from_ne_true, false≢true, or_left, or_right, true≢false}
 
 -- of two facts that are decided, it is decided whether both hold
 pub decided-and : {P Q : Type 0} → P ⊎ (P → ⊥) → Q ⊎ (Q → ⊥) → (P × Q) ⊎ (P × Q → ⊥)
@@ -31,59 +31,26 @@ or-right_of_not_left false b c e h = e
 -- where the first of two tests passes, both together pass
 pub or-true_of_left : (a b c : Bool) → a || b ≡ c → IsTrue a → IsTrue c
 or-true_of_left true b c e h = sym e
-or-true_of_left false b c e h = absurd (clash h)
-  where
-    clash : false ≡ true → ⊥
-    clash f = cc
-
--- a test that fails doesn't hold
-pub false-not_true : (b : Bool) → b ≡ false → IsTrue b → ⊥
-false-not_true b e t = clash (sym e ∙ t)
-  where
-    clash : false ≡ true → ⊥
-    clash f = cc
-
--- where one of two tests passes, the first or the second does
-pub or-cases : (a b : Bool) → IsTrue (a || b) → IsTrue a ⊎ IsTrue b
-or-cases true b h = inl refl
-or-cases false b h = inr h
-
--- false isn't true
-pub false-is_not_true : false ≡ true → ⊥
-false-is_not_true e = cc
+or-true_of_left false b c e h = absurd (false≢true h)
 
 -- of two tests that pass together, the second passes
 pub and-right_true : (a b : Bool) → a && b ≡ true → b ≡ true
 and-right_true true b e = e
-and-right_true false b e = absurd (false-is_not_true e)
-
--- true isn't false
-pub true-is_not_false : true ≡ false → ⊥
-true-is_not_false e = cc
+and-right_true false b e = absurd (false≢true e)
 
 -- of two tests that pass together, the first passes
 pub and-left_true : (a b : Bool) → a && b ≡ true → a ≡ true
 and-left_true true b e = refl
 and-left_true false b e = e
 
--- a test that doesn't hold fails
-pub false-of_not_true : (b : Bool) → (IsTrue b → ⊥) → b ≡ false
-false-of_not_true true h = absurd (h refl)
-false-of_not_true false h = refl
-
 -- a test that doesn't hold adds nothing before another
 pub or-drop_left : (a b : Bool) → (IsTrue a → ⊥) → a || b ≡ b
-or-drop_left a b h = ap (λ (c : Bool). c || b) (false-of_not_true a h)
+or-drop_left a b h = ap (λ (c : Bool). c || b) (false_from_ne_true a h)
 
 -- where neither of two tests holds, not one of them does
 pub neither-or : (a b : Bool) → (IsTrue a → ⊥) → (IsTrue b → ⊥) → IsTrue (a || b) → ⊥
 neither-or true b no_a no_b e = no_a refl
 neither-or false b no_a no_b e = no_b e
-
--- where the opposite of a test passes, it fails
-pub false-of_not : (b : Bool) → IsTrue (not b) → b ≡ false
-false-of_not false told = refl
-false-of_not true told = absurd (cc)
 
 -- what follows from each of two tests follows where one passes
 pub or-elim : {P : Type 0} (a b : Bool) → (a ≡ true → P) → (b ≡ true → P) → (a || b) ≡ true → P
@@ -113,7 +80,3 @@ pub same_test-of_implications : (a b : Bool) → (IsTrue a → IsTrue b) → (Is
 same_test-of_implications true b f g = sym (f refl)
 same_test-of_implications false true f g = g refl
 same_test-of_implications false false f g = refl
-
--- anything follows if false is true
-pub absurd-of_false_is_true : {A : Type 0} → false ≡ true → A
-absurd-of_false_is_true e = absurd (cc)

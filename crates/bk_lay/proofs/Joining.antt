@@ -1,7 +1,9 @@
 -- Signs between levels, cut at a level; and runs of one level that are joined.
 use Rattle.std.specs.List.{AllZip}
 use Rattle.std.proofs.Common.{List, [], ap, arith, drop, filter, inl, inr, length, map, refl, subst, suc, sym, take, ℕ, ◌++◌, ◌+◌, ◌<◌, ◌∙◌, ◌∷◌, ◌≡◌, ◌≤◌, ◌⊎◌}
+use Rattle.std.proofs.lemmas.Bool.{cases_lt}
 use Rattle.std.proofs.lemmas.Bool.Decides.{nat_tests}
+use Rattle.bk_laws.proofs.NumberOrder.{lt_or_eq_or_gt}
 use Rattle.bk_tiling.specs.Column.{AreRuns, IsLevel, depth}
 use Rattle.bk_tiling.specs.declared.Segment.{Segment}
 use Rattle.bk_tiling.specs.declared.Square.{Square}
@@ -52,11 +54,8 @@ Compare Under m n = n < m
 
 -- how two levels compare, with the sign between them
 pub sign_case : (m n : ℕ) → ((m < n) × (sign_between m n ≡ Above)) ⊎ ((m ≡ n) × (sign_between m n ≡ Even)) ⊎ ((n < m) × (sign_between m n ≡ Under))
-sign_case m n = cases (three m n)
+sign_case m n = cases (lt_or_eq_or_gt m n)
   where
-    three : (m n : ℕ) → (m < n) ⊎ (m ≡ n) ⊎ (n < m)
-    three m n = grind arith
-
     above : m < n → sign_between m n ≡ Above
     above h = grind (arith, nat_tests)
 
@@ -116,9 +115,6 @@ module _ (width : ℕ) (laid : List Square) (sides : (n : ℕ) (q : Square) → 
   join v (u ∷ runs) x s [] cut zip = absurd zip.1
   join v (u ∷ runs) x s (r ∷ segments) cut zip = cases (sign_case v.level u.level) (join u runs (x + v.width) r segments cut.2 zip.1)
     where
-      rest : List Sign
-      rest = signs_between (levels (u ∷ runs))
-
       -- a run at another level stays a run of its own
       parted : (sign : Sign) → sign_between v.level u.level ≡ sign
           → Joined (x + v.width) u.level (joined (signs_between (levels (u ∷ runs))) (r ∷ segments)) (filter parts (signs_between (levels (u ∷ runs))))
@@ -152,12 +148,9 @@ module _ (width : ℕ) (laid : List Square) (sides : (n : ℕ) (q : Square) → 
           flat = record {
             some = let a = (cut.1).some in omega arith;
             within = let a = ((j.cut).1).within in omega (arith, cut.0, (j.cut).0);
-            level = λ c lo hi. sides_of c lo hi (two c);
+            level = λ c lo hi. sides_of c lo hi (cases_lt c (v.x + v.width));
           }
             where
-              two : (c : ℕ) → (c < v.x + v.width) ⊎ (v.x + v.width ≤ c)
-              two c = grind arith
-
               sides_of : (c : ℕ) → v.x ≤ c → c < v.x + (v.width + (j.first).width) → (c < v.x + v.width) ⊎ (v.x + v.width ≤ c) → depth laid c ≡ (j.first).level
               sides_of c lo hi (inl k) = (cut.1).level c lo k ∙ h.0 ∙ sym j.same_level
               sides_of c lo hi (inr k) = ((j.cut).1).level c (omega (arith, cut.0, (j.cut).0)) (omega (arith, cut.0, (j.cut).0))

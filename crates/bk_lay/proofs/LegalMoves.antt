@@ -43,10 +43,11 @@ first_level_is_the_depth_at_the_right width laid x after right = record { shape 
     cases (inr h) = inr ((h.first).level, levels h.back, ap levels h.is, h.level)
 
 -- the move under the leftmost valley, which stands between these levels, is legal
-pub legal : (t : Tiling) (laid : List Square) (v : Segment) → IsTiling t → FillsFromTop t laid → IsLeftmostValley t.width laid v → v.level < t.height
+pub valley_move_is_legal : (t : Tiling) (laid : List Square) (v : Segment) → IsTiling t → FillsFromTop t laid → IsLeftmostValley t.width laid v
+    → v.level < t.height
     → (o : Outline) (before after : List ℕ) → o.signs ≡ signs_between (before ++ v.level ∷ after) → valley_place o.signs ≡ length before
     → LastIs before (depth_before laid v.x) → FirstIs after (depth_from t.width laid (v.x + v.width)) → IsLegalMove o (move_under t laid v)
-legal t laid v tiling fills found low o before after level_signs number last first = record { some = some; signs = whole ∙ sym sides }
+valley_move_is_legal t laid v tiling fills found low o before after level_signs number last first = record { some = some; signs = whole ∙ sym sides }
   where
     some : 0 < length (squares_under t v)
     some = (valley_is_filled t laid v tiling fills found low).0

@@ -1,5 +1,6 @@
 -- Level runs at both sides of a valley: one more at an end, two that join, and where the leftmost valley stands.
 use Rattle.std.proofs.Common.{List, [], ap, arith, get_or, inl, inr, length, refl, subst, suc, sym, ℕ, ◌++◌, ◌+◌, ◌-◌, ◌<◌, ◌∙◌, ◌∷◌, ◌≡◌, ◌≤◌, ◌⊎◌}
+use Rattle.std.proofs.lemmas.Bool.{cases_lt}
 use Rattle.bk_tiling.specs.Column.{IsLevel, depth}
 use Rattle.bk_tiling.specs.declared.Segment.{Segment}
 use Rattle.bk_tiling.specs.declared.Square.{Square}
@@ -121,7 +122,7 @@ module _ (width : ℕ) (laid : List Square) where
       run = record {
         some = let one = ((b.run).run).some in let other = (ends.1).some in omega (arith, ends.0);
         level =
-            λ c lo hi. level c lo hi (two c);
+            λ c lo hi. level c lo hi (cases_lt c v.end);
       };
       wall = (b.run).wall;
     };
@@ -130,9 +131,6 @@ module _ (width : ℕ) (laid : List Square) where
     where
       ends : (n.x ≡ v.end) × IsRun laid n × RunsFromRight laid n.end right width
       ends = right_at_end laid v.end right n width b.rest
-
-      two : (c : ℕ) → (c < v.end) ⊎ (v.end ≤ c)
-      two c = grind arith
 
       level : (c : ℕ) → v.x ≤ c → c < n.end → (c < v.end) ⊎ (v.end ≤ c) → depth laid c ≡ v.level
       level c lo hi (inl k) = ((b.run).run).level c lo k

@@ -2,6 +2,7 @@
 use Rattle.std.specs.List.{AllByRecursion}
 use Rattle.std.proofs.Common.{Bool, List, [], ap, arith, cond, false, inl, inr, length, nat_lt, refl, subst, suc, sym, true, zero, ℕ, ◌++◌, ◌+◌, ◌-◌}
 use Rattle.std.proofs.Common.{◌<◌, ◌∙◌, ◌∷◌, ◌≡◌, ◌≤◌, ◌⊎◌}
+use Rattle.std.proofs.lemmas.Bool.{false≢true}
 use Rattle.std.proofs.lemmas.Bool.Decides.{nat_tests}
 use Rattle.bk_tiling.specs.Column.{AreRuns, depth}
 use Rattle.bk_tiling.specs.declared.Segment.{Segment}
@@ -40,10 +41,7 @@ pub record Placed (width : ℕ) (laid : List Square) (x : ℕ) (runs : List Segm
   pub right : ((after ≡ []) × (valley.x + valley.width ≡ width)) ⊎ HasFirst width laid (valley.x + valley.width) after
 
 no_even : (m n : ℕ) → sign_between m n ≡ Even → parts (sign_between m n) ≡ true → ⊥
-no_even m n e p = impossible (sym (ap parts e) ∙ p)
-  where
-    impossible : false ≡ true → ⊥
-    impossible q = cc
+no_even m n e p = false≢true (sym (ap parts e) ∙ p)
 
 -- the depth before a column that isn't the first is that of the column at its left
 pub depth_before_at : (laid : List Square) (x c : ℕ) → suc c ≡ x → depth_before laid x ≡ depth laid c ∷ []

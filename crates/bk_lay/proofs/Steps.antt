@@ -26,7 +26,7 @@ use Rattle.bk_lay.specs.Depiction.{Depicts, FillsFromTop, Hangs, IsNumbered, IsS
 use Rattle.bk_lay.specs.TilingWord.{IsLeftmostValley, bottoms, depth_before, depth_from, move_under, signs_between, squares_under}
 use Rattle.bk_lay.specs.WordLaws.{MoveDepicts, StartDepictsNothing}
 use Rattle.bk_lay.proofs.LaidRuns.{hangs_more, levels_of_runs_are_the_bottoms, new_segments, one_of, run_under_a_square, runs_new_all, segment_more}
-use Rattle.bk_lay.proofs.LegalMoves.{first_level_is_the_depth_at_the_right, last_level_is_the_depth_at_the_left, legal}
+use Rattle.bk_lay.proofs.LegalMoves.{first_level_is_the_depth_at_the_right, last_level_is_the_depth_at_the_left, valley_move_is_legal}
 
 module _ (t : Tiling) (laid : List Square) (v : Segment) (tiling : IsTiling t) (fills : FillsFromTop t laid) (found : IsLeftmostValley t.width laid v)
     (low : v.level < t.height) where
@@ -56,7 +56,7 @@ module _ (t : Tiling) (laid : List Square) (v : Segment) (tiling : IsTiling t) (
       some = (valley_is_filled t laid v tiling fills found low).0
 
       is_legal : IsLegalMove o (move_under t laid v)
-      is_legal = legal t laid v tiling fills found low o (levels before) (levels after) level_signs number_levels at_left at_right
+      is_legal = valley_move_is_legal t laid v tiling fills found low o (levels before) (levels after) level_signs number_levels at_left at_right
 
       new_signs : signs_apart o (move_under t laid v) ≡ signs_between (levels (before ++ map run_under_a_square (squares_under t v) ++ after))
       new_signs = (λ i. take (number_levels i - 1) (level_signs i) ++ signs_between (bottoms t laid v) ++ drop (number_levels i + 1) (level_signs i))

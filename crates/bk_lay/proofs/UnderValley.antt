@@ -1,6 +1,7 @@
 -- What is laid, and what hangs under the leftmost valley, of the squares of a tiling.
 use Rattle.std.proofs.Common.{List, arith, count_by, inl, inr, subst, suc, sym, true, ℕ, ◌+◌, ◌-◌, ◌<◌, ◌≡◌, ◌≤◌, ◌⊎◌}
 use Rattle.std.proofs.lemmas.Bool.Decides.{nat_tests}
+use Rattle.bk_laws.proofs.NumberOrder.{le-same_or_less, le_or_gt}
 use Rattle.bk_tiling.proofs.Cells.{IsOver, column_from, counted_one, covers_from, depth_reaches, in_all, no_two, over_from}
 use Rattle.bk_tiling.proofs.TilingLaws.{within_of}
 use Rattle.bk_tiling.specs.Column.{IsLevel, depth}
@@ -72,14 +73,8 @@ module _ (t : Tiling) (laid : List Square) (v : Segment) (tiling : IsTiling t) (
       free : IsOneOf q laid → ⊥
       free k = let a = over.left in let b = over.right in let d = over.bottom in omega (arith, laid_square_ends_by_the_depth c q k a b, deep)
 
-      two : (a b : ℕ) → a ≤ b → (a ≡ b) ⊎ (a < b)
-      two a b k = grind arith
-
-      either : (a b : ℕ) → (a ≤ b) ⊎ (b < a)
-      either a b = grind arith
-
       level : q.y ≡ v.level
-      level = cases (two q.y v.level over.top)
+      level = cases (le-same_or_less q.y v.level over.top)
         where
           cases : (q.y ≡ v.level) ⊎ (q.y < v.level) → q.y ≡ v.level
           cases (inl same) = same
@@ -87,7 +82,7 @@ module _ (t : Tiling) (laid : List Square) (v : Segment) (tiling : IsTiling t) (
               absurd (free (is_laid c q.y q wide (omega (arith, deep)) h (covers_from c q.y q a b (omega arith) (omega arith))))
 
       left : v.x ≤ q.x
-      left = cases (either v.x q.x)
+      left = cases (le_or_gt v.x q.x)
         where
           cases : (v.x ≤ q.x) ⊎ (q.x < v.x) → v.x ≤ q.x
           cases (inl k) = k
@@ -98,7 +93,7 @@ module _ (t : Tiling) (laid : List Square) (v : Segment) (tiling : IsTiling t) (
                   free (is_laid p v.level q (omega arith) ((found.valley).left p s) h (covers_from p v.level q (omega arith) (omega arith) top d))
 
       right : q.x + q.s ≤ v.x + v.width
-      right = cases (either (q.x + q.s) (v.x + v.width))
+      right = cases (le_or_gt (q.x + q.s) (v.x + v.width))
         where
           cases : (q.x + q.s ≤ v.x + v.width) ⊎ (v.x + v.width < q.x + q.s) → q.x + q.s ≤ v.x + v.width
           cases (inl k) = k

@@ -4,6 +4,7 @@ use Rattle.std.specs.List.{AllByRecursion}
 use Rattle.std.proofs.Common.{Bool, List, [], ap, arith, cond, false, filter, inl, inr, refl, sym, true, ℕ, ◌++◌, ◌+◌, ◌<◌, ◌∙◌, ◌∷◌, ◌≡◌, ◌≤◌, ◌⊎◌}
 use Rattle.std.proofs.lemmas.Bool.{cases_lt}
 use Rattle.std.proofs.lemmas.Bool.Decides.{nat_tests}
+use Rattle.bk_laws.proofs.NumberOrder.{le_or_gt}
 use Rattle.bk_tiling.proofs.Cells.{column_from, column_left, column_right, counted_one, covers_from, depth-append, depth_comes_from, depth_reaches}
 use Rattle.bk_tiling.proofs.Cells.{from_append, in_all, in_filter, no_two, over_from}
 use Rattle.bk_tiling.proofs.Rows.{Chain}
@@ -86,15 +87,12 @@ module _ (level end : ℕ) where
         ordered = (row.ordered).1;
         tops = λ r k. row.tops r (inr k);
         sides = λ r k. row.sides r (inr k);
-        begins = λ r k. behind r k (two (x + q.s) r.x);
+        begins = λ r k. behind r k (le_or_gt (x + q.s) r.x);
         ends = λ r k. row.ends r (inr k);
         over = λ c lo hi. others c lo (row.over c (omega arith) hi);
         apart = λ a b k l. row.apart a b (inr k) (inr l);
       }
         where
-          two : (a b : ℕ) → (a ≤ b) ⊎ (b < a)
-          two a b = grind arith
-
           behind : (r : Square) → IsOneOf r squares → (x + q.s ≤ r.x) ⊎ (r.x < x + q.s) → x + q.s ≤ r.x
           behind r k (inl d) = d
           behind r k (inr d) = let side = row.sides r (inr k) in let right = after r k in
@@ -154,11 +152,8 @@ module _ (t : Tiling) (laid : List Square) (v : Segment) (tiling : IsTiling t) (
 
   -- beside the valley the depths stay
   pub same_depth : (c : ℕ) → (c < v.x) ⊎ (v.x + v.width ≤ c) → depth (laid ++ squares_under t v) c ≡ depth laid c
-  same_depth c away = cases (two (depth (laid ++ squares_under t v) c) (depth laid c))
+  same_depth c away = cases (le_or_gt (depth (laid ++ squares_under t v) c) (depth laid c))
     where
-      two : (a b : ℕ) → (a ≤ b) ⊎ (b < a)
-      two a b = grind arith
-
       cases : (depth (laid ++ squares_under t v) c ≤ depth laid c) ⊎ (depth laid c < depth (laid ++ squares_under t v) c)
           → depth (laid ++ squares_under t v) c ≡ depth laid c
       cases (inl h) = omega (arith, depth-append laid (squares_under t v) c)
@@ -181,11 +176,8 @@ module _ (t : Tiling) (laid : List Square) (v : Segment) (tiling : IsTiling t) (
 
   -- under the valley the depth of a column is the bottom of the new square over it
   pub new_depth : (q : Square) → IsOneOf q (squares_under t v) → (c : ℕ) → q.x ≤ c → c < q.x + q.s → depth (laid ++ squares_under t v) c ≡ q.y + q.s
-  new_depth q h c lo hi = cases (two (depth (laid ++ squares_under t v) c) (q.y + q.s))
+  new_depth q h c lo hi = cases (le_or_gt (depth (laid ++ squares_under t v) c) (q.y + q.s))
     where
-      two : (a b : ℕ) → (a ≤ b) ⊎ (b < a)
-      two a b = grind arith
-
       cases : (depth (laid ++ squares_under t v) c ≤ q.y + q.s) ⊎ (q.y + q.s < depth (laid ++ squares_under t v) c)
           → depth (laid ++ squares_under t v) c ≡ q.y + q.s
       cases (inl k) = omega (arith, depth_reaches (laid ++ squares_under t v) c q (in_new laid (squares_under t v) q h) (column_from c q lo hi))

@@ -1,5 +1,7 @@
 -- Leftmost valleys: there is at most one, and a test finds it. So a tiling has at most one word.
 use Rattle.std.proofs.Common.{List, [], ap, arith, inl, inr, refl, subst, suc, sym, ℕ, ◌++◌, ◌+◌, ◌-◌, ◌<◌, ◌∙◌, ◌∷◌, ◌≡◌, ◌≤◌, ◌⊎◌}
+use Rattle.std.proofs.lemmas.Bool.{cases_order}
+use Rattle.bk_laws.proofs.NumberOrder.{le_or_gt}
 use Rattle.bk_tiling.specs.Column.{IsLevel, depth}
 use Rattle.bk_tiling.specs.declared.Segment.{Segment}
 use Rattle.bk_tiling.specs.Tiling.{Tiling}
@@ -14,16 +16,13 @@ level_of width laid v flat = let some = flat.some in flat.level v.x (omega arith
 -- a second valley further left cannot be, where the columns never get deeper before the first
 no_valley_before : (width : ℕ) (laid : List Square) (v : Segment) → IsValley width laid v → NeverDeeperBefore laid v → (u : Segment)
     → IsValley width laid u → (k : ℕ) → u.x + u.width ≡ suc k → u.x < v.x → ⊥
-no_valley_before width laid v valley falls u other k last before = either (dec (suc k) v.x)
+no_valley_before width laid v valley falls u other k last before = either (le_or_gt (suc k) v.x)
   where
     vf : IsLevel width laid v
     vf = valley.flat
 
     uf : IsLevel width laid u
     uf = other.flat
-
-    dec : (a b : ℕ) → (a ≤ b) ⊎ (b < a)
-    dec a b = grind arith
 
     ends : suc k ≤ v.x → ⊥
     ends h = let some = vf.some in let within = vf.within in let size = uf.some in
@@ -50,11 +49,8 @@ no_valley_before width laid v valley falls u other k last before = either (dec (
 
 -- a valley before which the columns never get deeper is the leftmost
 pub leftmost_by_falling : (width : ℕ) (laid : List Square) (v : Segment) → IsValley width laid v → NeverDeeperBefore laid v → IsLeftmostValley width laid v
-leftmost_by_falling width laid v valley falls = record { valley = valley; leftmost = λ u other. at u other (dec v.x u.x) }
+leftmost_by_falling width laid v valley falls = record { valley = valley; leftmost = λ u other. at u other (le_or_gt v.x u.x) }
   where
-    dec : (a b : ℕ) → (a ≤ b) ⊎ (b < a)
-    dec a b = grind arith
-
     at : (u : Segment) → IsValley width laid u → (v.x ≤ u.x) ⊎ (u.x < v.x) → v.x ≤ u.x
     at u other (inl h) = h
     at u other (inr h) = let some = (other.flat).some in absurd (no_valley_before width laid v valley falls u other (u.x + u.width - 1) (omega arith) h)
@@ -85,11 +81,8 @@ one_leftmost_valley width laid v u one two = segment_path v u x widths levels
     cases (inr (inl h)) = absurd (not_wider width laid v u one.valley two.valley x levels h)
     cases (inr (inr h)) = absurd (not_wider width laid u v two.valley one.valley (sym x) (sym levels) h)
 
-    three : (a b : ℕ) → (a ≡ b) ⊎ (a < b) ⊎ (b < a)
-    three a b = grind arith
-
     widths : v.width ≡ u.width
-    widths = cases (three v.width u.width)
+    widths = cases (cases_order v.width u.width)
 
 not_done : (t : Tiling) (laid : List Square) → MovesFollow t laid [] → (v : Segment) → IsLeftmostValley t.width laid v → v.level < t.height → ⊥
 not_done t laid done v found h = let flat = (found.valley).flat in let within = flat.within in let some = flat.some in

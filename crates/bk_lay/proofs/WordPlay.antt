@@ -1,7 +1,8 @@
 -- The word of a tiling is legal and complete, and hangs as many squares as the tiling has.
 use Rattle.std.specs.List.{AllByRecursion}
-use Rattle.std.proofs.Common.{Bool, List, [], ap, arith, cond, count_by, false, inl, inr, length, map, refl, subst, sym, true, ℕ, ◌++◌, ◌+◌, ◌<◌}
+use Rattle.std.proofs.Common.{Bool, List, [], ap, arith, cond, count_by, inl, inr, length, map, refl, subst, sym, true, ℕ, ◌++◌, ◌+◌, ◌<◌}
 use Rattle.std.proofs.Common.{◌∙◌, ◌∷◌, ◌≡◌, ◌≤◌}
+use Rattle.std.proofs.lemmas.Bool.{false≢true}
 use Rattle.std.proofs.lemmas.Bool.Decides.{nat_tests}
 use Rattle.std.proofs.lemmas.List.{length-append}
 use Rattle.bk_laws.proofs.ZippedLists.{zip_length}
@@ -118,11 +119,8 @@ pub one_run : (t : Tiling) (laid : List Square) → ((c : ℕ) → c < t.width �
     → AllByRecursion (λ sign. parts sign ≡ true) (signs_between (map (λ v. v.level) runs)) → length runs ≡ 1
 one_run t laid full x h [] cut parted = absurd (omega (arith, cut))
 one_run t laid full x h (v ∷ []) cut parted = refl
-one_run t laid full x h (v ∷ u ∷ runs) cut parted = absurd (not_even (subst (λ (s : Sign). parts s ≡ true) even parted.0))
+one_run t laid full x h (v ∷ u ∷ runs) cut parted = absurd (false≢true (subst (λ (s : Sign). parts s ≡ true) even parted.0))
   where
-    not_even : false ≡ true → ⊥
-    not_even e = cc
-
     level_at : (r : Segment) → IsLevel t.width laid r → r.level ≡ t.height
     level_at r flat = let some = flat.some in let within = flat.within in sym (flat.level r.x (omega arith) (omega arith)) ∙ full r.x (omega arith)
 

@@ -1,6 +1,7 @@
 -- Every tiling has a word: there is a leftmost valley each time, and each time a square is laid.
 use Rattle.std.proofs.Common.{List, [], ap, arith, inl, inr, refl, subst, suc, sym, zero, ℕ, ◌++◌, ◌+◌, ◌-◌, ◌<◌, ◌∙◌, ◌∷◌, ◌≡◌, ◌≤◌, ◌⊎◌}
 use Rattle.std.proofs.lemmas.Bool.{cases_lt}
+use Rattle.bk_laws.proofs.NumberOrder.{le_or_gt}
 use Rattle.bk_tiling.proofs.Cells.{column_from, depth-append, depth_comes_from, depth_reaches, in_all}
 use Rattle.bk_tiling.proofs.TilingLaws.{wide_enough, within_of}
 use Rattle.bk_tiling.specs.Column.{IsLevel, depth}
@@ -115,11 +116,8 @@ total_grows laid more grows (suc c) = omega (arith, grows c, total_grows laid mo
 total_rises : (laid more : List Square) → ((c : ℕ) → depth laid c ≤ depth more c) → (d : ℕ) → depth laid d < depth more d → (c : ℕ) → d < c
     → total laid c < total more c
 total_rises laid more grows d rise zero h = absurd (omega arith)
-total_rises laid more grows d rise (suc c) h = cases (two c) (total_rises laid more grows d rise c)
+total_rises laid more grows d rise (suc c) h = cases (cases_lt d c) (total_rises laid more grows d rise c)
   where
-    two : (c : ℕ) → (d < c) ⊎ (c ≤ d)
-    two c = grind arith
-
     cases : (d < c) ⊎ (c ≤ d) → (d < c → total laid c < total more c) → depth laid c + total laid c < depth more c + total more c
     cases (inl k) rest = omega (arith, grows c, rest k)
     cases (inr k) rest = let e : c ≡ d = omega arith in let a : depth laid c ≡ depth laid d = ap (depth laid) e in
@@ -127,11 +125,8 @@ total_rises laid more grows d rise (suc c) h = cases (two c) (total_rises laid m
 
 module _ (t : Tiling) (tiling : IsTiling t) where
   most : (laid : List Square) → FillsFromTop t laid → (c : ℕ) → depth laid c ≤ t.height
-  most laid fills c = cases (two (depth laid c) t.height)
+  most laid fills c = cases (le_or_gt (depth laid c) t.height)
     where
-      two : (a b : ℕ) → (a ≤ b) ⊎ (b < a)
-      two a b = grind arith
-
       cases : (depth laid c ≤ t.height) ⊎ (t.height < depth laid c) → depth laid c ≤ t.height
       cases (inl h) = h
       cases (inr h) = let p = depth_comes_from laid c t.height h in
@@ -140,13 +135,10 @@ module _ (t : Tiling) (tiling : IsTiling t) where
   -- the leftmost valley lies at the height only where all columns do
   pub all_full : (laid : List Square) → FillsFromTop t laid → (v : Segment) → IsLeftmostValley t.width laid v → t.height ≤ v.level → (c : ℕ)
       → c < t.width → depth laid c ≡ t.height
-  all_full laid fills v found high c wide = same (v.level) (flat.level c (begins v.x refl) (ends (two (v.x + v.width) t.width)))
+  all_full laid fills v found high c wide = same (v.level) (flat.level c (begins v.x refl) (ends (le_or_gt t.width (v.x + v.width))))
     where
       flat : IsLevel t.width laid v
       flat = (found.valley).flat
-
-      two : (a b : ℕ) → (b ≤ a) ⊎ (a < b)
-      two a b = grind arith
 
       begins : (x : ℕ) → v.x ≡ x → v.x ≤ c
       begins zero e = omega arith

@@ -4,7 +4,7 @@
 -- left: 1e.
 use Rattle.std.specs.List.{AllByRecursion}
 use Rattle.std.specs.Prelude.{[], count_by, length, replicate, slice_index_or, ℕ, ◌*◌, ◌++◌, ◌+◌, ◌<◌, ◌∷◌, ◌≡◌, ◌≤◌}
-use Rattle.bk_word.specs.Outline.{Outline, has_left_wall, has_right_wall, open_side}
+use Rattle.bk_word.specs.Outline.{Outline, open_sides}
 use Rattle.bk_word.specs.Play.{IsLegal, outline_of}
 use Rattle.bk_word.specs.Signs.{is_even}
 use Rattle.bk_word.specs.Word.{Move, Word, order_of}
@@ -53,7 +53,7 @@ AllUnderAtRightIsNormalBarren = (n most : ℕ) (front : Word) → AreAllUnder n 
 abbrev pub even_square : Outline → Move
 even_square o = record {
   count = 1;
-  signs = replicate (open_side (has_left_wall o) + open_side (has_right_wall o)) Even;
+  signs = replicate (open_sides o) Even;
 }
 
 -- moves after which one square is left are normal barren if they are with the even square played

@@ -54,8 +54,8 @@ module _ (catalogue : Catalogue) (cursor : Word) (entries more : List Entry) (a 
       cases (inr each) = inr (each, follows_last cursor entries e.word h each)
 
   -- the first entries after a cursor, and the first ones after these, are together the first ones after the cursor
-  pub both : AreFirst catalogue cursor (entries ++ more)
-  both = record {
+  pub first_of_both_parts : AreFirst catalogue cursor (entries ++ more)
+  first_of_both_parts = record {
     each = all_append (IsEntry catalogue.order catalogue.class) entries more a.each b.each;
     after = all_append (λ e. Follows e.word cursor) entries more a.after
         (all-weaken (λ e. Follows e.word (cursor_after cursor entries)) (λ e. Follows e.word cursor)
@@ -107,4 +107,5 @@ module _ (catalogue : Catalogue) (cursor : Word) (entries more : List Entry) (a 
 
 -- a listing from where another one stopped goes on with it
 pub a_listing_goes_on : AListingGoesOn
-a_listing_goes_on catalogue cursor entries more ending a b e = (both catalogue cursor entries more a b, ends_both catalogue cursor entries more a b ending e)
+a_listing_goes_on catalogue cursor entries more ending a b e =
+    (first_of_both_parts catalogue cursor entries more a b, ends_both catalogue cursor entries more a b ending e)

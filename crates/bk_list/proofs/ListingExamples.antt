@@ -9,7 +9,7 @@ use Rattle.bk_report.specs.declared.listing_lines.Last.TheVariants.{End, Limit}
 use Rattle.bk_list.proofs.WholeListing.{a_whole_listing_is_the_catalogue}
 use Rattle.bk_list.specs.Listing.{AreFirst, Catalogue, IsListing, Listing}
 use Rattle.bk_list.specs.ListingLaws.{WritesCatalogue, all_after}
-use Rattle.bk_list.specs.Walked.{listing_of}
+use Rattle.bk_list.specs.ListedMembers.{listing_of}
 use Rattle.bk_list.specs.Writing.{BeginsListing, HasEntries, StandsBehind, WritesListing}
 
 -- the catalogue of order 2 and a class

@@ -14,14 +14,14 @@ use Rattle.bk_word.specs.declared.Class.{Class}
 use Rattle.bk_catalogue.proofs.TreeOfWords.WordCounts.{few_entries}
 use Rattle.bk_catalogue.specs.Catalogue.{Entry}
 use Rattle.bk_catalogue.specs.Following.{HasNoneAfter}
-use Rattle.bk_members.specs.Walking.{IsNextMember, WalkState}
+use Rattle.bk_members.specs.NextMember.{IsNextMember, MembersState}
 use Rattle.bk_report.specs.Listings.{last_line}
 use Rattle.bk_report.specs.declared.listing_lines.Last.{Last}
 use Rattle.bk_report.specs.declared.listing_lines.Last.TheVariants.{End, Limit, Wide}
 use Rattle.bk_list.proofs.Taking.{all_there, first_more, first_none, last_word}
 use Rattle.bk_list.specs.Listing.{AreFirst, Catalogue, EndsBy, IsBelowLimit, IsListing, Listing, line_of}
 use Rattle.bk_list.specs.ListingLaws.{cursor_after}
-use Rattle.bk_list.specs.Walked.{catalogue_of}
+use Rattle.bk_list.specs.ListedMembers.{catalogue_of}
 use Rattle.bk_list.specs.Writing.{BeginsListing, HasEntries, IsNext, IsNextBegun, WritesListing}
 
 -- the word of a next member has a move
@@ -29,15 +29,15 @@ pub word_has_a_move : (n : ℕ) (class : Class) (cursor : Word) (e : Entry) → 
 word_has_a_move n class cursor e next = ((tiling_word_is_complete e.tiling e.word ((next.is).member).tiling (next.is).word).0).some
 
 -- members of one order and one class are of one catalogue
-pub same_catalogue : (m w : WalkState) → m.order ≡ w.order → m.class ≡ w.class → catalogue_of m ≡ catalogue_of w
+pub same_catalogue : (m w : MembersState) → m.order ≡ w.order → m.class ≡ w.class → catalogue_of m ≡ catalogue_of w
 same_catalogue m w e f = λ i. record { order = e i; class = f i }
 
 -- members of a catalogue that go on after a cursor
-abbrev pub members_after : Catalogue → Word → WalkState
+abbrev pub members_after : Catalogue → Word → MembersState
 members_after k cursor = record { order = k.order; class = k.class; cursor = cursor; ended = false; pushes = 0 }
 
 -- the next entry, by other names of the catalogue and of what came
-pub next_of_same : (here then : WalkState) (catalogue : Catalogue) (b c : Option (List ℕ)) (x next : Bool) → catalogue_of here ≡ catalogue → x ≡ next
+pub next_of_same : (here then : MembersState) (catalogue : Catalogue) (b c : Option (List ℕ)) (x next : Bool) → catalogue_of here ≡ catalogue → x ≡ next
     → IsNext here then b c x → IsNext (members_after catalogue here.cursor) (members_after catalogue then.cursor) b c next
 next_of_same here then catalogue b c x true e f h =
     subst (λ (k : Catalogue). IsNext (members_after k here.cursor) (members_after k then.cursor) b c true) e (subst (IsNext here then b c) f h)
@@ -45,7 +45,7 @@ next_of_same here then catalogue b c x false e f h =
     subst (λ (k : Catalogue). IsNext (members_after k here.cursor) (members_after k then.cursor) b c false) e (subst (IsNext here then b c) f h)
 
 -- a write that failed for the next member of a catalogue failed for that of an equal one
-pub begun_of_same : (here then : WalkState) (catalogue : Catalogue) (b c : Option (List ℕ)) → catalogue_of here ≡ catalogue
+pub begun_of_same : (here then : MembersState) (catalogue : Catalogue) (b c : Option (List ℕ)) → catalogue_of here ≡ catalogue
     → IsNextBegun here then b c → IsNextBegun (members_after catalogue here.cursor) (members_after catalogue then.cursor) b c
 begun_of_same here then catalogue b c e h =
     subst (λ (k : Catalogue). IsNextBegun (members_after k here.cursor) (members_after k then.cursor) b c) e h

@@ -7,7 +7,7 @@ use Rattle.bk_word.specs.Word.{Follows, Word, word_cmp}
 use Rattle.bk_word.proofs.FollowLaws.{greater_follows}
 use Rattle.bk_catalogue.proofs.TreeOfWords.Places.{word_same}
 use Rattle.bk_catalogue.specs.Catalogue.{Entry, IsEntry}
-use Rattle.bk_list.proofs.Continuing.{both, first_or_later}
+use Rattle.bk_list.proofs.Continuing.{first_of_both_parts, first_or_later}
 use Rattle.bk_catalogue.proofs.Members.OneEntry.{one_entry}
 use Rattle.bk_list.specs.Listing.{AreFirst, Catalogue, HasAll}
 use Rattle.bk_list.specs.ListingLaws.{cursor_after}
@@ -44,7 +44,7 @@ pub first_more : (catalogue : Catalogue) (cursor : Word) (entries : List Entry) 
     catalogue.class e
     → Follows e.word (cursor_after cursor entries) → HasNoneBetween catalogue.order catalogue.class (cursor_after cursor entries) e.word → AreFirst catalogue
     cursor (entries ++ e ∷ [])
-first_more catalogue cursor entries e first is after least = both catalogue cursor entries (e ∷ []) first
+first_more catalogue cursor entries e first is after least = first_of_both_parts catalogue cursor entries (e ∷ []) first
     (first_one catalogue (cursor_after cursor entries) e is after least)
 
 -- where no member comes after the last one, all are there

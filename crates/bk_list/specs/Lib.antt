@@ -4,5 +4,5 @@ pub mod ListingLaws
 pub mod Resuming
 pub mod Stepping
 pub mod StoppedListing
-pub mod Walked
+pub mod ListedMembers
 pub mod Writing

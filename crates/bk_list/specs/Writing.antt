@@ -11,7 +11,7 @@ use Rattle.bk_report.specs.declared.listing_lines.Last.{Last}
 use Rattle.bk_list.specs.Listing.{AreFirst, EndsBy, IsBelowLimit, IsListing, Listing, line_of}
 use Rattle.bk_list.specs.ListingLaws.{cursor_after}
 use Rattle.bk_catalogue.specs.Following.{HasNoneAfter}
-use Rattle.bk_members.specs.Walking.{IsNextMember, WalkState}
+use Rattle.bk_members.specs.NextMember.{IsNextMember, MembersState}
 
 -- a listing that ends so was written, and nothing else
 pub record WritesListing (l : Listing) (last : Last) (written written_after : Option (List ℕ)) : Type 0 where
@@ -42,14 +42,14 @@ pub record StandsBehind (l : Listing) (last : Last) (reached : Word) : Type 0 wh
 
 -- whether there was a member after the cursor. Then the least one was listed, and its word is where the members are
 -- then; else nothing was written, and they stay
-abbrev pub IsNext : WalkState → WalkState → Option (List ℕ) → Option (List ℕ) → Bool → Type 0
+abbrev pub IsNext : MembersState → MembersState → Option (List ℕ) → Option (List ℕ) → Bool → Type 0
 IsNext from then written written_after true = (e : Entry) × IsNextMember from.order from.class from.cursor e
     × (then.cursor ≡ e.word) × Appends written written_after (line_of e)
 IsNext from then written written_after false =
     HasNoneAfter from.order from.class from.cursor × (then.cursor ≡ from.cursor) × (written_after ≡ written)
 
 -- the write of the next entry failed
-abbrev pub IsNextBegun : WalkState → WalkState → Option (List ℕ) → Option (List ℕ) → Type 0
+abbrev pub IsNextBegun : MembersState → MembersState → Option (List ℕ) → Option (List ℕ) → Type 0
 IsNextBegun from then written written_after = (e : Entry) × IsNextMember from.order from.class from.cursor e
     × (then.cursor ≡ e.word) × AppendsPrefix written written_after (line_of e)
 

@@ -5,7 +5,7 @@ ghost use Rattle.bk_ports.specs.Causes.{HasCause};
 ghost use Rattle.bk_catalogue.specs.Tree.{IsAtMostTree};
 ghost use Rattle.bk_word.specs.declared.TheConstants.{LARGEST_LISTED_ORDER};
 ghost use Rattle.bk_list.specs.Stepping.{AreNextSteps, IsReached, StoppedAtEntry};
-ghost use Rattle.bk_list.specs.Walked.{catalogue_of, listing_of};
+ghost use Rattle.bk_list.specs.ListedMembers.{catalogue_of, listing_of};
 ghost use Rattle.bk_list.specs.Writing.{BeginsListing, HasEntries, IsNext, IsNextBegun};
 
 use bk_grammar::AnswerBuffer;

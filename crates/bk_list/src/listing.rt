@@ -4,7 +4,7 @@ ghost use Rattle.std.specs.Prelude.{IfOk, OnErr, ◌-◌, ◌≡◌, ◌≤◌};
 ghost use Rattle.bk_ports.specs.Causes.{HasCause};
 ghost use Rattle.bk_word.specs.declared.TheConstants.{LARGEST_LISTED_ORDER};
 ghost use Rattle.bk_list.specs.Stepping.{TakesSteps, TookSteps};
-ghost use Rattle.bk_list.specs.Walked.{catalogue_of, listing_of};
+ghost use Rattle.bk_list.specs.ListedMembers.{catalogue_of, listing_of};
 ghost use Rattle.bk_list.specs.Writing.{BeginsListing, StandsBehind, WritesListing};
 
 use crate::entries::{EntryRoom, write_entries};

@@ -1,2 +1,2 @@
 -- Members worked by hand.
-pub mod WalkExamples
+pub mod NextMemberExamples

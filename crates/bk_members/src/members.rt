@@ -6,7 +6,7 @@ ghost use Rattle.bk_word.specs.Word.{order_of};
 ghost use Rattle.bk_word.specs.declared.TheConstants.{LARGEST_LISTED_ORDER, LEAST_LISTED_ORDER};
 ghost use Rattle.bk_catalogue.specs.Following.{HasNoneAfter, start_cursor};
 ghost use Rattle.bk_catalogue.specs.Tree.{IsAtMostTree, PushesGrow};
-ghost use Rattle.bk_members.specs.Walking.{IsNextMember, WalkState};
+ghost use Rattle.bk_members.specs.NextMember.{IsNextMember, MembersState};
 
 use bk_code::Code;
 use bk_play::Steps;
@@ -52,7 +52,7 @@ pub struct WideAt {
 pub trait Members: Drop {
     /// What is seen of the members: the order, the class, the cursor (the word after which they go on), whether they
     /// have ended, and how many moves were pushed.
-    ghost at: { Self → WalkState };
+    ghost at: { Self → MembersState };
 
     /// The members after the given word, or after the word of no moves. The order is 2 to 16, and that of the word at
     /// most 16; the word need not be legal, complete or of the catalogue's order.

@@ -5,7 +5,7 @@ use Rattle.std.proofs.Common.{Bool, List, [], ap, arith, cond, drop, false, get_
 use Rattle.std.proofs.Common.{◌<◌, ◌∙◌, ◌∷◌, ◌≡◌, ◌≤◌}
 use mathlib.Core.Bool.{true≢false}
 use Rattle.std.proofs.lemmas.List.{append-nil, append_assoc, drop_more, length-append, length-take-le, map-append, take-append-drop, take_more}
-use Rattle.bk_tiling.proofs.GroupCount.{groups_some}
+use Rattle.bk_tiling.proofs.GroupCount.{square_groups-some}
 use Rattle.bk_tiling.specs.CodeOrder.{begins_group, stands_beside}
 use Rattle.bk_tiling.specs.SquareGroups.{square_groups}
 use Rattle.bk_tiling.specs.declared.Square.{Square}
@@ -49,7 +49,7 @@ groups_next (p ∷ []) q rest = cases (stands_beside p q)
 groups_next (p ∷ r ∷ squares) q rest =
     ap (before (stands_beside p r) p) (groups_next (r ∷ squares) q rest)
     ∙ sym (before_next (stands_beside p r) (begins_group (r ∷ squares ++ q ∷ rest) (length (r ∷ squares))) p q (square_groups (r ∷ squares))
-    (groups_some r squares))
+    (square_groups-some r squares))
 
 -- the square at a place, after those before it
 pub square_groups_with_one_square_more : (squares : List Square) (i : ℕ) (d : Square) → i < length squares
@@ -152,7 +152,7 @@ pub record AreGroups (squares : List Square) (levels nodes : List ℕ) (groups :
 pub groups_before : (squares : List Square) (i : ℕ) → i < length squares → begins_group squares i ≡ false → 0 < length (square_groups (take i squares))
 groups_before squares zero within e = absurd (true≢false e)
 groups_before [] (suc i) within e = absurd (omega arith)
-groups_before (q ∷ squares) (suc i) within e = groups_some q (take i squares)
+groups_before (q ∷ squares) (suc i) within e = square_groups-some q (take i squares)
 
 -- from the groups of some squares to those of one square more
 pub more_squares : (squares : List Square) (i : ℕ) (d : Square) (levels nodes : List ℕ) (groups : ℕ) (b : Bool) → i < length squares
@@ -182,7 +182,7 @@ more_squares squares i d levels nodes groups b within begins are = record {
 pub groups_few : (squares : List Square) → length (square_groups squares) ≤ length squares
 groups_few [] = omega arith
 groups_few (q ∷ []) = omega arith
-groups_few (q ∷ r ∷ squares) = put (stands_beside q r) (square_groups (r ∷ squares)) (groups_few (r ∷ squares)) (groups_some r squares)
+groups_few (q ∷ r ∷ squares) = put (stands_beside q r) (square_groups (r ∷ squares)) (groups_few (r ∷ squares)) (square_groups-some r squares)
   where
     put : (b : Bool) (groups : List (List Square)) → length groups ≤ length (r ∷ squares) → 0 < length groups
         → length (before b q groups) ≤ length (q ∷ r ∷ squares)

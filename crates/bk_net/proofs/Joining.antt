@@ -2,7 +2,7 @@
 use Rattle.std.specs.Prelude.{List, slice_index, slice_index_or}
 use Rattle.std.proofs.Common.{Bool, ap, arith, cond, false, inl, inr, length, nat_eq, refl, subst, sym, true, ℕ, ◌+◌, ◌-◌, ◌<◌, ◌∙◌}
 use Rattle.std.proofs.Common.{◌≡◌, ◌≢◌, ◌≤◌, ◌⊎◌}
-use Rattle.std.proofs.lemmas.Bool.{cases_lt}
+use Rattle.std.proofs.lemmas.Bool.{cases_lt, eqb-true}
 use Rattle.std.proofs.lemmas.Bool.Decides.{nat_tests}
 use Rattle.bk_laws.proofs.HasAtLaws.{has_at-below, has_at-read, has_at-within}
 use Rattle.bk_laws.proofs.ListItems.{slice_index_or-any_default}
@@ -45,11 +45,8 @@ module _ (nodes : ℕ) (wires : List (ℕ × ℕ)) (before after : List ℕ) (do
       cases : (b : Bool) → nat_eq (slice_index before v) (slice_index before w.0) ≡ b
           → IsJoined wires v (cond b (slice_index before w.1) (slice_index before v))
       cases false e = are.joined v h
-      cases true e = joined_on wires (subst (IsJoined wires v) (equal (slice_index before v) (slice_index before w.0) e) (are.joined v h))
+      cases true e = joined_on wires (subst (IsJoined wires v) (eqb-true (slice_index before v) (slice_index before w.0) e) (are.joined v h))
           (joined_on wires (joined_back wires (are.joined w.0 here_ends.0)) (along (done, below, at w) (are.joined w.1 here_ends.1)))
-        where
-          equal : (a b : ℕ) → nat_eq a b ≡ true → a ≡ b
-          equal a b e = grind (arith, nat_tests)
 
   new_closed : (k : ℕ) (v : ℕ × ℕ) → HasAt wires k v → k < done + 1 → slice_index after v.0 ≡ slice_index after v.1
   new_closed k v has h = cases (cases_lt k done)

@@ -3,6 +3,7 @@ use Rattle.std.specs.Char.{digit_value}
 use Rattle.std.specs.Prelude.{List, [], ℕ, ◌*◌, ◌+◌, ◌<◌, ◌∷◌, ◌≡◌, ◌≢◌, ◌⊎◌}
 use Rattle.std.proofs.Common.{ap, arith, inl, inr, refl, ◌∙◌}
 use Rattle.bk_laws.proofs.Digits.{digit_value-add_48}
+use Rattle.bk_laws.proofs.NumberOrder.{zero_or_positive}
 use Rattle.bk_net.specs.NetLine.{NodeNumber}
 
 -- digits that make the value v of a number that was begun to n
@@ -12,11 +13,8 @@ Goes_on v n (c ∷ ds) = (digit_value c < 10) × (0 < v) × (v < 100) × Goes_on
 
 -- a first digit and these digits are a node number
 pub number_of : (b n : ℕ) (ds : List ℕ) → digit_value b < 10 → Goes_on (digit_value b) n ds → NodeNumber n (b ∷ ds)
-number_of b n [] small h = cases (two (digit_value b))
+number_of b n [] small h = cases (zero_or_positive (digit_value b))
   where
-    two : (d : ℕ) → (d ≡ 0) ⊎ (0 < d)
-    two d = grind arith
-
     cases : (digit_value b ≡ 0) ⊎ (0 < digit_value b) → NodeNumber n (b ∷ [])
     cases (inl e) = let zero' : b ≡ 48 = omega (arith, digit_value-add_48 b small) in inl (ap (λ (c : ℕ). c ∷ []) zero', h ∙ e)
     cases (inr some) = inr ((omega arith, (small, tt)), omega arith, (λ e. omega (arith, digit_value-add_48 b small)), omega (arith, h))

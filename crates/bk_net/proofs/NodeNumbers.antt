@@ -4,7 +4,7 @@ use Rattle.std.specs.List.Sorted.{IsPartitionPoint}
 use Rattle.std.specs.Prelude.{slice_index}
 use Rattle.std.proofs.Common.{Bool, List, [], ap, arith, cond, count_by, false, inl, inr, length, nat_eq, slice_index_or, subst, sym}
 use Rattle.std.proofs.Common.{take, true, ℕ, ◌&&◌, ◌++◌, ◌+◌, ◌-◌, ◌<◌, ◌^◌, ◌∙◌, ◌∷◌, ◌≡◌, ◌≢◌, ◌≤◌, ◌⊎◌}
-use Rattle.std.proofs.lemmas.Bool.{both_ways, cases_Bool, cases_lt}
+use Rattle.std.proofs.lemmas.Bool.{both_ways, cases_Bool, cases_lt, eqb-true}
 use Rattle.std.proofs.lemmas.Bool.Decides.{nat_tests}
 use Rattle.std.proofs.lemmas.List.{take_more}
 use Rattle.bk_tiling.proofs.Cells.{covers_from, none_counted, one_counted, over_from}
@@ -149,11 +149,8 @@ module _ (t : Tiling) (tiling : IsTiling t) (q : Square) (one : IsOneOf q t.squa
                 ap (λ (b : Bool). cond {A = ℕ} b 1 0) e,
               ))
 
-          equal : (a b : ℕ) → nat_eq a b ≡ true → a ≡ b
-          equal a b e = grind (arith, nat_tests)
-
           number : slice_index (group_numbers t.squares) m ≡ node_below (square_groups t.squares) q
-          number = h.number ∙ omega (arith, equal (node_below (square_groups t.squares) q) h.place same_node)
+          number = h.number ∙ omega (arith, eqb-true (node_below (square_groups t.squares) q) h.place same_node)
 
 -- ---- the wires
 

@@ -6,6 +6,7 @@ use Rattle.std.proofs.Common.{true, zero, ℕ, ◌++◌, ◌+◌, ◌-◌, ◌<�
 use Rattle.std.proofs.lemmas.Bool.{cases_lt}
 use Rattle.std.proofs.lemmas.Bool.Decides.{nat_tests}
 use Rattle.std.proofs.lemmas.List.{length-append, length-map}
+use Rattle.bk_laws.proofs.NumberOrder.{lt_or_eq_or_gt}
 use Rattle.bk_tiling.proofs.Groups.{row_of}
 use Rattle.bk_tiling.proofs.Members.{one_at}
 use Rattle.bk_tiling.proofs.Places.{later_place}
@@ -129,11 +130,8 @@ no_later_from x y r a b = grind (arith, nat_tests)
 
 -- squares in the order of a code are parted at a cell
 pub parted_at_cell : (squares : List Square) → InCodeOrder squares → (x y : ℕ) → IsPartitionedBy (is_no_later x y) squares
-parted_at_cell squares o x y i j d up below e = cases (three i j)
+parted_at_cell squares o x y i j d up below e = cases (lt_or_eq_or_gt i j)
   where
-    three : (i j : ℕ) → (i < j) ⊎ (i ≡ j) ⊎ (j < i)
-    three i j = grind arith
-
     cases : (i < j) ⊎ (i ≡ j) ⊎ (j < i) → is_no_later x y (slice_index_or squares i d) ≡ true
     cases (inl l) = later_from x y (slice_index_or squares i d) (slice_index_or squares j d) (later_place squares o i j d l below) e
     cases (inr (inl same)) = ap (λ (k : ℕ). is_no_later x y (slice_index_or squares k d)) same ∙ e

@@ -1,6 +1,7 @@
 -- Numbers that are kept: one put behind them, and the upper half of those that ascend dropped.
 use Rattle.std.proofs.Common.{Contains, IsSome, IsSomeAnd, List, None, Option, Some, [], arith, drop, inl, inr, length, refl, slice_index, subst}
 use Rattle.std.proofs.Common.{suc, sym, take, zero, ℕ, ◌++◌, ◌/◌, ◌<◌, ◌∙◌, ◌∷◌, ◌≡◌, ◌≤◌, ◌⊎◌}
+use Rattle.std.proofs.lemmas.Bool.{cases_lt}
 use Rattle.std.proofs.lemmas.List.{take-append-drop}
 use Rattle.std.proofs.lemmas.List.Elements.{All-contains, All-from_recursion, Contains-append_cases, Contains-append_left}
 use Rattle.std.proofs.lemmas.List.Elements.{Contains-push, Contains-push_cases}
@@ -32,11 +33,8 @@ put_behind room t u x numbers table same below kept limit = record {
 }
   where
     under : (least : ℕ) → t.limit ≡ Some least → x < least
-    under least e = cases (two x least)
+    under least e = cases (cases_lt x least)
       where
-        two : (a b : ℕ) → (a < b) ⊎ (b ≤ a)
-        two a b = grind arith
-
         cases : (x < least) ⊎ (least ≤ x) → x < least
         cases (inl h) = h
         cases (inr h) = absurd (below (subst (λ l. IsSomeAnd l (λ b. b ≤ x)) (sym e) h))

@@ -19,8 +19,8 @@ abbrev pub move_at : Word → ℕ → Move
 move_at w i = slice_index_or w i (record { count = 0; signs = [] })
 
 -- a word has a move at each place before its end
-pub there : (w : Word) (i : ℕ) → i < length w → slice_get w i ≡ Some (move_at w i)
-there w i within = slice_get-get_or w i (record { count = 0; signs = [] }) within
+pub move_stands_at : (w : Word) (i : ℕ) → i < length w → slice_get w i ≡ Some (move_at w i)
+move_stands_at w i within = slice_get-get_or w i (record { count = 0; signs = [] }) within
 
 -- the move at a place of a word hangs a square, and its digits stand behind those of the moves before it
 pub record IsMoveAt (w : Word) (i : ℕ) : Type 0 where
@@ -39,12 +39,12 @@ move_is_at w i legal few within = record {
 }
   where
     here : slice_get w i ≡ Some (move_at w i)
-    here = there w i within
+    here = move_stands_at w i within
 
 -- the first moves of a word with one move more have as many digits more as that one
-pub longer : (w : Word) (i place signs : ℕ) → IsMoveAt w i → place ≡ length (word_digits (take i w)) → signs ≡ length (move_at w i).signs
+pub digits_with_one_move_more : (w : Word) (i place signs : ℕ) → IsMoveAt w i → place ≡ length (word_digits (take i w)) → signs ≡ length (move_at w i).signs
     → place + (2 + signs) ≡ length (word_digits (take (i + 1) w))
-longer w i place signs m e f = omega (
+digits_with_one_move_more w i place signs m e f = omega (
   arith,
   e,
   f,

@@ -8,6 +8,7 @@ use Rattle.std.specs.declared.cmp.Ordering.{Ordering}
 use Rattle.std.specs.declared.cmp.Ordering.TheVariants.{Equal, Greater, Less}
 use Rattle.std.proofs.Common.{List, [], ap, arith, inl, inr, length, length-append, map, refl, subst, suc, sym, zero, ℕ, ◌*◌, ◌++◌, ◌+◌, ◌-◌, ◌<◌, ◌^◌, ◌∙◌}
 use Rattle.std.proofs.Common.{◌∷◌, ◌≡◌, ◌≤◌, ◌⊎◌, ◌↔◌}
+use Rattle.std.proofs.lemmas.Bool.{cases_lt}
 use Rattle.std.proofs.lemmas.List.{length-map}
 use Rattle.bk_laws.proofs.AllOfLists.{all_append}
 use Rattle.bk_laws.proofs.NumberOrder.{lt_or_eq_or_gt}
@@ -201,11 +202,8 @@ packed_places_compare place w legal legal_w e few = (not_greater, no_less)
     alike : AreLessAlike (nat_cmp (packed w) (packed place)) (word_cmp w place)
     alike = places_compare start place w 64 legal legal_w e (omega (arith, few)) (low_counts 16 place (omega (arith, e, few))) (low_counts 16 w few)
 
-    two : (x y : ℕ) → (x < y) ⊎ (y ≤ x)
-    two x y = grind arith
-
     not_greater : (Follows place w → ⊥) → packed place ≤ packed w
-    not_greater f = cases (two (packed w) (packed place))
+    not_greater f = cases (cases_lt (packed w) (packed place))
       where
         cases : (packed w < packed place) ⊎ (packed place ≤ packed w) → packed place ≤ packed w
         cases (inl h) = absurd (f (alike.0 (sym (nat_cmp_is (packed w) (packed place) Less h))))

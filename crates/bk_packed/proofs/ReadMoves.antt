@@ -2,6 +2,7 @@
 use Rattle.std.proofs.Common.{List, [], ap, arith, drop, inl, inr, length, length-append, map, refl}
 use Rattle.std.proofs.Common.{slice_index, subst, suc, sym}
 use Rattle.std.proofs.Common.{take, zero, ℕ, ◌++◌, ◌+◌, ◌-◌, ◌<◌, ◌∙◌, ◌∷◌, ◌≡◌, ◌≤◌, ◌⊎◌}
+use Rattle.std.proofs.lemmas.Bool.{cases_lt}
 use Rattle.std.proofs.lemmas.List.{get_or-append-add, get_or_append_left, length-map, take-append-drop}
 use Rattle.bk_word.specs.Outline.{IsLegalMove, Outline, start}
 use Rattle.bk_word.specs.Play.{AreLegalFrom, IsLegal, after_move, outline_of}
@@ -27,11 +28,8 @@ has_behind number place ds es has k low =
 
 -- a number with the digits of one list and of another behind it has those of both together
 pub has_both : (number place : ℕ) (ds es : List ℕ) → HasDigits number place ds → HasDigits number (place + length ds) es → HasDigits number place (ds ++ es)
-has_both number place ds es front behind k low = cases (two k (length ds))
+has_both number place ds es front behind k low = cases (cases_lt k (length ds))
   where
-    two : (a b : ℕ) → (a < b) ⊎ (b ≤ a)
-    two a b = grind arith
-
     cases : (k < length ds) ⊎ (length ds ≤ k) → digit_at number (place + k) ≡ slice_index (ds ++ es) k
     cases (inl h) = front k h ∙ sym (get_or_append_left ds es 0 k h)
     cases (inr h) =
@@ -104,9 +102,9 @@ front_legal : (v : Word) (i : ℕ) → IsLegal v → IsLegal (take i v)
 front_legal v i legal = legal_front start (take i v) (drop i v) (subst IsLegal (sym (take-append-drop i v)) legal)
 
 -- how far two words are alike, and no further
-pub shared : (v w : Word) (i : ℕ) → IsLegal v → IsLegal w → order_of v ≤ order_of w → order_of w ≤ 16
+pub alike_up_to_place : (v w : Word) (i : ℕ) → IsLegal v → IsLegal w → order_of v ≤ order_of w → order_of w ≤ 16
     → HasDigits (packed w) 0 (word_digits (take i v)) → (i < length v → HasDigits (packed w) 0 (word_digits (take (i + 1) v)) → ⊥) → IsSharedFront v w i
-shared v w i legal legal_w e few has not = record { rest = begun.0; is = begun.1; most = λ low more is. not low (other low more is) }
+alike_up_to_place v w i legal legal_w e few has not = record { rest = begun.0; is = begun.1; most = λ low more is. not low (other low more is) }
   where
     begun : (rest : Word) × (w ≡ take i v ++ rest)
     begun = begins_with (packed w) 0 start (take i v) w (front_legal v i legal) legal_w

@@ -88,7 +88,7 @@ digits_next (k ∷ w) (suc i) m is =
     ap (λ j. word_digits (take j (k ∷ w))) e ∙ ap (λ z. move_digits k ++ z) (digits_next w i m is)
     ∙ sym (append_assoc (move_digits k) (word_digits (take i w)) (move_digits m))
 
--- there is room for them
+-- the digits of a word's first moves, and of the next one, are no more than those of the word
 pub digits_room : (w : Word) (i : ℕ) (m : Move) → slice_get w i ≡ Some m → length (word_digits (take i w)) + length m.signs + 2 ≤ length (word_digits w)
 digits_room [] i m is = absurd (cc)
 digits_room (k ∷ w) zero m is = let e : k ≡ m = cc in omega (

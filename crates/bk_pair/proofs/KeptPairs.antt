@@ -1,8 +1,7 @@
 -- Two kept tilings: whether they can be laid together, and whether they join.
 use Rattle.std.specs.Prelude.{Bool, count_by, false, max, nat_le, not, true}
 use Rattle.std.proofs.Common.{List, ap, arith, inl, inr, length, sym, ℕ, ◌&&◌, ◌+◌, ◌<◌, ◌==◌, ◌∙◌, ◌≡◌, ◌≢◌, ◌≤◌, ◌⊎◌, ◌↔◌}
-use Rattle.std.proofs.lemmas.Bool.{and_parts, cases_Bool, true≢false}
-use Rattle.std.proofs.lemmas.Bool.Decides.{nat_tests}
+use Rattle.std.proofs.lemmas.Bool.{and_parts, cases_Bool, le-leb, leb-true, true≢false}
 use Rattle.bk_laws.proofs.Truth.{false-of_refuted, same_test-of_implications}
 use Rattle.bk_tiling.proofs.OrderLaws.{in_code_order-count, in_code_order-length}
 use Rattle.bk_tiling.specs.Tiling.{Tiling, order}
@@ -44,16 +43,10 @@ module _ (a b : Tiling) (width height : ℕ) (squares : List Square) (width' hei
         size = record { width = sym one.width_is ∙ wide ∙ other.width_is; height = sym one.height_is ∙ high ∙ other.height_is };
         oblong = λ same. oblong (one.width_is ∙ same ∙ sym one.height_is);
         few = omega (arith, few, one.many, other.many);
-        wide = omega (arith, below m e, is, one.width_is);
-        high = omega (arith, below m e, is, one.height_is);
+        wide = omega (arith, leb-true m 999_999_999_999_999 e, is, one.width_is);
+        high = omega (arith, leb-true m 999_999_999_999_999 e, is, one.height_is);
       }))
-      (λ e. let can = laid_to a b e in passes m (omega (arith, is, can.wide, can.high, one.width_is, one.height_is)))
-    where
-      below : (m : ℕ) → nat_le m 999_999_999_999_999 ≡ true → m ≤ 999_999_999_999_999
-      below m e = grind (arith, nat_tests)
-
-      passes : (m : ℕ) → m ≤ 999_999_999_999_999 → nat_le m 999_999_999_999_999 ≡ true
-      passes m h = grind (arith, nat_tests)
+      (λ e. let can = laid_to a b e in le-leb m 999_999_999_999_999 (omega (arith, is, can.wide, can.high, one.width_is, one.height_is)))
 
   common_to : HaveCommonSide squares squares' → HaveCommonSide a.squares b.squares
   common_to c = record { side = c.side; in_first = omega (arith, c.in_first, one.counts c.side); in_second = omega (arith, c.in_second, other.counts c.side) }

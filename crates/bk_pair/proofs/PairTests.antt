@@ -2,8 +2,7 @@
 use Rattle.std.specs.List.{list_any}
 use Rattle.std.specs.Prelude.{Bool, cond, count_by, false, nat_eq, nat_le, not, true}
 use Rattle.std.proofs.Common.{List, [], ap, arith, inl, inr, refl, sym, ℕ, ◌&&◌, ◌+◌, ◌==◌, ◌∙◌, ◌∷◌, ◌≡◌, ◌≤◌}
-use Rattle.std.proofs.lemmas.Bool.{and_from, and_parts, cases_Bool, eq-eqb, eqb-true, true≢false}
-use Rattle.std.proofs.lemmas.Bool.Decides.{nat_tests}
+use Rattle.std.proofs.lemmas.Bool.{and_from, and_parts, cases_Bool, eq-eqb, eqb-true, le-leb, leb-true, true≢false}
 use Rattle.std.proofs.lemmas.List.Sums.{sum_by-cons}
 use Rattle.bk_laws.proofs.Counts.{count_by-list_any, count_by-no_list_any}
 use Rattle.bk_tiling.specs.Tiling.{Tiling, order}
@@ -59,13 +58,10 @@ laid_to a b e =
     record {
       size = record { width = eqb-true a.width b.width size.0; height = eqb-true a.height b.height size.1 };
       oblong = λ same. true≢false (sym q.0 ∙ ap not (eq-eqb a.width a.height same));
-      few = le_of (order a + order b + 2) 200 r.0;
-      wide = le_of a.width 999999999999999 s.0;
-      high = le_of a.height 999999999999999 s.1;
+      few = leb-true (order a + order b + 2) 200 r.0;
+      wide = leb-true a.width 999999999999999 s.0;
+      high = leb-true a.height 999999999999999 s.1;
     }
-  where
-    le_of : (m n : ℕ) → nat_le m n ≡ true → m ≤ n
-    le_of m n e = grind (arith, nat_tests)
 
 -- tilings that can be laid together pass the test for it
 pub laid_from : (a b : Tiling) → CanBeLaid a b → can_be_laid a b ≡ true
@@ -73,15 +69,12 @@ laid_from a b can =
     and_from (nat_eq a.width b.width && nat_eq a.height b.height) _ (and_from (nat_eq a.width b.width) (nat_eq a.height b.height)
     (eq-eqb a.width b.width can.size.width) (eq-eqb a.height b.height can.size.height))
     (and_from (not (nat_eq a.width a.height)) _ (unequal a.width a.height can.oblong)
-    (and_from (nat_le (order a + order b + 2) 200) _ (le_test (order a + order b + 2) 200 can.few)
-    (and_from (nat_le a.width 999999999999999) (nat_le a.height 999999999999999) (le_test a.width 999999999999999 can.wide)
-    (le_test a.height 999999999999999 can.high))))
+    (and_from (nat_le (order a + order b + 2) 200) _ (le-leb (order a + order b + 2) 200 can.few)
+    (and_from (nat_le a.width 999999999999999) (nat_le a.height 999999999999999) (le-leb a.width 999999999999999 can.wide)
+    (le-leb a.height 999999999999999 can.high))))
   where
     unequal : (m n : ℕ) → (m ≡ n → ⊥) → not (nat_eq m n) ≡ true
     unequal m n apart = elim (cases_Bool (nat_eq m n)) [ inl t ↦ absurd (apart (eqb-true m n t)) | inr f ↦ ap not f ]
-
-    le_test : (m n : ℕ) → m ≤ n → nat_le m n ≡ true
-    le_test m n h = grind (arith, nat_tests)
 
 -- what passes the test is a pair
 pub pair_to : (a b : Tiling) → are_pair a b ≡ true → ArePair a b

@@ -7,7 +7,6 @@ use Rattle.bk_laws.proofs.Counts.{count_one, count_two}
 use Rattle.bk_laws.proofs.NumberOrder.{lt_add_one-less_or_same}
 use Rattle.bk_simple.proofs.Repeats.{IsTwice, twice_from_count}
 use Rattle.bk_tiling.proofs.OrderLaws.{in_code_order-count}
-use Rattle.bk_tiling.specs.Tiling.{Tiling}
 use Rattle.bk_tiling.specs.declared.Square.{Square}
 use Rattle.bk_pair.proofs.OwnSides.{count_own, here_cases, is_here, side_count}
 use Rattle.bk_pair.proofs.PairTests.{apart_from_counts, once_each}
@@ -59,9 +58,6 @@ none_so_far_with_one_square_more width height squares n so wide high step = reco
 }
 
 module _ (width height : ℕ) (squares : List Square) where
-  t : Tiling
-  t = tiling_of width height squares
-
   counted : (side : ℕ) → count_by (λ s. s == side) (own_sides (tiling_of width height squares))
       ≡ side_count side squares + (is_here side width + is_here side height)
   counted side = omega (arith, count_own (tiling_of width height squares) side, in_code_order-count (λ q. q.s == side) squares)

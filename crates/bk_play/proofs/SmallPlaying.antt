@@ -34,7 +34,7 @@ played_lists {lists = lists} {noted = noted} p own e f g h j k = λ i. record {
   played = k i;
 }
 
--- the lists store few squares, with the move too
+-- lists that store few squares still do so after a legal move
 pub small_played : {w : Word} {m : Move} {lists : SkeletonLists} {noted : MoveRecord} {new : SkeletonLists} {place first new_place new_first : ℕ}
     → IsStoredSmall w lists place first → Playing 16 w m lists noted → new ≡ skeleton_lists_after_a_move lists m noted
     → StandsAt new.sizes new.signs new_place new_first → IsStoredSmall (moves_stored new.records new.played) new new_place new_first

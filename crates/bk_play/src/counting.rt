@@ -23,7 +23,8 @@ impl<L: Ledger> Model for Steps<L> {
 }
 
 impl<L: Ledger> Steps<L> {
-    /// A counter at no steps, over a new ledger of at least one part.
+    /// A counter at no steps, over a new ledger: `blank`, which must bear the name and the parts of `L`, of which there
+    /// must be at least one.
     pub fn new(blank: Blank) -> Steps<L>
         requires name { blank.name ≡ L.name }
         requires parts { blank.parts ≡ L.parts }

@@ -334,7 +334,7 @@ impl Skel {
     }
 }
 
-/// How many signs a side of a valley asks for: none at a wall, else one.
+/// How many signs a side of a valley asks for: none where `wall` says that it is a wall, else one.
 pub fn open_side(wall: bool) -> usize
     ensures { result ≡ open_side wall }
 {

@@ -215,13 +215,6 @@ impl SmallSkel {
         (place == 0, place == self.open.signs.len())
     }
 
-    /// How many squares the leftmost valley has: none at the start.
-    pub fn valley_len(&self) -> usize
-        ensures { result ≡ length (valley_of (outline_of self.now)) }
-    {
-        usize::from(self.open.sizes.as_slice()[usize::from(self.open.place)])
-    }
-
     /// The numbers of the open squares, segment by segment from left to right. Squares are numbered from 1 in the order
     /// of hanging.
     pub fn ends(&self) -> &[u8]

@@ -57,7 +57,8 @@ pub(crate) fn splice<T: Copy + Default + Drop, const N: usize>(
     list[start..start + items.len()].copy_from_slice(items);
 }
 
-/// Puts so many numbers, from a first one on, in the place of the items from one place up to another.
+/// Puts `count` numbers, ascending by 1 from `first`, in the place of the items of `list` from place `start`, counted
+/// from 0, up to the one before `end`. The list must have room for what it has then, and no number may be above 254.
 pub fn splice_numbers<const N: usize>(
     list: &mut ArrayVec<u8, N>,
     start: usize,

@@ -1,9 +1,9 @@
 -- A block of bytes, of which some lines are entered.
 use Rattle.std.proofs.Common.{◌≡◌, ℕ, ◌+◌, Bool, ◌||◌, List, [], ◌∷◌, ◌++◌, length, take, drop, Option, Some, None, sym, ap, ◌∙◌}
 use Rattle.std.proofs.Common.{subst, arith}
+use Rattle.std.proofs.lemmas.Bool.{false_from_ne_true}
 use Rattle.std.proofs.lemmas.List.{append_assoc, append-nil, length-append}
 use Rattle.memchr.specs.Find.{IsFirstByte, is_byte}
-use Rattle.bk_laws.proofs.Truth.{false-of_not_true}
 use Rattle.bk_ports.specs.Lines.{closed_lines, open_line}
 use Rattle.bk_ports.specs.Entering.{AreAllEntered, Entering, IsEntryStopped, entering_from}
 use Rattle.bk_ports.specs.declared.line.Stop.{Stop}
@@ -16,12 +16,12 @@ pub first_feed : (bytes : List ℕ) (k : ℕ) → IsFirstByte (is_byte 10) bytes
 first_feed bytes k found = record {
   within = found.0.high;
   feed = found.1;
-  before = λ j below. false-of_not_true _ (found.0.before j (omega arith) below);
+  before = λ j below. false_from_ne_true _ (found.0.before j (omega arith) below);
 }
 
 -- where no byte is the line feed there is none
 pub no_feed_where_no_first_is_found : (bytes : List ℕ) → IsFirstByte (is_byte 10) bytes None → HasNoFeed bytes
-no_feed_where_no_first_is_found bytes found = λ k below. false-of_not_true _ (found k (omega arith) below)
+no_feed_where_no_first_is_found bytes found = λ k below. false_from_ne_true _ (found k (omega arith) below)
 
 -- of the lines of a block some are entered: `kept` is the front of the open line, `number` its number, and `rest` is still to
 -- be read

@@ -1,6 +1,7 @@
 //! The lines of one block of bytes.
 
-ghost use Rattle.std.specs.Prelude.{◌≡◌, ◌≤◌, ◌+◌, ◌^◌, length, IfOk, IfErr, OnOk};
+ghost use Rattle.std.specs.Prelude.{◌≡◌, ◌≤◌, ◌+◌, length, IfOk, IfErr, OnOk};
+ghost use Rattle.bk_ports.specs.declared.line.TheConstants.{LARGEST_LINE_NUMBER};
 ghost use Rattle.bk_ports.specs.Lines.{closed_lines, open_line, kept_front};
 ghost use Rattle.bk_ports.specs.Answered.{CountFits};
 ghost use Rattle.bk_ports.specs.Entering.{AreAllEntered, IsEntryStopped, entering_from};
@@ -19,7 +20,7 @@ pub fn enter_block<R: Register, O: Sink>(
     buffer: &mut AnswerBuffer,
     out: &mut O,
 ) -> Result<bool, Stop>
-    requires early { kept.old.number + length block.now ≤ 2 ^ 31 }
+    requires early { kept.old.number + length block.now ≤ LARGEST_LINE_NUMBER }
     requires ready { R.is_ready register.old kept.old.number }
     ensures entered { IfOk result
         (λ refused. AreAllEntered

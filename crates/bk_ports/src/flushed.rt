@@ -15,8 +15,6 @@ pub struct Flushed {
 pub fn flush<W: Write>(writer: &mut W) -> Result<Flushed, Failed>
     ensures { Keeps (W.contents writer.old) (W.contents writer.new) }
 {
-    match writer.flush() {
-        Ok(()) => Ok(Flushed { _seal: () }),
-        Err(_) => Err(Failed),
-    }
+    writer.flush().map_err(|_| Failed)?;
+    Ok(Flushed { _seal: () })
 }

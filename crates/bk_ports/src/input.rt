@@ -1,8 +1,9 @@
 //! All lines of an input.
 
-ghost use Rattle.std.specs.Prelude.{◌≡◌, ◌≤◌, ◌<◌, ◌+◌, ◌^◌, ◌||◌, IfOk, IfErr, length};
+ghost use Rattle.std.specs.Prelude.{◌≡◌, ◌≤◌, ◌<◌, ◌+◌, ◌||◌, IfOk, IfErr, length};
 ghost use Rattle.std.specs.Io.KnownBytes.{ReadConsumes};
 ghost use Rattle.bk_ports.specs.Causes.{HasCause};
+ghost use Rattle.bk_ports.specs.declared.line.TheConstants.{LARGEST_LINE_NUMBER};
 ghost use Rattle.bk_ports.specs.Lines.{line_at_end};
 ghost use Rattle.bk_ports.specs.ReadSize.{asked_count};
 ghost use Rattle.bk_ports.specs.Answered.{CountFits};
@@ -123,7 +124,7 @@ fn enter_last<R: Register, O: Sink>(
     buffer: &mut AnswerBuffer,
     out: &mut O,
 ) -> Result<bool, Stop>
-    requires early { kept.now.number ≤ 2 ^ 31 }
+    requires early { kept.now.number ≤ LARGEST_LINE_NUMBER }
     requires ready { R.is_ready register.old kept.now.number }
     ensures entered { IfOk result
         (λ refused. AreAllEntered

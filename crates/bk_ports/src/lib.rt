@@ -4,7 +4,7 @@
 //! of 2^30 bytes an input are this program's own.
 #![tactic(auto)]
 
-ghost use Rattle.std.specs.Prelude.{ℕ, [], ◌+◌, ◌<◌, ◌^◌, ◌≤◌, Bool, List, false, length, IfOk, OnOk, OnErr, Option};
+ghost use Rattle.std.specs.Prelude.{ℕ, [], ◌+◌, ◌<◌, ◌≤◌, Bool, List, false, length, IfOk, OnOk, OnErr, Option};
 ghost use Rattle.std.specs.Io.KnownBytes.{Appends, ReadConsumes};
 ghost use Rattle.bk_ports.specs.WrittenAnswer.{HasOutcome, IsAnswerBegun};
 ghost use Rattle.bk_ports.specs.Causes.{HasCause, AppendsPrefix};
@@ -23,7 +23,7 @@ pub use input::{MOST_BYTES, enter_lines};
 pub use laws::{
     after_a_failed_call_the_other_stream_is_left, each_line_is_answered_before_the_next_read,
 };
-pub use line::LONGEST_LINE;
+pub use line::{LARGEST_LINE_NUMBER, LONGEST_LINE};
 pub use memory::{FillSource, MemSink, MemSource};
 pub use standard::{StandardError, StandardOutput, StdSink, StdSource};
 pub use steady::answer_lines;
@@ -136,7 +136,7 @@ pub trait Register {
         out: &mut O,
     ) -> Result<Outcome, Failed>
         requires short { length line.now ≤ LONGEST_LINE + 1 }
-        requires early { number ≤ 2 ^ 31 }
+        requires early { number ≤ LARGEST_LINE_NUMBER }
         requires ready { is_ready self.old number }
         ensures outcome { IfOk result
             (λ o. HasOutcome (λ pieces refused. enters self.old number line.now pieces refused self.new)

@@ -1,6 +1,6 @@
 //! One line, which may come in pieces.
 
-ghost use Rattle.std.specs.Prelude.{◌≡◌, ◌≤◌, ◌+◌, ◌^◌, ◌++◌, ◌∷◌, [], length, IfOk, IfErr, OnOk};
+ghost use Rattle.std.specs.Prelude.{◌≡◌, ◌≤◌, ◌+◌, ◌++◌, ◌∷◌, [], length, IfOk, IfErr, OnOk};
 ghost use Rattle.bk_ports.specs.Lines.{kept_front};
 ghost use Rattle.bk_ports.specs.WrittenAnswer.{IsWritten, IsStopped};
 ghost use Rattle.bk_ports.specs.Answered.{CountFits};
@@ -12,6 +12,9 @@ use bk_grammar::AnswerBuffer;
 
 /// How many bytes a line may have. A longer one is refused, whatever it holds.
 pub const LONGEST_LINE: usize = 8_192;
+
+/// The largest number that a line may be entered with. The lines of an input have smaller ones.
+pub const LARGEST_LINE_NUMBER: u64 = 1 << 31;
 
 // The most bytes that are kept of a line: one more than it may have.
 const KEPT: usize = LONGEST_LINE + 1;
@@ -52,7 +55,7 @@ pub fn enter_line<R: Register, O: Sink>(
     out: &mut O,
 ) -> Result<bool, Stop>
     requires short { length line.now ≤ LONGEST_LINE + 1 }
-    requires early { number ≤ 2 ^ 31 }
+    requires early { number ≤ LARGEST_LINE_NUMBER }
     requires ready { R.is_ready register.old number }
     ensures entered { IfOk result
         (λ refused. IsWritten (λ pieces p. R.enters register.old number line.now pieces p register.new)
@@ -82,7 +85,7 @@ pub fn close_line<R: Register, O: Sink>(
     buffer: &mut AnswerBuffer,
     out: &mut O,
 ) -> Result<bool, Stop>
-    requires early { kept.old.number ≤ 2 ^ 31 }
+    requires early { kept.old.number ≤ LARGEST_LINE_NUMBER }
     requires ready { R.is_ready register.old kept.old.number }
     ensures entered { IfOk result
         (λ refused. AreAllEntered

@@ -2,10 +2,9 @@
 use Rattle.std.specs.List.{AllByRecursion}
 use Rattle.std.proofs.Common.{Bool, List, [], ap, arith, cond, length, map, refl, subst, suc, sum, sym, take, zero, ℕ, ◌++◌, ◌+◌}
 use Rattle.std.proofs.Common.{◌-◌, ◌<◌, ◌∙◌, ◌∷◌, ◌≡◌, ◌≤◌}
-use Rattle.std.proofs.lemmas.Bool.{lt-leb}
+use Rattle.std.proofs.lemmas.Bool.{le-leb, lt-leb}
 use Rattle.std.proofs.lemmas.List.Sums.{sum_by-cons}
 use Rattle.bk_laws.proofs.ListParts.{append-same_rest}
-use Rattle.bk_laws.proofs.NumberTests.{nat_le-of_le}
 use Rattle.bk_laws.proofs.Sums.{sum-positive_of_positive}
 use Rattle.bk_tiling.proofs.Groups.{AllIn, IsGroup}
 use Rattle.bk_tiling.proofs.TilingGroups.{all_groups}
@@ -25,7 +24,7 @@ use Rattle.bk_profile.specs.declared.laying.Refusal.{Refusal}
 use Rattle.bk_profile.specs.declared.laying.Refusal.TheVariants.{Gap, Open}
 
 next_ends : (n s : ℕ) (sides : List ℕ) → n ≤ s → next_group n (s ∷ sides) ≡ s ∷ []
-next_ends n s sides h = ap (λ (b : Bool). s ∷ cond b [] (next_group (n - s) sides)) (nat_le-of_le n s h)
+next_ends n s sides h = ap (λ (b : Bool). s ∷ cond b [] (next_group (n - s) sides)) (le-leb n s h)
 
 next_goes_on : (n s : ℕ) (sides : List ℕ) → s < n → next_group n (s ∷ sides) ≡ s ∷ next_group (n - s) sides
 next_goes_on n s sides h = ap (λ (b : Bool). s ∷ cond b [] (next_group (n - s) sides)) (lt-leb n s h)

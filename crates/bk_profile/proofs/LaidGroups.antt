@@ -16,7 +16,7 @@ use Rattle.bk_tiling.specs.SquareGroups.{laid_group}
 use Rattle.bk_tiling.specs.Tiling.{IsOneOf, IsTiling, IsWithin}
 use Rattle.bk_tiling.specs.declared.Segment.{Segment}
 use Rattle.bk_tiling.specs.declared.Square.{Square}
-use Rattle.bk_code.proofs.GroupSteps.{with_side_before, groups_cons, groups_some, side_groups}
+use Rattle.bk_code.proofs.GroupSteps.{groups_cons, side_groups, side_groups-some, with_side_before}
 use Rattle.bk_code.specs.Code.{Code}
 use Rattle.bk_profile.proofs.Storing.{depth_in_filled_gap}
 use Rattle.bk_profile.specs.Gap.{FitsGap, IsGap, LaysTo, laid_with_group}
@@ -73,7 +73,7 @@ groups_append (q ∷ []) x y (s ∷ sides) some cut =
 groups_append (p ∷ r ∷ laid) x y sides some cut =
     groups_cons p r (laid ++ laid_group x y sides)
     ∙ ap (with_side_before (stands_beside p r) p.s) (groups_append (r ∷ laid) x y sides some cut)
-    ∙ before_more (stands_beside p r) p.s (side_groups (r ∷ laid)) sides (groups_some r laid)
+    ∙ before_more (stands_beside p r) p.s (side_groups (r ∷ laid)) sides (side_groups-some r laid)
     ∙ ap (λ (code : Code). code ++ sides ∷ []) (sym (groups_cons p r laid))
 
 order_append : (front back : List Square) → InCodeOrder front → InCodeOrder back

@@ -60,7 +60,7 @@ module _ (p : Laid) (runs read : List OutlineRun) (lowest : LowestRuns) (stored 
   pub gap_narrow : lowest.segment.x + lowest.segment.width < 9223372036854775808
   gap_narrow = omega (arith, lowest_stored.end, start_below runs lowest.end, narrow_runs p runs stored)
 
-  -- with a group laid in the gap, what is laid and its runs are stored as before
+  -- where a group that fits the lowest gap is laid in it, and at most 200 squares are laid, what is laid and its runs can be stored
   pub stored_laid : (sides : List ℕ) → FitsGap lowest.segment sides → AllByRecursion IsSide sides → 0 < length sides
       → length p.squares + length sides ≤ 200
       → IsStoredProfile (record { width = p.width; squares = laid_with_group p.squares lowest.segment sides })

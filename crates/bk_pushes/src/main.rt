@@ -1,6 +1,6 @@
-//! How many moves the search for a whole catalogue pushes that makes no table of members, for the figures of `bench/`:
-//! a line for each order among the words of the command line, in the class perfect. Words that are no order from 2 to
-//! 16 are passed over.
+//! How many moves the walk through a whole catalogue pushes that makes no table of members, for the figures of
+//! `bench/`: a line for each order among the words of the command line, in the class perfect. Words that are no order
+//! from 2 to 16 are passed over.
 #![tactic(auto)]
 
 ghost use Rattle.std.specs.Prelude.{◌<◌, ◌≡◌, ◌≤◌};

@@ -6,6 +6,7 @@ use Rattle.std.proofs.Common.{ap, append_assoc, arith, inl, inr, length-append, 
 use Rattle.std.proofs.lemmas.Grind.{flat_map-append}
 use Rattle.std.proofs.lemmas.List.Elements.{recursion_from_All}
 use Rattle.bk_grammar.proofs.NumberLaws.{number_from_decimal}
+use Rattle.bk_laws.proofs.NumberOrder.{zero_or_positive}
 use Rattle.bk_net.specs.KeptNet.{IsKeptNet}
 use Rattle.bk_net.specs.Net.{Net}
 use Rattle.bk_net.specs.NetLine.{NodeNumber, Wire, Wires}
@@ -22,11 +23,8 @@ unfolding digits
 zero_text = refl
 
 node_spelled : (n : ℕ) → n ≤ 201 → NodeNumber n (decimal n)
-node_spelled n few = cases (two n)
+node_spelled n few = cases (zero_or_positive n)
   where
-    two : (n : ℕ) → (n ≡ 0) ⊎ (0 < n)
-    two n = grind arith
-
     cases : (n ≡ 0) ⊎ (0 < n) → NodeNumber n (decimal n)
     cases (inl none) = inl (ap decimal none ∙ zero_text, none)
     cases (inr some) = inr (number_from_decimal 3 n (omega arith) (omega arith) some (omega (arith, few)) (omega (arith, few)))

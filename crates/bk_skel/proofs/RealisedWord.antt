@@ -1,6 +1,7 @@
 -- What the faults and the flow of a word's net say of the word.
 use Rattle.std.specs.Prelude.{All, List, nat_abs, ℤ}
 use Rattle.std.proofs.Common.{ap, arith, false, get_or, inl, inr, length, subst, suc, sym, true, ℕ, ◌<◌, ◌^◌, ◌≡◌, ◌≤◌, ◌⊎◌}
+use Rattle.std.proofs.lemmas.Bool.{false≢true}
 use Rattle.bk_net.specs.Net.{HasNoLoose, Net}
 use Rattle.bk_flow.specs.FlowNumbers.{FlowNumbers, IsNarrowFlow}
 use Rattle.bk_flow.specs.RefusedNet.{IsRefusedFor}
@@ -83,9 +84,6 @@ pub not_wide : (skel w : Word) (net : Net) → skel ≡ w → net ≡ net_of_wor
     → (HasLargeCurrent (net_of_word skel) → false ≡ true) → IsWideWord w → ⊥
 not_wide skel w net same is never small wide = from (subst IsWideWord (sym same) wide)
   where
-    impossible : false ≡ true → ⊥
-    impossible e = cc
-
     from : IsWideWord skel → ⊥
     from (inl wide) = never (subst IsWide (sym is) wide)
-    from (inr large) = impossible (small large)
+    from (inr large) = false≢true (small large)

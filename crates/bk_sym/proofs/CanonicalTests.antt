@@ -2,13 +2,13 @@
 use Rattle.std.specs.Cmp.Lexicographic.{slice_cmp}
 use Rattle.std.specs.Ordering.{is_le, nat_cmp}
 use Rattle.std.proofs.Common.{Bool, arith, nat_lt, true, ◌&&◌, ◌≡◌, ◌||◌}
+use Rattle.std.proofs.lemmas.Bool.{ltb-true}
 use Rattle.bk_tiling.specs.Tiling.{Tiling}
 use Rattle.bk_code.specs.Code.{code_of, flat}
 use Rattle.bk_sym.specs.Canonical.{IsAtMost, IsCanonicalOf, IsGreatestImage, Lies, scaled_down_tiling}
 use Rattle.bk_sym.specs.Image.{image}
 use Rattle.bk_sym.specs.declared.Turn.{Turn}
 use Rattle.bk_sym.specs.declared.Turn.TheVariants.{FlipX, FlipY, Half, Same, Swap, SwapFlipX, SwapFlipY, SwapHalf}
-use Rattle.bk_laws.proofs.NumberTests.{lt-from_nat_lt}
 use Rattle.bk_laws.proofs.Truth.{and-left_true, and-right_true, or-elim}
 
 -- this image is higher than wide, or its flat list is at most that of c
@@ -60,7 +60,7 @@ each_turn p e = elim [
 passed : (t c : Tiling) (turn : Turn) → passes t c turn ≡ true → Lies (image turn t) → IsAtMost (image turn t) c
 passed t c turn e lies = or-elim (nat_lt (image turn t).width (image turn t).height)
     (is_le (slice_cmp nat_cmp (flat (code_of (image turn t))) (flat (code_of c))))
-    (λ h. absurd (omega (arith, lies, lt-from_nat_lt (image turn t).width (image turn t).height h))) (λ h. h) e
+    (λ h. absurd (omega (arith, lies, ltb-true (image turn t).width (image turn t).height h))) (λ h. h) e
 
 -- c is canonical for t if it is one of the images of t in lowest terms, lies, and the test passes
 pub canonical_by_test : (t c : Tiling) (turn : Turn) → c ≡ image turn (scaled_down_tiling t) → Lies c → has_no_greater (scaled_down_tiling t) c ≡ true

@@ -27,9 +27,6 @@ pub record Composes (a b c : Turn) : Type 0 where
 composed : (a b c : Turn) → Composes a b c → (t : Tiling) → IsTiling t → image a (image b t) ≡ image c t
 composed a b c same t tiling = λ i. record { width = (same.size t.width t.height i).0; height = (same.size t.width t.height i).1; squares = squares i }
   where
-    f : Square → Square
-    f = image_square a (image_size b t.width t.height).0 (image_size b t.width t.height).1
-
     at : (q : Square) → IsOneOf q t.squares → image_square a (image b t).width (image b t).height (image_square b t.width t.height q)
         ≡ image_square c t.width t.height q
     at q h = let w = within_of t tiling q h in same.square t.width t.height q (omega (arith, w.right)) (omega (arith, w.bottom))

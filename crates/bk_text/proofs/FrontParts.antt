@@ -7,7 +7,7 @@ use Rattle.bk_text.specs.CodeLine.{Flat, Group, Groups, IsLine, Item, Line, Side
 use Rattle.bk_text.specs.declared.reader.Bracket.{Bracket}
 use Rattle.bk_text.specs.declared.reader.Bracket.TheVariants.{Round, Square}
 use Rattle.bk_text.specs.declared.reader.Field.TheVariants.{First}
-use Rattle.bk_grammar.proofs.FirstByte.{blank_first, byte_first, gap_first, no_blank, regroup, under}
+use Rattle.bk_grammar.proofs.FirstByte.{blank_first, byte_first, gap_first, no_blank, regroup, then_weaken_second}
 use Rattle.bk_text.proofs.ByteKinds.{close_byte, open_byte}
 use Rattle.bk_text.proofs.KeepingAll.{Lists}
 use Rattle.bk_text.proofs.Rests.{CodeRest, FirstRest, GroupsRest, MoreSides, MoreSidesRest, NumberRest, RowSides, RowSidesAfterBlanks, SidesRest, line_onto}
@@ -128,16 +128,16 @@ row_sides_table : (n : ℕ) (ns bs : List ℕ) → RowSides (n ∷ ns) bs → (T
 row_sides_table n [] bs h = regroup SomeBlanks (Side n) LineEnd bs h
 row_sides_table n (m ∷ ns) bs h =
     regroup SomeBlanks (Side n then TableSides (m ∷ ns)) LineEnd bs
-    (under SomeBlanks (Side n then RowSides (m ∷ ns)) ((Side n then TableSides (m ∷ ns)) then LineEnd) bs
+    (then_weaken_second SomeBlanks (Side n then RowSides (m ∷ ns)) ((Side n then TableSides (m ∷ ns)) then LineEnd) bs
     (λ x k. regroup (Side n) (TableSides (m ∷ ns)) LineEnd x
-    (under (Side n) (RowSides (m ∷ ns)) (TableSides (m ∷ ns) then LineEnd) x (λ y. row_sides_table m ns y) k)) h)
+    (then_weaken_second (Side n) (RowSides (m ∷ ns)) (TableSides (m ∷ ns) then LineEnd) x (λ y. row_sides_table m ns y) k)) h)
 
 -- a size and what follows
 sized : (w h : ℕ) (code : List (List ℕ)) (bs : List ℕ) → (Number 18 w then Is (codes "x") then Number 18 h then CodeRest code) bs
     → ((Size (w, h) then Blanks) then Groups code then LineEnd) bs
 sized w h code bs rest =
     regroup (Size (w, h)) Blanks (Groups code then LineEnd) bs (regroup (Number 18 w) (Is (codes "x") then Number 18 h) (CodeRest code) bs
-    (under (Number 18 w) (Is (codes "x") then Number 18 h then CodeRest code) ((Is (codes "x") then Number 18 h) then CodeRest code) bs
+    (then_weaken_second (Number 18 w) (Is (codes "x") then Number 18 h then CodeRest code) ((Is (codes "x") then Number 18 h) then CodeRest code) bs
     (λ y. regroup (Is (codes "x")) (Number 18 h) (CodeRest code) y) rest))
 
 -- a first number and what follows are a whole line
@@ -158,7 +158,7 @@ line-of_first_number n f x t l num (inl (inr (inl (w, h, code, rest, is)))) = (
         refl,
         num,
         regroup SomeBlanks (Size (w, h) then Blanks) (Groups code then LineEnd) x
-            (under SomeBlanks (Number 18 w then Is (codes "x") then Number 18 h then CodeRest code)
+            (then_weaken_second SomeBlanks (Number 18 w then Is (codes "x") then Number 18 h then CodeRest code)
             ((Size (w, h) then Blanks) then Groups code then LineEnd) x (λ y. sized w h code y) rest),
       )),
   is,
@@ -170,11 +170,12 @@ line-of_first_number n f x t l num (inl (inr (inr (w, h, m, ns, rest, is)))) = (
     x,
     refl,
     num,
-    under SomeBlanks (Number 18 w then SomeBlanks then Number 18 h then RowSides (m ∷ ns))
+    then_weaken_second SomeBlanks (Number 18 w then SomeBlanks then Number 18 h then RowSides (m ∷ ns))
         (Number 18 w then SomeBlanks then Number 18 h then TableSides (m ∷ ns) then LineEnd) x
-        (λ y. under (Number 18 w) (SomeBlanks then Number 18 h then RowSides (m ∷ ns)) (SomeBlanks then Number 18 h then TableSides (m ∷ ns) then LineEnd) y
-        (λ z. under SomeBlanks (Number 18 h then RowSides (m ∷ ns)) (Number 18 h then TableSides (m ∷ ns) then LineEnd) z
-        (λ v. under (Number 18 h) (RowSides (m ∷ ns)) (TableSides (m ∷ ns) then LineEnd) v (λ u. row_sides_table m ns u)))) rest,
+        (λ y. then_weaken_second (Number 18 w) (SomeBlanks then Number 18 h then RowSides (m ∷ ns))
+        (SomeBlanks then Number 18 h then TableSides (m ∷ ns) then LineEnd) y
+        (λ z. then_weaken_second SomeBlanks (Number 18 h then RowSides (m ∷ ns)) (Number 18 h then TableSides (m ∷ ns) then LineEnd) z
+        (λ v. then_weaken_second (Number 18 h) (RowSides (m ∷ ns)) (TableSides (m ∷ ns) then LineEnd) v (λ u. row_sides_table m ns u)))) rest,
   ),
   is,
 )

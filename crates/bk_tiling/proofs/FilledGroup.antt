@@ -64,7 +64,7 @@ module _ (laid : List Square) (x level : ℕ) (sides : List ℕ) (level_there : 
               by true e = absurd (omega (arith, column_right c (record { x = x; y = level; s = s }) e, (group_within (x + s) level sides q k).0))
               by false e = refl
 
-  -- what is laid fills its columns once, with the group too
+  -- where what is laid fills its columns once, it fills them once with the group laid
   pub filled_group : (width : ℕ) → ((c j : ℕ) → c < width → j < depth laid c → count_by (covers c j) laid ≡ 1)
       → (c j : ℕ) → c < width → j < depth (laid ++ laid_group x level sides) c → count_by (covers c j) (laid ++ laid_group x level sides) ≡ 1
   filled_group width filled c j wide deep = place (cases_lt c x) (cases_lt c (x + total sides))

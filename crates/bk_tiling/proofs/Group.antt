@@ -2,7 +2,7 @@
 use Rattle.std.specs.List.{AllByRecursion}
 use Rattle.std.proofs.Common.{Bool, List, [], ap, arith, cond, count_by, false, inl, inr, length, map, max, refl, subst, sum, sym, true, ℕ, ◌++◌, ◌+◌, ◌<◌}
 use Rattle.std.proofs.Common.{◌∙◌, ◌∷◌, ◌≡◌, ◌≤◌, ◌⊎◌}
-use Rattle.std.proofs.lemmas.Bool.{cases_lt}
+use Rattle.std.proofs.lemmas.Bool.{cases_lt, true≢false}
 use Rattle.bk_laws.proofs.Totals.{sum_is_total, total}
 use Rattle.bk_tiling.proofs.Cells.{column_from, column_left, column_right, count-cons, covers_from, none_counted, over_from}
 use Rattle.bk_tiling.specs.Column.{covers_column, depth}
@@ -63,10 +63,7 @@ covers_none : (c j : ℕ) (q : Square) → covers_column c q ≡ false → ◌�
 covers_none c j q e = cases (covers c j q) refl
   where
     cases : (b : Bool) → covers c j q ≡ b → ◌≡◌ {A = ℕ} (cond b 1 0) 0
-    cases true f = absurd (both (sym (column_from c q (over_from c j q f).left (over_from c j q f).right) ∙ e))
-      where
-        both : true ≡ false → ⊥
-        both g = cc
+    cases true f = absurd (true≢false (sym (column_from c q (over_from c j q f).left (over_from c j q f).right) ∙ e))
     cases false f = refl
 
 -- a square that covers a cell counts as one there

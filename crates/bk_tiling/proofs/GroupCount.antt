@@ -17,14 +17,14 @@ put_some true q (g ∷ groups) = omega arith
 put_some false q groups = omega arith
 
 -- a first square begins a group
-pub groups_some : (q : Square) (squares : List Square) → 0 < length (square_groups (q ∷ squares))
-groups_some q [] = omega arith
-groups_some q (r ∷ squares) = put_some (stands_beside q r) q (square_groups (r ∷ squares))
+pub square_groups-some : (q : Square) (squares : List Square) → 0 < length (square_groups (q ∷ squares))
+square_groups-some q [] = omega arith
+square_groups-some q (r ∷ squares) = put_some (stands_beside q r) q (square_groups (r ∷ squares))
 
 -- where there are squares there is a group
 pub some_group : (squares : List Square) → 0 < length squares → 0 < length (square_groups squares)
 some_group [] h = absurd (omega arith)
-some_group (q ∷ squares) h = groups_some q squares
+some_group (q ∷ squares) h = square_groups-some q squares
 
 beside_column : (p q : Square) → stands_beside p q ≡ true → p.x + p.s ≡ q.x
 beside_column p q e = grind (arith, nat_tests)
@@ -105,7 +105,7 @@ groups_by_first (q ∷ r ∷ squares) laid = omega (
   pairs_first q (r ∷ squares) laid,
   count-cons (stands_beside q) r squares,
   none_past q r squares laid,
-  groups_more (stands_beside q r) q (square_groups (r ∷ squares)) (groups_some r squares),
+  groups_more (stands_beside q r) q (square_groups (r ∷ squares)) (square_groups-some r squares),
   groups_by_first (r ∷ squares) (laid_rest q (r ∷ squares) laid),
 )
 

@@ -5,6 +5,7 @@ use Rattle.std.proofs.Common.{List, [], ap, append_assoc, arith, cond, count_by,
 use Rattle.std.proofs.lemmas.Bool.{cases_lt}
 use Rattle.std.proofs.lemmas.Bool.Decides.{nat_tests}
 use Rattle.std.proofs.lemmas.List.Sums.{sum_by-append}
+use Rattle.bk_laws.proofs.NumberOrder.{le_or_gt}
 use Rattle.bk_tiling.proofs.Cells.{counted_one, covers_from, from_append, in_all, one_counted, over_from}
 use Rattle.bk_tiling.proofs.Members.{in_back}
 use Rattle.bk_tiling.proofs.OrderLaws.{before_level}
@@ -117,11 +118,8 @@ module _ (t u : Tiling) (tiling : IsTiling t) (other : IsTiling u) (widths : t.w
 
 -- the squares of a tiling reach down to its height
 pub not_higher : (t u : Tiling) → IsTiling t → IsTiling u → t.width ≡ u.width → t.squares ≡ u.squares → t.height ≤ u.height
-not_higher t u tiling other widths same = cases (two t.height u.height)
+not_higher t u tiling other widths same = cases (le_or_gt t.height u.height)
   where
-    two : (a b : ℕ) → (a ≤ b) ⊎ (b < a)
-    two a b = grind arith
-
     cases : (t.height ≤ u.height) ⊎ (u.height < t.height) → t.height ≤ u.height
     cases (inl h) = h
     cases (inr h) =

@@ -1,5 +1,6 @@
 -- Squares in the order of a code, by the places at which they stand.
 use Rattle.std.proofs.Common.{List, [], arith, get_or, inl, inr, length, slice_index_or, subst, suc, sym, true, zero, ℕ, ◌<◌, ◌∷◌, ◌≡◌, ◌≤◌, ◌⊎◌}
+use Rattle.bk_laws.proofs.NumberOrder.{le-same_or_less}
 use Rattle.bk_tiling.proofs.Cells.{in_all}
 use Rattle.bk_tiling.proofs.Members.{one_at}
 use Rattle.bk_tiling.proofs.OrderLaws.{comes_before-trans}
@@ -26,11 +27,8 @@ later_place (q ∷ squares) o (suc i) (suc j) d a b = later_place squares o.1 i 
 -- what `partition_point` asks
 pub parted_at : (squares : List Square) (c : Square) → InCodeOrder squares → (i j : ℕ) (d : Square) → i ≤ j → j < length squares
     → comes_before (get_or squares j d) c ≡ true → comes_before (get_or squares i d) c ≡ true
-parted_at squares c o i j d h k e = cases (two i j h)
+parted_at squares c o i j d h k e = cases (le-same_or_less i j h)
   where
-    two : (i j : ℕ) → i ≤ j → (i ≡ j) ⊎ (i < j)
-    two i j h = grind arith
-
     cases : (i ≡ j) ⊎ (i < j) → comes_before (get_or squares i d) c ≡ true
     cases (inl same) = subst (λ (k : ℕ). comes_before (get_or squares k d) c ≡ true) (sym same) e
     cases (inr less) = comes_before-trans (get_or squares i d) (get_or squares j d) c (later_place squares o i j d less k) e

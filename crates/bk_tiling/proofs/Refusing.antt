@@ -210,7 +210,7 @@ rows_more squares i earlier here a b below over at =
     over_i h = omega (arith, h, over)
 
 -- if no square before the end of the list shares a cell with a later one, no two share a cell
-pub none_shared : (squares : List Square) (n : ℕ) → ((a b : ℕ) → a < n → a < b → ¬ (ShareCellAt squares a b)) → length squares ≤ n
+pub shares_no_cell-to_end : (squares : List Square) (n : ℕ) → ((a b : ℕ) → a < n → a < b → ¬ (ShareCellAt squares a b)) → length squares ≤ n
     → ShareNoCell squares
-none_shared squares n apart past a b d up below share =
+shares_no_cell-to_end squares n apart past a b d up below share =
     apart a b (omega (arith, up, below, past)) up (share_from squares a b d (omega (arith, up, below)) below share)

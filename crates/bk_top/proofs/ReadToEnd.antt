@@ -1,5 +1,4 @@
 -- Runs that read lines to their end and then write what they found: `verify`, `alike` and `pair`.
-use Rattle.std.specs.Prelude.{false}
 use Rattle.std.proofs.Common.{List, Some, refl, subst, sym, ℕ, ◌≡◌}
 use Rattle.std.proofs.lemmas.Bool.{false≢true}
 use Rattle.bk_ports.proofs.TakenBytes.{taken_all}

@@ -23,7 +23,7 @@ use Rattle.bk_top.specs.Outside.{Outside, Port, faults_of, status_of, streams_of
 use Rattle.bk_top.specs.ReadsToEnd.{ReadsToEnd}
 use Rattle.bk_top.specs.Running.{Does, IsToldText, IsWholeRun, Lists, Tries}
 use Rattle.bk_top.specs.Words.{AsksErrorsOnly, AsksNoLines, ReadsNoLines, WordsAsk, WordsAskNothing, listing_asked, work_asked}
-use Rattle.bk_top.specs.declared.catalogue.AskedListing.{AskedListing}
+use Rattle.bk_top.specs.declared.listing.AskedListing.{AskedListing}
 use Rattle.bk_top.specs.declared.work.Work.{Work}
 use Rattle.bk_top.specs.declared.work.Work.TheVariants as works
 

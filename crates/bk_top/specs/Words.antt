@@ -11,7 +11,7 @@ use Rattle.bk_list.specs.Listing.{Listing}
 use Rattle.bk_ask.specs.Asked.{Asks}
 use Rattle.bk_ask.specs.declared.Ask.{Ask}
 use Rattle.bk_ask.specs.declared.Ask.TheVariants as asks
-use Rattle.bk_top.specs.declared.catalogue.AskedListing.{AskedListing}
+use Rattle.bk_top.specs.declared.listing.AskedListing.{AskedListing}
 use Rattle.bk_top.specs.declared.work.Work.{Work}
 use Rattle.bk_top.specs.declared.work.Work.TheVariants as works
 

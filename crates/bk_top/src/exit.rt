@@ -37,13 +37,18 @@ pub fn arguments_of(alloc: Global, arguments: io::Result<Args>) -> Result<Vec<St
     ensures not_text { IfErr arguments (λ error. error_kind error ≢ ErrorKind.OutOfMemory
         → result ≡ Err NoArguments.NotText) }
 {
-    match arguments {
-        Ok(args) => match words_of(alloc, args) {
-            Ok(words) => Ok(words),
-            Err(_) => Err(NoArguments::NoMemory),
-        },
-        Err(error) if error.kind() == ErrorKind::OutOfMemory => Err(NoArguments::NoMemory),
-        Err(_) => Err(NoArguments::NotText),
+    let args = arguments.map_err(why_none)?;
+    words_of(alloc, args).map_err(|_| NoArguments::NoMemory)
+}
+
+// Why there are no arguments where the process gives this error for them.
+fn why_none(error: io::Error) -> NoArguments
+    ensures no_memory { error_kind error ≡ ErrorKind.OutOfMemory → result ≡ NoArguments.NoMemory }
+    ensures not_text { error_kind error ≢ ErrorKind.OutOfMemory → result ≡ NoArguments.NotText }
+{
+    match error.kind() {
+        ErrorKind::OutOfMemory => NoArguments::NoMemory,
+        _ => NoArguments::NotText,
     }
 }
 

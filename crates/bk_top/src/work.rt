@@ -3,7 +3,7 @@
 ghost use Rattle.std.specs.Prelude.{◌≡◌};
 ghost use Rattle.bk_top.specs.Words.{work_asked};
 
-use crate::catalogue::AskedListing;
+use crate::listing::AskedListing;
 use bk_alike::Wanted;
 use bk_answer::{Command, MemoryCommand, PlainCommand};
 use bk_ask::Ask;

@@ -1,4 +1,4 @@
--- A search advances from place to place: what is passed stays passed, and each word that is met counts once.
+-- A walk advances from place to place: what is passed stays passed, and each word that is met counts once.
 use Rattle.std.specs.List.{AllByRecursion}
 use Rattle.std.specs.declared.cmp.Ordering.{Ordering}
 use Rattle.std.specs.declared.cmp.Ordering.TheVariants.{Equal, Greater, Less}
@@ -12,7 +12,7 @@ use Rattle.bk_word.specs.Word.{Follows, Word, word_cmp}
 use Rattle.bk_word.specs.declared.Class.{Class}
 use Rattle.bk_word.proofs.FollowLaws.{not_itself}
 use Rattle.bk_catalogue.specs.Catalogue.{Entry, IsEntry}
-use Rattle.bk_tree_walk.specs.Search.{HasPassed, IsEnd, IsMet, IsTreeWord}
+use Rattle.bk_tree_walk.specs.TreePlace.{HasPassed, IsEnd, IsMet, IsTreeWord}
 use Rattle.bk_catalogue.specs.Tree.{AreAscendingWords, IsInTree}
 
 -- the word of an entry is a word of the tree
@@ -79,16 +79,16 @@ module _ (n : ℕ) (class : Class) (place next : Word) (up : Follows next place)
   after_on : (w : Word) → IsTreeWord n w → (Follows next w → ⊥) → Follows w cursor
   after_on w tree from = p.after w tree (λ f. from (follows_trans w place next f up))
 
-  -- a search that moved on, over what no member's word is among, has passed what it had, and met as many words
+  -- a walk that moved on, over what no member's word is among, has passed what it had, and met as many words
   pub moved_on : HasPassed n class cursor next met
   moved_on = record { passed = passed_on; after = after_on; words = p.words; each = each_on p.words p.each; ascending = p.ascending; count = p.count }
 
-  -- a search goes on past a word of the tree, which is met
+  -- a walk goes on past a word of the tree, which is met
   module _ (word : Word) (tree : IsTreeWord n word) (some : 0 < length word) (from : Follows place word → ⊥) (to : Follows next word) where
     in_tree : IsInTree n cursor None word
     in_tree = record { legal = tree.legal; some = some; small = tree.small; after = p.after word tree from; within = tt }
 
-    -- a search that goes on past a word of the tree, which is met, has met one word more
+    -- a walk that goes on past a word of the tree, which is met, has met one word more
     pub met_on : HasPassed n class cursor next (met + 1)
     met_on = record {
       passed = passed_on;
@@ -116,7 +116,7 @@ module _ (n : ℕ) (class : Class) (place word : Word) (tree : IsTreeWord n word
     each_to words all.1,
   )
 
-  -- a search that goes on up to a word of the tree meets it, as one more
+  -- a walk that goes on up to a word of the tree meets it, as one more
   pub met_at : IsMet n class cursor word (met + 1)
   met_at = record {
     after = p.after word tree from;

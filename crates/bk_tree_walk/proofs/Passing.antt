@@ -13,7 +13,7 @@ use Rattle.bk_catalogue.proofs.TreeOfWords.Places.{IsLast, LiesBetween, before_f
 use Rattle.bk_word.proofs.PlayLaws.{legal_rest}
 use Rattle.bk_word.proofs.WordOrder.{move_itself, move_same}
 use Rattle.bk_catalogue.specs.NextMove.{IsLeastFrom, IsMoveFrom, first_move, move_after}
-use Rattle.bk_tree_walk.specs.Search.{IsTreeWord}
+use Rattle.bk_tree_walk.specs.TreePlace.{IsTreeWord}
 
 -- a word that goes on from these moves by a legal move
 pub record GoesOn (front : Word) (m : Move) (w : Word) : Type 0 where

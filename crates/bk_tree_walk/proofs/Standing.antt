@@ -1,9 +1,9 @@
--- What a step of a search knows of the place where it stands, and where it leads.
+-- What a step of a walk knows of the place where it stands, and where it leads.
 use Rattle.std.proofs.Common.{Some, [], ap, arith, inl, inr, length, slice_get, subst, sym, take, ℕ, ◌++◌, ◌+◌, ◌-◌, ◌<◌, ◌∙◌, ◌∷◌, ◌≡◌, ◌≤◌, ◌⊎◌}
 use Rattle.std.proofs.lemmas.Bool.{cases_lt}
 use Rattle.std.proofs.lemmas.List.{length-append, take_all, take_at}
 use Rattle.bk_laws.proofs.ListPlaces.{take-snoc_next}
-use Rattle.bk_word.specs.Outline.{IsLegalMove, Outline, start}
+use Rattle.bk_word.specs.Outline.{IsLegalMove, Outline, open_sides, start}
 use Rattle.bk_word.specs.Play.{IsComplete, IsLegal, outline_of}
 use Rattle.bk_word.specs.Word.{Move, Word, move_cmp, order_of}
 use Rattle.bk_word.proofs.WordOrder.{move_itself}
@@ -15,14 +15,15 @@ use Rattle.bk_walk_cuts.proofs.CutLaws.{after_near, whole_front}
 use Rattle.bk_catalogue.proofs.TreeOfWords.Fitting.{HasShape, IsFit, fit}
 use Rattle.bk_catalogue.proofs.TreeOfWords.MoveOrder.{less_from}
 use Rattle.bk_catalogue.proofs.TreeOfWords.Places.{IsLast}
-use Rattle.bk_tree_walk.proofs.SearchSteps.{climbs, cuts, ends, goes_down, meets_pushed, pushed_tree, goes_past_barren}
+use Rattle.bk_tree_walk.proofs.WalkSteps.{goes_down, goes_past_barren, meets_pushed, pushed_tree, walk_ends_without_moves, walk_goes_on_after_last}
+use Rattle.bk_tree_walk.proofs.WalkSteps.{walk_goes_on_over_cuts}
 use Rattle.bk_catalogue.specs.Catalogue.{Entry, IsEntry}
 use Rattle.bk_catalogue.proofs.Members.OneEntry.{entry_complete}
 use Rattle.bk_catalogue.specs.Cuts.{IsBarren}
 use Rattle.bk_walk_cuts.specs.MoveCuts.{GrowsByAtMostOne, IsCut}
-use Rattle.bk_catalogue.specs.NextMove.{IsLeastFrom, IsMoveFrom, first_move, fitted, move_after, open_sides}
+use Rattle.bk_catalogue.specs.NextMove.{IsLeastFrom, IsMoveFrom, first_move, fitted, move_after}
 use Rattle.bk_catalogue.specs.Repeated.{HasNoMember}
-use Rattle.bk_tree_walk.specs.Search.{Advances, Ends, IsClimbed, IsSearchState, IsTreeWord, Meets}
+use Rattle.bk_tree_walk.specs.TreePlace.{Advances, Ends, IsClimbed, IsTreeWalkState, IsTreeWord, Meets}
 
 shape_from : (o : Outline) (m : Move) → IsLegalMove o m → HasShape (open_sides o) m
 shape_from o m l = let some = l.some in record { some = l.some; long = omega (arith, l.signs) }
@@ -94,19 +95,19 @@ front_of_more : (front : Word) (m : Move) → take (length (front ++ m ∷ []) -
 front_of_more front m = take_at front (m ∷ []) (length (front ++ m ∷ []) - 1) (omega (arith, length-append front (m ∷ [])))
 
 -- the move that is fitted is the least legal one
-pub step_least : (n : ℕ) (front : Word) (x m : Move) → IsSearchState n front x → m ≡ fitted (open_sides (outline_of front)) x
+pub step_least : (n : ℕ) (front : Word) (x m : Move) → IsTreeWalkState n front x → m ≡ fitted (open_sides (outline_of front)) x
     → IsLeastFrom (outline_of front) x m
 step_least n front x m s fits = subst (IsLeastFrom (outline_of front) x) (sym fits) (fit_least (outline_of front) x s.some)
 
 -- a step from a place where the move that fits hangs too many squares
-module _ (n : ℕ) (class : Class) (front : Word) (x m : Move) (few : n ≤ 16) (s : IsSearchState n front x)
+module _ (n : ℕ) (class : Class) (front : Word) (x m : Move) (few : n ≤ 16) (s : IsTreeWalkState n front x)
     (fits : m ≡ fitted (open_sides (outline_of front)) x) where
   step_last : n < order_of front + m.count → IsLast n front x
   step_last many = last_from_fit n front x s.some (subst (λ (k : Move). n < order_of front + k.count) fits many)
 
   -- back, after the last move
   pub step_climbs : (new : Word) (next : Move) (met : ℕ) → IsClimbed front new next → n < order_of front + m.count → met ≤ 0
-      → Advances n class (front ++ x ∷ []) (new ++ next ∷ []) met × IsSearchState n new next
+      → Advances n class (front ++ x ∷ []) (new ++ next ∷ []) met × IsTreeWalkState n new next
   step_climbs new next met c many none = (advances, stand)
     where
       l : IsLastMove new c.last
@@ -115,7 +116,7 @@ module _ (n : ℕ) (class : Class) (front : Word) (x m : Move) (few : n ≤ 16) 
       near : GrowsByAtMostOne c.last (move_after c.last)
       near = move_after_near c.last
 
-      stand : IsSearchState n new next
+      stand : IsTreeWalkState n new next
       stand = record {
         legal = l.legal_front;
         small = omega (arith, s.small, ap order_of c.was, order_append new (c.last ∷ []), order_more c.last []);
@@ -127,12 +128,12 @@ module _ (n : ℕ) (class : Class) (front : Word) (x m : Move) (few : n ≤ 16) 
       advances : Advances n class (front ++ x ∷ []) (new ++ next ∷ []) met
       advances = subst (λ (b : Word). Advances n class (b ++ x ∷ []) (new ++ next ∷ []) met) (sym c.was)
           (subst (λ (k : Move). Advances n class ((new ++ c.last ∷ []) ++ x ∷ []) (new ++ k ∷ []) met) (sym c.next)
-          (climbs n class new c.last x met l.legal (subst (λ (b : Word). IsLast n b x) c.was (step_last many)) none))
+          (walk_goes_on_after_last n class new c.last x met l.legal (subst (λ (b : Word). IsLast n b x) c.was (step_last many)) none))
 
   -- to the end
   pub step_ends : (met : ℕ) → front ≡ [] → n < order_of front + m.count → met ≤ 0 → Ends n class (front ++ x ∷ []) met
   step_ends met e many none = subst (λ (b : Word). Ends n class (b ++ x ∷ []) met) (sym e)
-      (ends n class x met (subst (λ (b : Word). IsLast n b x) e (step_last many)) none)
+      (walk_ends_without_moves n class x met (subst (λ (b : Word). IsLast n b x) e (step_last many)) none)
 
 -- a legal move is the least that isn't before it
 pub least_itself : (front : Word) (m : Move) → IsLegalMove (outline_of front) m → IsLeastFrom (outline_of front) m m
@@ -145,7 +146,7 @@ least_itself front m legal = record { legal = legal; from = itself; least = λ o
     itself e = less_equal (sym e ∙ move_itself m)
 
 -- a step from a place at a legal move
-module _ (n : ℕ) (class : Class) (front : Word) (m : Move) (few : n ≤ 16) (s : IsSearchState n front m) (legal : IsLegalMove (outline_of front) m) where
+module _ (n : ℕ) (class : Class) (front : Word) (m : Move) (few : n ≤ 16) (s : IsTreeWalkState n front m) (legal : IsLegalMove (outline_of front) m) where
   least : IsLeastFrom (outline_of front) m m
   least = least_itself front m legal
 
@@ -155,9 +156,9 @@ module _ (n : ℕ) (class : Class) (front : Word) (m : Move) (few : n ≤ 16) (s
 
   -- over moves that are cut
   pub step_cuts : (next : Move) (met : ℕ) → IsCut n class front m next → GrowsByAtMostOne m next → order_of front + m.count ≤ n → met ≤ 0
-      → Advances n class (front ++ m ∷ []) (front ++ next ∷ []) met × IsSearchState n front next
+      → Advances n class (front ++ m ∷ []) (front ++ next ∷ []) met × IsTreeWalkState n front next
   step_cuts next met cut near small none = (
-    cuts n class front m m next met least cut none,
+    walk_goes_on_over_cuts n class front m m next met least cut none,
     record {
       legal = s.legal;
       small = s.small;
@@ -172,14 +173,14 @@ module _ (n : ℕ) (class : Class) (front : Word) (m : Move) (few : n ≤ 16) (s
     tree : IsTreeWord n pushed
     tree = subst (IsTreeWord n) (sym push) (pushed_tree n class front m m met s.legal least small one)
 
-    -- a search goes back from moves where no member's word begins so
+    -- a walk goes back from moves where no member's word begins so
     pub step_past_barren : (popped : Word) (next : Move) → popped ≡ take (length pushed - 1) pushed → next ≡ move_after m → IsBarren n class pushed
-        → Advances n class (front ++ m ∷ []) (popped ++ next ∷ []) met × IsSearchState n popped next
+        → Advances n class (front ++ m ∷ []) (popped ++ next ∷ []) met × IsTreeWalkState n popped next
     step_past_barren popped next pop after barren = (
       subst (λ (b : Word). Advances n class (front ++ m ∷ []) (b ++ next ∷ []) met) (sym same)
           (subst (λ (k : Move). Advances n class (front ++ m ∷ []) (front ++ k ∷ []) met) (sym after)
           (goes_past_barren n class front m m met s.legal least small one (subst (IsBarren n class) push barren))),
-      subst (λ (b : Word). IsSearchState n b next) (sym same) (record {
+      subst (λ (b : Word). IsTreeWalkState n b next) (sym same) (record {
         legal = s.legal;
         small = s.small;
         some = omega (arith, near.least, legal.some, ap (λ (k : Move). k.count) after);
@@ -196,12 +197,12 @@ module _ (n : ℕ) (class : Class) (front : Word) (m : Move) (few : n ≤ 16) (s
 
     -- on, where the moves are no complete word of the order that a member has
     pub step_goes_down : (next : Move) → next ≡ first_move → (IsComplete pushed → order_of pushed ≡ n → HasNoMember class pushed)
-        → Advances n class (front ++ m ∷ []) (pushed ++ next ∷ []) met × IsSearchState n pushed next
+        → Advances n class (front ++ m ∷ []) (pushed ++ next ∷ []) met × IsTreeWalkState n pushed next
     step_goes_down next first none = (
       subst (λ (b : Word). Advances n class (front ++ m ∷ []) (b ++ next ∷ []) met) (sym push)
           (subst (λ (k : Move). Advances n class (front ++ m ∷ []) ((front ++ m ∷ []) ++ k ∷ []) met) (sym first)
           (goes_down n class front m m met s.legal least small one not)),
-      subst (IsSearchState n pushed) (sym first)
+      subst (IsTreeWalkState n pushed) (sym first)
           (record { legal = tree.legal; small = tree.small; some = omega arith; count = omega arith; signs = omega arith }),
     )
       where

@@ -1,4 +1,4 @@
--- Where a search begins: after the longest front of the cursor that is a word of the tree.
+-- Where a walk begins: after the longest front of the cursor that is a word of the tree.
 use Rattle.std.specs.declared.cmp.Ordering.{Ordering}
 use Rattle.std.specs.declared.cmp.Ordering.TheVariants.{Equal, Greater, Less}
 use Rattle.std.specs.Ordering.{ordering_reverse, ordering_then}
@@ -15,7 +15,7 @@ use Rattle.bk_catalogue.proofs.TreeOfWords.Places.{LiesBetween, before_first, fr
 use Rattle.bk_word.proofs.PlayLaws.{legal_rest}
 use Rattle.bk_word.proofs.FollowLaws.{not_itself}
 use Rattle.bk_catalogue.specs.NextMove.{first_move}
-use Rattle.bk_tree_walk.specs.Search.{HasPassed, IsTreeWord}
+use Rattle.bk_tree_walk.specs.TreePlace.{HasPassed, IsTreeWord}
 
 -- a place before which nothing was met
 begins_at : (n : ℕ) (class : Class) (cursor place : Word) → ((w : Word) → IsTreeWord n w → Follows w cursor → Follows place w → ⊥)
@@ -29,7 +29,7 @@ begins_at n class cursor place none after = record {
   count = omega arith;
 }
 
--- where all of the cursor is played, the search begins with what begins with it
+-- where all of the cursor is played, the walk begins with what begins with it
 pub none_passed_at_what_begins_with_the_cursor : (n : ℕ) (class : Class) (cursor : Word) → HasPassed n class cursor (cursor ++ first_move ∷ []) 0
 none_passed_at_what_begins_with_the_cursor n class cursor = begins_at n class cursor (cursor ++ first_move ∷ []) none
     (λ w tree from. before_not_before cursor (cursor ++ first_move ∷ []) w up from)

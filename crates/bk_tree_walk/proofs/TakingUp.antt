@@ -10,10 +10,10 @@ use Rattle.bk_word.specs.declared.Class.{Class}
 use Rattle.bk_word.proofs.StoredBytes.{order_append, order_more}
 use Rattle.bk_word.proofs.PlayLaws.{legal-snoc}
 use Rattle.bk_catalogue.proofs.TreeOfWords.Ranks.{IsSmallWord, small_from}
-use Rattle.bk_tree_walk.proofs.SearchLoop.{counts_then}
+use Rattle.bk_tree_walk.proofs.WalkLoop.{counts_then}
 use Rattle.bk_tree_walk.proofs.Starting.{begins_beside, none_passed_at_what_begins_with_the_cursor}
 use Rattle.bk_catalogue.specs.NextMove.{first_move}
-use Rattle.bk_tree_walk.specs.Search.{HasPassed, IsSearchState, SearchState}
+use Rattle.bk_tree_walk.specs.TreePlace.{HasPassed, IsTreeWalkState, TreeWalkState}
 use Rattle.bk_catalogue.specs.Tree.{PushesGrow}
 use Rattle.bk_tree_walk.proofs.StateLaws.{down_from}
 
@@ -39,11 +39,11 @@ takes_more n cursor first played more m i pushes now then steps sn st t g legal 
 }
 
 -- a legal move of the cursor that is played takes up one move more
-pub takes_down : (n : ℕ) (cursor first : Word) (s t : SearchState) (m : Move) (i pushes steps sn st : ℕ) → s.order ≡ n
+pub takes_down : (n : ℕ) (cursor first : Word) (s t : TreeWalkState) (m : Move) (i pushes steps sn st : ℕ) → s.order ≡ n
     → TakesUp n cursor first s.front i pushes s.pushes steps sn → slice_get cursor i ≡ Some m → IsLegalMove (outline_of s.front) m
     → order_of s.front + m.count ≤ s.order → t ≡ down_from s m → st ≡ sn + 1 → TakesUp n cursor first t.front (i + 1) pushes t.pushes steps st
 takes_down n cursor first s t m i pushes steps sn st order up g legal few is one = takes_more n cursor first s.front t.front m i pushes s.pushes t.pushes
-    steps sn st up g legal (omega (arith, few, order)) (ap (λ (u : SearchState). u.front) is) one (ap (λ (u : SearchState). u.pushes) is)
+    steps sn st up g legal (omega (arith, few, order)) (ap (λ (u : TreeWalkState). u.front) is) one (ap (λ (u : TreeWalkState). u.pushes) is)
 
 -- the cursor takes at most 16 steps
 pub few_steps : (n : ℕ) (cursor first played : Word) (i pushes now steps sn : ℕ) → n ≤ 16
@@ -55,7 +55,7 @@ few_steps n cursor first played i pushes now steps sn few t = omega (arith, t.on
 
 -- a move of the cursor that cannot be played
 pub stuck_stand : (n : ℕ) (cursor first played : Word) (m : Move) (i pushes now steps sn : ℕ) → order_of cursor ≤ 16
-    → TakesUp n cursor first played i pushes now steps sn → slice_get cursor i ≡ Some m → CanStand m → IsSearchState n played m
+    → TakesUp n cursor first played i pushes now steps sn → slice_get cursor i ≡ Some m → CanStand m → IsTreeWalkState n played m
 stuck_stand n cursor first played m i pushes now steps sn few t g stands = record {
   legal = t.legal;
   small = t.small;
@@ -73,7 +73,7 @@ stuck_stand n cursor first played m i pushes now steps sn few t g stands = recor
       order_more m (drop (i + 1) cursor),
     )
 
--- the search begins at this move
+-- the walk begins at this move
 pub stuck_place : (n : ℕ) (class : Class) (cursor first played : Word) (m : Move) (i pushes now steps sn : ℕ)
     → TakesUp n cursor first played i pushes now steps sn → slice_get cursor i ≡ Some m
     → (IsLegalMove (outline_of played) m → order_of played + m.count ≤ n → ⊥) → HasPassed n class cursor (played ++ m ∷ []) 0
@@ -81,7 +81,7 @@ stuck_place n class cursor first played m i pushes now steps sn t g not =
     subst (λ (w : Word). HasPassed n class w (played ++ m ∷ []) 0)
     (sym (take-cons_drop cursor i m g ∙ ap (λ l. l ++ m ∷ drop (i + 1) cursor) t.begun)) (begins_beside n class played m (drop (i + 1) cursor) not)
 
--- all of the cursor is played: the search begins with what begins with it
+-- all of the cursor is played: the walk begins with what begins with it
 pub whole_place : (n : ℕ) (class : Class) (cursor first played : Word) (x : Move) (i pushes now steps sn : ℕ)
     → TakesUp n cursor first played i pushes now steps sn → length cursor ≤ i → x ≡ first_move
     → HasPassed n class cursor (played ++ x ∷ []) 0

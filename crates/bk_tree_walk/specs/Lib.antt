@@ -1,3 +1,3 @@
 -- What the crate says. Its code is kept by what proofs/ says alone.
-pub mod Search
+pub mod TreePlace
 pub mod WholeWords

@@ -8,7 +8,7 @@ mod tree_walk;
 
 pub use tree_walk::TreeWalk;
 
-/// Where one step of a search leads.
+/// Where one step of a walk leads.
 pub enum Went {
     /// on to a later place
     On,

@@ -1,4 +1,4 @@
-//! Where a search goes on: after a cursor.
+//! Where a walk goes on: after a cursor.
 #![tactic(auto)]
 
 ghost use Rattle.std.specs.Prelude.{IsTrue, false, length, take, ◌+◌, ◌≡◌, ◌≤◌};
@@ -6,7 +6,7 @@ ghost use Rattle.bk_word.specs.Outline.{IsLegalMove};
 ghost use Rattle.bk_word.specs.Play.{outline_of};
 ghost use Rattle.bk_word.specs.Word.{order_of};
 ghost use Rattle.bk_word.specs.declared.TheConstants.{LARGEST_LISTED_ORDER, LARGEST_ORDER};
-ghost use Rattle.bk_tree_walk.specs.Search.{HasPassed, StaysOf, place_of};
+ghost use Rattle.bk_tree_walk.specs.TreePlace.{HasPassed, StaysOf, place_of};
 
 use crate::tree_walk::TreeWalk;
 use bk_play::Steps;

@@ -3,16 +3,16 @@
 
 ghost use Rattle.std.specs.Prelude.{IfNone, IfSome, IsTrue, [], false, length, min, take, ℕ, ◌++◌, ◌+◌, ◌-◌, ◌<◌, ◌^◌};
 ghost use Rattle.std.specs.Prelude.{◌∷◌, ◌≡◌, ◌≤◌};
-ghost use Rattle.bk_word.specs.Outline.{IsLegalMove};
+ghost use Rattle.bk_word.specs.Outline.{IsLegalMove, open_sides as sides_open};
 ghost use Rattle.bk_word.specs.Play.{IsComplete, outline_of};
 ghost use Rattle.bk_word.specs.Word.{order_of};
 ghost use Rattle.bk_word.specs.declared.TheConstants.{LARGEST_LISTED_ORDER, LEAST_LISTED_ORDER};
-ghost use Rattle.bk_catalogue.specs.NextMove.{first_move as first_of_all, open_sides as sides_open};
+ghost use Rattle.bk_catalogue.specs.NextMove.{first_move as first_of_all};
 ghost use Rattle.bk_catalogue.specs.Catalogue.{IsEntry};
 ghost use Rattle.bk_catalogue.specs.Repeated.{HasNoMember};
 ghost use Rattle.bk_tree_walk.specs.declared.Went.TheVariants.{Met};
-ghost use Rattle.bk_tree_walk.specs.Search.{GoesOnFrom, IsClimbed, IsKeptSearch, IsReady, SettlesTo, StaysOf};
-ghost use Rattle.bk_tree_walk.specs.Search.{StepLeadsTo};
+ghost use Rattle.bk_tree_walk.specs.TreePlace.{GoesOnFrom, IsClimbed, IsKeptTreeWalk, IsReady, SettlesTo, StaysOf};
+ghost use Rattle.bk_tree_walk.specs.TreePlace.{StepLeadsTo};
 
 use crate::Went;
 use crate::judging::find_member;
@@ -26,7 +26,7 @@ use bk_word::{Class, Move};
 use std::marker::Model;
 use std::sync::ledger::Ledger;
 
-/// A search for the words of members of an order and a class. It is seen as the order, the class, the moves that it has
+/// A walk to the words of members of an order and a class. It is seen as the order, the class, the moves that it has
 /// played, the move from which it looks for the next legal one, and how many moves it has pushed. It has room for the
 /// squares of a tiling.
 #[derive(Drop)]
@@ -40,9 +40,9 @@ pub struct TreeWalk {
 }
 
 impl Model for TreeWalk {
-    ghost use Rattle.bk_tree_walk.specs.Search.{IsKeptSearch, SearchState};
+    ghost use Rattle.bk_tree_walk.specs.TreePlace.{IsKeptTreeWalk, TreeWalkState};
 
-    ghost Value = { SearchState };
+    ghost Value = { TreeWalkState };
 
     ghost view = { λ s. record {
       order = s.order;
@@ -52,12 +52,12 @@ impl Model for TreeWalk {
       pushes = s.pushes;
     } };
 
-    ghost invariant = { λ s. IsKeptSearch
+    ghost invariant = { λ s. IsKeptTreeWalk
         (record { order = s.order; class = s.class; front = s.lined; next = s.next; pushes = s.pushes }) };
 }
 
 impl TreeWalk {
-    /// A search that has played no move. The order is 2 to 16.
+    /// A walk that has played no move. The order is 2 to 16.
     pub fn new(order: u8, class: Class) -> TreeWalk
         requires least { LEAST_LISTED_ORDER ≤ order }
         requires most { order ≤ LARGEST_LISTED_ORDER }
@@ -90,7 +90,7 @@ impl TreeWalk {
     /// The moves that it has played, for reading.
     pub fn skel(&self) -> &Skel
         ensures value { result.now ≡ self.now.front }
-        ensures kept { IsKeptSearch self.now }
+        ensures kept { IsKeptTreeWalk self.now }
     {
         self.lined.skel()
     }
@@ -105,12 +105,12 @@ impl TreeWalk {
     /// How many moves it has pushed.
     pub fn pushes(&self) -> u64
         ensures value { result ≡ self.now.pushes }
-        ensures kept { IsKeptSearch self.now }
+        ensures kept { IsKeptTreeWalk self.now }
     {
         self.pushes
     }
 
-    /// Makes the next move the least legal one that isn't before it, so that the search can go on by it. Where that one
+    /// Makes the next move the least legal one that isn't before it, so that the walk can go on by it. Where that one
     /// hangs more squares than the order leaves, as each after it does too, it takes the last move back, or is at the
     /// end where none is played, and says where that leads.
     pub fn settle(&mut self) -> Option<Went>

@@ -10,7 +10,7 @@ use Rattle.bk_word.specs.declared.Class.{Class}
 use Rattle.bk_word.specs.declared.Class.TheVariants.{Perfect}
 use Rattle.bk_catalogue.specs.Catalogue.{Entry, IsEntry}
 use Rattle.bk_catalogue.specs.Following.{HasNoneAfter}
-use Rattle.bk_members.specs.Walking.{IsNextMember, WalkState}
+use Rattle.bk_members.specs.NextMember.{IsNextMember, MembersState}
 use Rattle.bk_verify_report.specs.KeptEntries.{AreKeptAfter, CountsMembers, IsKeptFrom, IsNextMissing, IsNotKept, IsUpTo, Kept}
 use Rattle.bk_verify_report.proofs.MembersUpTo.{IsNextSuch, up_to_next}
 use Rattle.bk_verify_report.proofs.CountedMembers.{any, count_none, members_counted_with_the_next}
@@ -77,7 +77,7 @@ pub rest_none : (n : ℕ) → n ≤ 16 → IsKeptRest (record { order = n; class
 rest_none n most = record { most = most; class = refl; reached = count_none n }
 
 -- a walk goes over members that are kept, from where it was first
-pub record IsPassing (first : WalkState) (pairs : List Kept) (walk : WalkState) (members : ℕ) : Type 0 where
+pub record IsPassing (first : MembersState) (pairs : List Kept) (walk : MembersState) (members : ℕ) : Type 0 where
   pub passed : IsPassed first.order pairs first.cursor walk.cursor
   pub counted : CountsMembers first.order (IsUpTo walk.cursor) members
   pub order : walk.order ≡ first.order
@@ -85,7 +85,7 @@ pub record IsPassing (first : WalkState) (pairs : List Kept) (walk : WalkState) 
   pub still : IsTrue first.ended → IsTrue walk.ended
 
 -- the walk is where it was first
-pub passing_none : (first : WalkState) (pairs : List Kept) (members : ℕ) → first.class ≡ Perfect
+pub passing_none : (first : MembersState) (pairs : List Kept) (members : ℕ) → first.class ≡ Perfect
     → CountsMembers first.order (IsUpTo first.cursor) members → IsPassing first pairs first members
 passing_none first pairs members class counted = record {
   passed = passed_none first.order pairs first.cursor;
@@ -96,7 +96,7 @@ passing_none first pairs members class counted = record {
 }
 
 -- no member follows the walk
-module _ (first : WalkState) (pairs : List Kept) (walk : WalkState) (members : ℕ) (p : IsPassing first pairs walk members)
+module _ (first : MembersState) (pairs : List Kept) (walk : MembersState) (members : ℕ) (p : IsPassing first pairs walk members)
     (none : HasNoneAfter walk.order walk.class walk.cursor) where
   -- where no member follows the walk, no perfect member follows its cursor
   pub passing_end : (cursor : Word) → cursor ≡ walk.cursor → HasNoneAfter first.order Perfect cursor
@@ -108,14 +108,14 @@ module _ (first : WalkState) (pairs : List Kept) (walk : WalkState) (members : �
   passing_all e is after new = p.passed.kept e is after (passing_end walk.cursor refl e is) new
 
 -- the walk stays where it is
-pub passing_stays : (first : WalkState) (pairs : List Kept) (walk : WalkState) (members : ℕ) → IsPassing first pairs walk members → (after : WalkState)
+pub passing_stays : (first : MembersState) (pairs : List Kept) (walk : MembersState) (members : ℕ) → IsPassing first pairs walk members → (after : MembersState)
     → after.order ≡ walk.order → after.cursor ≡ walk.cursor → CountsMembers after.order (IsUpTo after.cursor) members
 passing_stays first pairs walk members p after order cursor =
     subst (λ (n : ℕ). CountsMembers n (IsUpTo after.cursor) members) (sym (order ∙ p.order))
     (subst (λ (w : Word). CountsMembers first.order (IsUpTo w) members) (sym cursor) p.counted)
 
 -- the walk goes on to its next member
-module _ (first : WalkState) (pairs : List Kept) (walk : WalkState) (members : ℕ) (p : IsPassing first pairs walk members) (t : Tiling) (word : Word)
+module _ (first : MembersState) (pairs : List Kept) (walk : MembersState) (members : ℕ) (p : IsPassing first pairs walk members) (t : Tiling) (word : Word)
     (next : IsNextMember walk.order walk.class walk.cursor (record { tiling = t; word = word })) where
   the_next : IsNextMember first.order Perfect walk.cursor (record { tiling = t; word = word })
   the_next = next_as walk.order first.order walk.class walk.cursor t word p.order p.class next
@@ -132,14 +132,14 @@ module _ (first : WalkState) (pairs : List Kept) (walk : WalkState) (members : �
   passing_missing new = next_is_missing first.order pairs first.cursor walk.cursor p.passed t word the_next new
 
   -- a member that the walk goes on to is counted
-  pub passing_counted : (after : WalkState) → after.order ≡ walk.order → after.cursor ≡ word → CountsMembers after.order (IsUpTo after.cursor) (members + 1)
+  pub passing_counted : (after : MembersState) → after.order ≡ walk.order → after.cursor ≡ word → CountsMembers after.order (IsUpTo after.cursor) (members + 1)
   passing_counted after order cursor =
       subst (λ (n : ℕ). CountsMembers n (IsUpTo after.cursor) (members + 1)) (sym (order ∙ p.order))
       (subst (λ (w : Word). CountsMembers first.order (IsUpTo w) (members + 1)) (sym cursor)
       (members_counted_with_the_next first.order walk.cursor (record { tiling = t; word = word }) members the_next_any p.counted))
 
   -- one that is kept is passed
-  pub passing_more : (after : WalkState) → after.order ≡ walk.order → after.class ≡ walk.class → after.cursor ≡ word → (IsTrue walk.ended → ⊥)
+  pub passing_more : (after : MembersState) → after.order ≡ walk.order → after.class ≡ walk.class → after.cursor ≡ word → (IsTrue walk.ended → ⊥)
       → (line : ℕ) → IsKeptFrom pairs t line
       → IsPassing first pairs after (members + 1)
   passing_more after order class cursor on line from = record {

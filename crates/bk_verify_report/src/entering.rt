@@ -1,8 +1,9 @@
 //! The lines of a list, entered one after another.
 
-ghost use Rattle.std.specs.Prelude.{IfOk, List, OnErr, OnOk, ℕ, ◌+◌, ◌^◌, ◌≡◌, ◌≤◌};
+ghost use Rattle.std.specs.Prelude.{IfOk, List, OnErr, OnOk, ℕ, ◌+◌, ◌≡◌, ◌≤◌};
 ghost use Rattle.bk_ports.specs.WrittenAnswer.{HasOutcome, IsAnswerBegun};
 ghost use Rattle.bk_ports.specs.Causes.{HasCause};
+ghost use Rattle.bk_ports.specs.declared.line.TheConstants.{LARGEST_LINE_NUMBER};
 ghost use Rattle.bk_word.specs.declared.TheConstants.{LARGEST_LISTED_ORDER, LEAST_LISTED_ORDER};
 ghost use Rattle.bk_answer.specs.Item.{HasTiling};
 
@@ -116,7 +117,7 @@ fn feed<O: Sink>(
     buffer: &mut AnswerBuffer,
     out: &mut O,
 ) -> Result<Outcome, Failed>
-    requires early { number ≤ 2 ^ 31 }
+    requires early { number ≤ LARGEST_LINE_NUMBER }
     requires ready { CountsAreBelow state.old number }
     ensures outcome { (line : List ℕ) → HasTiling line tiling.now → IfOk result
         (λ o. HasOutcome (λ pieces refused. EntersLine state.old number line

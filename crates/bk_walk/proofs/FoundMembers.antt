@@ -132,7 +132,7 @@ more_members room s x only is more = record {
     each y (zero, low, same) = subst (IsMembersNumber s) same is
     each y (suc k, low, same) = only y (k, omega (arith, low), same)
 
--- a search of one order and class that keeps other numbers has as many members too
+-- where a search has more members than its room, so has one of its order and class that keeps other numbers
 pub as_many_members : (room : ℕ) (s u : Finding) → wanted u ≡ wanted s → HasMoreMembers room s → HasMoreMembers room u
 as_many_members room s u same more = record {
   numbers = more.numbers;

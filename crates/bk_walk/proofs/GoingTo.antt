@@ -1,4 +1,4 @@
--- A search goes to the word of a number: by which move, and that it comes there.
+-- A walk goes to the word of a number: by which move, and that it comes there.
 use Rattle.std.proofs.Common.{[], ap, append_assoc, arith, length, subst, sym, ℕ, ◌++◌, ◌+◌, ◌-◌, ◌<◌, ◌∙◌, ◌∷◌, ◌≡◌, ◌≤◌}
 use Rattle.std.proofs.lemmas.List.{append-nil, length-append}
 use Rattle.bk_word.specs.Outline.{IsLegalMove, start}
@@ -9,7 +9,7 @@ use Rattle.bk_word.proofs.StoredBytes.{order_append, order_more, order_one}
 use Rattle.bk_packed.specs.Packed.{packed}
 use Rattle.bk_packed.specs.ReadMoves.{GoesOnByNumber}
 use Rattle.bk_walk.specs.Leaping.{GoesToWord, IsAtNumber}
-use Rattle.bk_tree_walk.specs.Search.{IsKeptSearch, SearchState, StaysOf}
+use Rattle.bk_tree_walk.specs.TreePlace.{IsKeptTreeWalk, TreeWalkState, StaysOf}
 use Rattle.bk_tree_walk.proofs.StateLaws.{played_from, stays_one}
 
 -- where fewer squares hang than the order, the word goes on by a move
@@ -62,13 +62,13 @@ next_to n front number next by most g few read = cases g.rest g.is
         count : order_of front + k.count ≤ n
         count = omega (arith, order, order_append front (k ∷ rest), order_more k rest)
 
--- a search goes on by it, where its moves are read
-module _ (n : ℕ) (t : SearchState) (number : ℕ) (goes : GoesToWord n t.front number) (order : t.order ≡ n) (kept : IsKeptSearch t) (read : Word)
+-- a walk goes on by it, where its moves are read
+module _ (n : ℕ) (t : TreeWalkState) (number : ℕ) (goes : GoesToWord n t.front number) (order : t.order ≡ n) (kept : IsKeptTreeWalk t) (read : Word)
     (same : read ≡ t.front) (few : order_of t.front < n) where
   most : n ≤ 16
   most = omega (arith, kept.most, order)
 
-  -- a search before the end of a word's number can go on by that number
+  -- a walk before the end of a word's number can go on by that number
   pub going_by : GoesOnByNumber read number
   going_by = subst (λ (w : Word). GoesOnByNumber w number) (sym same) (goes_by n t.front number goes few most)
 
@@ -79,26 +79,26 @@ module _ (n : ℕ) (t : SearchState) (number : ℕ) (goes : GoesToWord n t.front
       (subst (λ (w : Word). (k : Move) (rest : Word) → IsLegal (w ++ k ∷ rest) → order_of (w ++ k ∷ rest) ≤ 16 → packed (w ++ k ∷ rest) ≡ number → m ≡ k)
       same by_number)
 
--- a move played to the word of a number brings a search nearer to it, one step for one move
-module _ (t u : SearchState) (m : Move) (is : u ≡ played_from t m) where
+-- a move played to the word of a number brings a walk nearer to it, one step for one move
+module _ (t u : TreeWalkState) (m : Move) (is : u ≡ played_from t m) where
   -- a move that leads on to a word leaves fewer squares to come
   pub played_nearer : (n number : ℕ) → t.order ≡ n → IsNextTo n t.front number m → u.order - order_of u.front < t.order - order_of t.front
   played_nearer n number order next =
-      omega (arith, ap (λ (s : SearchState). s.order - order_of s.front) is, order_one t.front m, (next.legal).some, next.few, order)
+      omega (arith, ap (λ (s : TreeWalkState). s.order - order_of s.front) is, order_one t.front m, (next.legal).some, next.few, order)
 
-  -- after a move that leads on to a word the search still goes to that word
+  -- after a move that leads on to a word the walk still goes to that word
   pub played_goes : (n number : ℕ) → IsNextTo n t.front number m → GoesToWord n u.front number
-  played_goes n number next = subst (λ (s : SearchState). GoesToWord n s.front number) (sym is) next.goes
+  played_goes n number next = subst (λ (s : TreeWalkState). GoesToWord n s.front number) (sym is) next.goes
 
   -- one move played is one step counted for one move of the word
   pub played_each : (before first steps then : ℕ) → steps + first ≡ before + length t.front → then ≡ steps + 1 → then + first ≡ before + length u.front
   played_each before first steps then each one =
-      omega (arith, each, one, ap (λ (s : SearchState). length s.front) is, length-append t.front (m ∷ []))
+      omega (arith, each, one, ap (λ (s : TreeWalkState). length s.front) is, length-append t.front (m ∷ []))
 
-  -- a move played to a word counts as one push and keeps the search's order and class
+  -- a move played to a word counts as one push and keeps the walk's order and class
   pub played_stays : (steps then : ℕ) → then ≡ steps + 1 → StaysOf t u steps then
-  played_stays steps then one = stays_one t u steps then (ap (λ (s : SearchState). s.order) is) (ap (λ (s : SearchState). s.class) is)
-      (ap (λ (s : SearchState). s.pushes) is) one
+  played_stays steps then one = stays_one t u steps then (ap (λ (s : TreeWalkState). s.order) is) (ap (λ (s : TreeWalkState). s.class) is)
+      (ap (λ (s : TreeWalkState). s.pushes) is) one
 
 -- where as many squares hang, it is there
 pub is_there : (n : ℕ) (front : Word) (number : ℕ) → GoesToWord n front number → n ≤ order_of front → IsAtNumber n front number

@@ -1,4 +1,4 @@
--- A leap: the search goes from a place to the least word of a member that isn't before it, and the words that it pushes on the way are met.
+-- A leap: the walk goes from a place to the least word of a member that isn't before it, and the words that it pushes on the way are met.
 use Rattle.std.specs.declared.cmp.Ordering.{Ordering}
 use Rattle.std.specs.declared.cmp.Ordering.TheVariants.{Equal, Greater, Less}
 use Rattle.std.specs.Ordering.{ordering_then}
@@ -17,9 +17,10 @@ use Rattle.bk_catalogue.specs.Catalogue.{Entry, IsEntry}
 use Rattle.bk_packed.specs.ReadMoves.{IsSharedFront}
 use Rattle.bk_catalogue.proofs.TreeOfWords.Places.{before_first, before_one, front_cmp, not_before_first}
 use Rattle.bk_catalogue.specs.NextMove.{first_move}
+use Rattle.bk_laws.proofs.NumberOrder.{le_or_ge}
 use Rattle.bk_tree_walk.proofs.Advancing.{before_not_before, before_or, met_at, met_on}
-use Rattle.bk_tree_walk.proofs.SearchSteps.{fewer_at}
-use Rattle.bk_tree_walk.specs.Search.{HasPassed, IsMet, IsTreeWord, Meets}
+use Rattle.bk_tree_walk.proofs.WalkSteps.{fewer_at}
+use Rattle.bk_tree_walk.specs.TreePlace.{HasPassed, IsMet, IsTreeWord, Meets}
 
 -- a word that begins with another and goes on is behind it
 goes_behind : (w : Word) → Follows (w ++ first_move ∷ []) w
@@ -35,11 +36,8 @@ not_before_then u v w from up = cases (before_or v w)
 
 -- so many first moves are as many, or all
 long_take : (i : ℕ) (w : Word) → (length (take i w) ≡ i) ⊎ (length (take i w) ≡ length w)
-long_take i w = cases (two i (length w))
+long_take i w = cases (le_or_ge i (length w))
   where
-    two : (a b : ℕ) → (a ≤ b) ⊎ (b ≤ a)
-    two a b = grind arith
-
     cases : (i ≤ length w) ⊎ (length w ≤ i) → (length (take i w) ≡ i) ⊎ (length (take i w) ≡ length w)
     cases (inl h) = inl (length-take-le i w h)
     cases (inr h) = inr (ap length (take_all i w h))
@@ -144,7 +142,7 @@ module _ (n : ℕ) (class : Class) (word : Word) (tree : IsTreeWord n word) wher
         cases Equal e = s.most (omega (arith, many, long)) rest (is ∙ ap (λ (m : Move). take moves front ++ m ∷ rest) (move_same k l e)
             ∙ sym (append_assoc (take moves front) (l ∷ []) rest) ∙ sym (ap (λ (v : Word). v ++ rest) one_more))
 
-    -- a search that leaps to a word meets it, and each word on the way
+    -- a walk that leaps to a word meets it, and each word on the way
     pub leap_meets : HasNoneUpTo (front ++ x ∷ []) → moves ≤ length front → order_of front < order_of word → (met : ℕ) → met + moves ≤ length word
         → Meets n class (front ++ x ∷ []) word met
     leap_meets none within longer met count = cases s.rest s.is

@@ -1,4 +1,4 @@
--- A leap of a search: where it takes moves back to, and that it meets the word of a member.
+-- A leap of a walk: where it takes moves back to, and that it meets the word of a member.
 use Rattle.std.proofs.Common.{ap, arith, length, subst, sym, take, ℕ, ◌+◌, ◌-◌, ◌∙◌, ◌≡◌, ◌≤◌}
 use Rattle.std.proofs.lemmas.List.{length-append, length-take-le}
 use Rattle.bk_word.specs.Play.{IsLegal}
@@ -11,10 +11,10 @@ use Rattle.bk_walk.proofs.LeapLaws.{leap_meets}
 use Rattle.bk_walk.proofs.PlaceLaws.{same_word}
 use Rattle.bk_walk.specs.Leaping.{GoesToWord, IsAtNumber, IsNextFrom}
 use Rattle.bk_tree_walk.specs.WholeWords.{IsMembersWord}
-use Rattle.bk_tree_walk.specs.Search.{IsKeptSearch, IsReady, Meets, SearchState, place_of}
+use Rattle.bk_tree_walk.specs.TreePlace.{IsKeptTreeWalk, IsReady, Meets, TreeWalkState, place_of}
 
-module _ (s : SearchState) (kept : IsKeptSearch s) (ready : IsReady s) (number : ℕ) (next : IsNextFrom s.order s.class (place_of s) number) where
-  -- the word of the entry to which the search leaps
+module _ (s : TreeWalkState) (kept : IsKeptTreeWalk s) (ready : IsReady s) (number : ℕ) (next : IsNextFrom s.order s.class (place_of s) number) where
+  -- the word of the entry to which the walk leaps
   abbrev pub leap_word : Word
   leap_word = (next.entry).word
 
@@ -24,7 +24,7 @@ module _ (s : SearchState) (kept : IsKeptSearch s) (ready : IsReady s) (number :
   leap_legal : IsLegal leap_word
   leap_legal = (entry_word s.order s.class next.entry next.is).legal
 
-  -- the moves that the search shares with the word, where they are read
+  -- the moves that the walk shares with the word, where they are read
   module _ (read : Word) (same : read ≡ s.front) (moves : ℕ) (in_read : moves ≤ length read)
       (all : (w : Word) → IsLegal w → order_of w ≤ 16 → order_of read ≤ order_of w → packed w ≡ number → IsSharedFront read w moves) where
     shared : IsSharedFront s.front leap_word moves
@@ -38,7 +38,7 @@ module _ (s : SearchState) (kept : IsKeptSearch s) (ready : IsReady s) (number :
     pub leap_goes : GoesToWord s.order (take moves s.front) number
     leap_goes = record { word = leap_word; rest = shared.rest; is = shared.is; legal = leap_legal; order = leap_order; number_is = next.number_is }
 
-    -- a search that has gone on to the number is at the word of the leap
+    -- a walk that has gone on to the number is at the word of the leap
     module _ (front : Word) (at : IsAtNumber s.order front number) where
       leap_is : leap_word ≡ front
       leap_is = same_word s.order leap_word front leap_legal at.legal leap_order at.order kept.most (next.number_is ∙ sym at.number_is)

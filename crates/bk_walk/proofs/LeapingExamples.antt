@@ -1,4 +1,4 @@
--- What is told of order 2 and the class imperfect, where the one member is the row of two squares, with the word 2e; and a step of a search there.
+-- What is told of order 2 and the class imperfect, where the one member is the row of two squares, with the word 2e; and a step of a walk there.
 use Rattle.std.proofs.Common.{[], ap, arith, lit≤, refl, subst, suc, ◌∷◌, ◌≡◌}
 use Rattle.bk_word.proofs.WordExamples.{move, two}
 use Rattle.bk_word.specs.Word.{Follows, Word}
@@ -8,8 +8,8 @@ use Rattle.bk_catalogue.proofs.Members.CatalogueExamples.{entry_is, row_entry, r
 use Rattle.bk_catalogue.proofs.Members.TwoSquares.{row_of_two}
 use Rattle.bk_catalogue.specs.NextMove.{first_move}
 use Rattle.bk_packed.specs.Packed.{packed}
-use Rattle.bk_tree_walk.proofs.SearchExamples.{meets_row, not_before_row}
-use Rattle.bk_tree_walk.specs.Search.{SearchState}
+use Rattle.bk_tree_walk.proofs.TreePlaceExamples.{meets_row, not_before_row}
+use Rattle.bk_tree_walk.specs.TreePlace.{TreeWalkState}
 use Rattle.bk_tree_walk.specs.declared.Went.TheVariants.{End, Met}
 use Rattle.bk_walk.specs.Leaping.{GoesToWord, IsAtNumber, IsLeastNumber, IsNextFrom, IsStep, Reached, Tells, TellsOfPlace}
 use Rattle.bk_walk.specs.declared.table_answer.TableAnswer.TheVariants.{Next, NoMore}
@@ -67,18 +67,18 @@ begins_with_2u = record {
   number_is = refl;
 }
 
--- a search that has played 2e is at the number of 2e
+-- a walk that has played 2e is at the number of 2e
 at_row : IsAtNumber 2 row_word (packed row_word)
 at_row = record { legal = (record { some = omega arith; signs = refl }, tt); order = refl; number_is = refl }
 
--- a search that has played 2u isn't at the number of 2e
+-- a walk that has played 2u isn't at the number of 2e
 not_at_row : IsAtNumber 2 (two Under ∷ []) (packed row_word) → ⊥
 not_at_row at = omega (arith, at.number_is)
 
 -- ---- a step
 
 -- no move is played, and the next legal one is looked for from 1 on
-abbrev begun : SearchState
+abbrev begun : TreeWalkState
 begun = record { order = 2; class = Imperfect; front = []; next = first_move; pushes = 0 }
 
 -- after one step 2e is played, and the room for a tiling has the row

@@ -2,7 +2,7 @@
 pub mod FoundMembers
 pub mod TurnedSquares
 pub mod WholeTables
-pub mod MembersExamples
+pub mod MemberTablesExamples
 pub mod FindingExamples
 -- Where a table of members stands.
 pub mod PlaceLaws

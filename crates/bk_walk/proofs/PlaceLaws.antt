@@ -1,4 +1,4 @@
--- What a table of members tells of the words from the place on where a search stands.
+-- What a table of members tells of the words from the place on where a walk stands.
 use Rattle.std.specs.Cmp.{nat_cmp_is}
 use Rattle.std.specs.declared.cmp.Ordering.TheVariants.{Equal}
 use Rattle.std.proofs.Common.{[], ap, arith, subst, sym, ℕ, ◌++◌, ◌∙◌, ◌∷◌, ◌≡◌, ◌≤◌}
@@ -15,7 +15,7 @@ use Rattle.bk_packed.proofs.PackedOrder.{packed_places_compare, packed_words_com
 use Rattle.bk_catalogue.proofs.TreeOfWords.Places.{word_same}
 use Rattle.bk_tree_walk.proofs.Advancing.{entry_word}
 use Rattle.bk_walk.specs.Leaping.{Tells, TellsOfPlace}
-use Rattle.bk_tree_walk.specs.Search.{IsKeptSearch, IsReady, SearchState, place_of}
+use Rattle.bk_tree_walk.specs.TreePlace.{IsKeptTreeWalk, IsReady, TreeWalkState, place_of}
 use Rattle.bk_walk.specs.declared.table_answer.TableAnswer.{TableAnswer}
 use Rattle.bk_walk.specs.declared.table_answer.TableAnswer.TheVariants.{Next, NoMore, Unknown}
 
@@ -42,8 +42,8 @@ module _ (n : ℕ) (class : Class) (place : Word) (legal : IsLegal place) (small
   tells_of_place NoMore none = λ e is from. none e is (of_order e is from)
   tells_of_place Unknown t = tt
 
--- what is told by the number of a search's place
-pub tells_here : (s : SearchState) (front : Word) (next : Move) (n : ℕ) (class : Class) (number : ℕ) (told : TableAnswer) → IsKeptSearch s → IsReady s
+-- what is told by the number of a walk's place
+pub tells_here : (s : TreeWalkState) (front : Word) (next : Move) (n : ℕ) (class : Class) (number : ℕ) (told : TableAnswer) → IsKeptTreeWalk s → IsReady s
     → front ≡ s.front → next ≡ s.next → n ≡ s.order → class ≡ s.class → number ≡ packed (front ++ next ∷ []) → Tells n class number told
     → TellsOfPlace s.order s.class (place_of s) told
 tells_here s front next n class number told kept ready same same_next same_order same_class is t = tells_of_place s.order s.class (place_of s)

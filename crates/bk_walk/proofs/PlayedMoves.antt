@@ -6,8 +6,7 @@ use Rattle.bk_word.specs.Outline.{IsLegalMove, Outline, has_left_wall, has_right
 use Rattle.bk_word.specs.Play.{IsLegal, outline_of}
 use Rattle.bk_word.specs.Word.{Move, Word, order_of}
 use Rattle.bk_word.proofs.StoredBytes.{order_append, order_more}
-use Rattle.bk_word.proofs.PlayLaws.{legal_rest}
-use Rattle.bk_catalogue.proofs.TreeOfWords.Ranks.{open_one}
+use Rattle.bk_word.proofs.PlayLaws.{legal_rest, side_has_one_sign_at_most}
 
 -- a legal move at its place can stand in a word
 pub legal_stands : (word : Word) (i : ℕ) (m : Move) → IsLegal word → slice_get word i ≡ Some m → CanStand m
@@ -19,7 +18,7 @@ legal_stands word i m l g =
       some = k.some;
       least = omega (arith, k.signs);
       most =
-          omega (arith, k.signs, open_one (has_left_wall o), open_one (has_right_wall o));
+          omega (arith, k.signs, side_has_one_sign_at_most (has_left_wall o), side_has_one_sign_at_most (has_right_wall o));
     }
 
 -- the moves up to a place, and the one there, hang no more squares than the word

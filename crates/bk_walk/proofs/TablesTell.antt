@@ -4,7 +4,7 @@ use Rattle.bk_word.specs.declared.Class.{Class}
 use Rattle.bk_catalogue.specs.Catalogue.{Entry, IsEntry}
 use Rattle.bk_packed.specs.Packed.{packed}
 use Rattle.bk_walk.specs.Finding.{Finding}
-use Rattle.bk_walk.specs.Members.{HasNoneFrom, IsNextNumber}
+use Rattle.bk_walk.specs.MemberTables.{HasNoneFrom, IsNextNumber}
 use Rattle.bk_walk.specs.Leaping.{IsLeastNumber}
 
 -- the least number that the table of an order and a class has

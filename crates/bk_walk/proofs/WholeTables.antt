@@ -15,7 +15,7 @@ use Rattle.bk_layout.specs.NormalImage.{IsNormalSought}
 use Rattle.bk_packed.specs.KeptNumbers.{AreAscendingNumbers, Holds, IsFirstFrom}
 use Rattle.bk_packed.specs.Packed.{packed}
 use Rattle.bk_walk.specs.Finding.{Finding, HasMet, IsMembersNumber, Wanted, wanted}
-use Rattle.bk_walk.specs.Members.{HasNoneFrom, IsMemberTable, IsNextNumber, IsWhole}
+use Rattle.bk_walk.specs.MemberTables.{HasNoneFrom, IsMemberTable, IsNextNumber, IsWhole}
 
 -- a search that has met all words that are sought holds each member
 pub whole_table : (n : ℕ) (s : Finding) → 3 ≤ n → s.order ≡ n → ((w : Word) → IsNormalSought n w → HasMet s w) → IsWhole s

@@ -1,4 +1,4 @@
--- How a search goes on where a table of members stands: to the word of the least number that isn't before its place.
+-- How a walk goes on where a table of members stands: to the word of the least number that isn't before its place.
 -- Examples (LeapingExamples): of order 2 and the class imperfect the one member has the word 2e. Its number is the
 -- least from 0 on, and its word the next from the place 2a on; behind its number, and from the place 2u on, there is no
 -- more. The number of 2u.1e leads on from 2u. From the start one step may lead to 2e, and then it meets a member.
@@ -9,7 +9,7 @@ use Rattle.bk_word.specs.Word.{Follows, Word, order_of}
 use Rattle.bk_word.specs.declared.Class.{Class}
 use Rattle.bk_catalogue.specs.Catalogue.{Entry, IsEntry}
 use Rattle.bk_packed.specs.Packed.{packed}
-use Rattle.bk_tree_walk.specs.Search.{SearchState, StaysOf, StepLeadsTo}
+use Rattle.bk_tree_walk.specs.TreePlace.{TreeWalkState, StaysOf, StepLeadsTo}
 use Rattle.bk_tree_walk.specs.declared.Went.{Went}
 use Rattle.bk_tree_walk.specs.declared.Went.TheVariants.{Met}
 use Rattle.bk_walk.specs.declared.table_answer.TableAnswer.{TableAnswer}
@@ -59,14 +59,14 @@ pub record IsAtNumber (n : ℕ) (front : Word) (number : ℕ) : Type 0 where
   pub order : order_of front ≡ n
   pub number_is : packed front ≡ number
 
--- where a search stands after a step: the search, the steps counted so far, and the room for a tiling
+-- where a walk stands after a step: the walk, the steps counted so far, and the room for a tiling
 pub record Reached : Type 0 where
-  pub tree : SearchState
+  pub tree : TreeWalkState
   pub steps : ℕ
   pub tiling : Tiling
 
--- a step of a search: where it leads, that the tiling is then the member's if it met one, and what it leaves as it is
-pub record IsStep (tree : SearchState) (steps : ℕ) (after : Reached) (went : Went) : Type 0 where
+-- a step of a walk: where it leads, that the tiling is then the member's if it met one, and what it leaves as it is
+pub record IsStep (tree : TreeWalkState) (steps : ℕ) (after : Reached) (went : Went) : Type 0 where
   pub leads : StepLeadsTo tree after.tree (after.steps - steps) went
   pub member : went ≡ Met → IsEntry tree.order tree.class (record { tiling = after.tiling; word = after.tree.front })
   pub stays : StaysOf tree after.tree steps after.steps

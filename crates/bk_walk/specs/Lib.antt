@@ -1,6 +1,6 @@
 -- What the crate says.
 pub mod Finding
-pub mod Members
+pub mod MemberTables
 pub mod WideAfter
 -- How its code keeps it.
 pub mod KeptWalk

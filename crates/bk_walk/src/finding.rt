@@ -53,7 +53,8 @@ impl<const N: usize> Model for Finder<N> {
 }
 
 impl<const N: usize> Finder<N> {
-    /// One that has met no word.
+    /// One that has met no word, for the members of `order`, at most 16, and of `class`: it will keep their packed
+    /// words that are at least `from`.
     pub fn new(order: u8, class: Class, from: u128) -> Finder<N>
         requires { order ≤ LARGEST_LISTED_ORDER }
         ensures { result ≡ record {
@@ -72,7 +73,8 @@ impl<const N: usize> Finder<N> {
         }
     }
 
-    /// Begins again as one that has met no word, in the room that it has.
+    /// Begins again as one that has met no word, in the room that it has: for the members of `order`, at most 16, and
+    /// of `class`, of which it will keep the packed words that are at least `from`.
     pub fn begin(&mut self, order: u8, class: Class, from: u128)
         requires { order ≤ LARGEST_LISTED_ORDER }
         ensures { self.new ≡ record {
@@ -204,7 +206,8 @@ pub(crate) struct Seeker<const N: usize> {
 }
 
 impl<const N: usize> Seeker<N> {
-    /// One whose finder has met no word.
+    /// One whose finder has met no word, for the members of `order`, at most 16, and of `class`, whose packed words are
+    /// at least `from`.
     pub fn new(order: u8, class: Class, from: u128) -> Seeker<N>
         requires { order ≤ LARGEST_LISTED_ORDER }
         ensures { result.finder

@@ -1,8 +1,8 @@
-//! How a search goes to the word of a member, by its number.
+//! How a walk goes to the word of a member, by its number.
 #![tactic(auto)]
 
 ghost use Rattle.std.specs.Prelude.{length, ◌+◌, ◌-◌, ◌<◌, ◌^◌, ◌≡◌};
-ghost use Rattle.bk_tree_walk.specs.Search.{IsReady, Meets, StaysOf, place_of};
+ghost use Rattle.bk_tree_walk.specs.TreePlace.{IsReady, Meets, StaysOf, place_of};
 ghost use Rattle.bk_tree_walk.specs.WholeWords.{IsMembersWord};
 ghost use Rattle.bk_walk.specs.Leaping.{GoesToWord, IsAtNumber, IsNextFrom};
 

@@ -5,7 +5,7 @@ ghost use Rattle.bk_word.specs.declared.Class.TheVariants.{Simple};
 ghost use Rattle.bk_word.specs.declared.TheConstants.{LARGEST_LISTED_ORDER};
 ghost use Rattle.bk_packed.specs.KeptNumbers.{AreAscendingNumbers};
 ghost use Rattle.bk_walk.specs.Finding.{HasMoreMembers, HasOnlyMembers};
-ghost use Rattle.bk_walk.specs.Members.{HasNoneFrom, IsNextNumber, IsWhole};
+ghost use Rattle.bk_walk.specs.MemberTables.{HasNoneFrom, IsNextNumber, IsWhole};
 
 use crate::finding::Seeker;
 use bk_free_search::search;
@@ -21,7 +21,7 @@ pub struct MemberTable<const N: usize> {
 
 impl<const N: usize> Model for MemberTable<N> {
     ghost use Rattle.bk_walk.specs.Finding.{Finding};
-    ghost use Rattle.bk_walk.specs.Members.{IsMemberTable};
+    ghost use Rattle.bk_walk.specs.MemberTables.{IsMemberTable};
 
     ghost Value = { Finding };
 

@@ -3,7 +3,7 @@
 
 ghost use Rattle.std.specs.Prelude.{IsTrue, ◌-◌, ◌≡◌};
 ghost use Rattle.bk_catalogue.specs.Catalogue.{IsEntry};
-ghost use Rattle.bk_tree_walk.specs.Search.{Finds, IsReady, StaysOf, place_of};
+ghost use Rattle.bk_tree_walk.specs.TreePlace.{Finds, IsReady, StaysOf, place_of};
 ghost use Rattle.bk_walk.specs.Leaping.{IsStep, TellsOfPlace};
 
 use crate::MemberTable;

@@ -1,12 +1,11 @@
 -- A cut by the first signs of a move: they ask for more squares than are left after it.
-use Rattle.std.proofs.Common.{List, [], ap, arith, count_by, drop, subst, take, ℕ}
+use Rattle.std.proofs.Common.{[], ap, arith, count_by, drop, subst, take, ℕ}
 use Rattle.std.proofs.Common.{◌++◌, ◌+◌, ◌-◌, ◌<◌, ◌∙◌, ◌∷◌, ◌≡◌}
 use Rattle.bk_word.specs.Outline.{Outline, start, valley_place}
 use Rattle.bk_word.specs.Play.{outline_of, signs_apart}
 use Rattle.bk_word.specs.Signs.{is_under}
 use Rattle.bk_word.specs.Word.{Move, Word, order_of}
 use Rattle.bk_word.specs.declared.Class.{Class}
-use Rattle.bk_word.specs.declared.Sign.{Sign}
 use Rattle.bk_word.proofs.StoredBytes.{order_append, order_more}
 use Rattle.bk_word.proofs.PlayLaws.{after-snoc}
 use Rattle.bk_catalogue.proofs.HangingBounds.ClosingLaws.{bound-parts, unders}
@@ -28,12 +27,6 @@ owing_cut n class front m kept room left under place p u l r over = cut_by_front
     barren other count b = too_many_to_close_is_barren n class (front ++ other ∷ [])
         (omega (arith, order_append front (other ∷ []), order_more other [], owes, count))
       where
-        before : List Sign
-        before = take (valley_place (outline_of front).signs - 1) (outline_of front).signs
-
-        behind : List Sign
-        behind = drop (valley_place (outline_of front).signs + 1) (outline_of front).signs
-
         room_is : n - order_of front - m.count - unders (drop (valley_place (outline_of front).signs + 1) (outline_of front).signs)
             < closing_bound (take (valley_place (outline_of front).signs - 1) (outline_of front).signs ++ take kept m.signs)
         room_is = subst (λ (k : ℕ). n - order_of front - m.count - unders (drop (k + 1) (outline_of front).signs)

@@ -4,11 +4,11 @@ use Rattle.std.specs.List.{AllByRecursion, AllZip}
 use Rattle.std.specs.Prelude.{pos, ◌+ℤ◌, ◌≢◌}
 use Rattle.std.proofs.Common.{Bool, List, Some, [], ap, arith, cond, false, inl, inr, length, map, nat_lt, refl, slice_get, slice_index_or}
 use Rattle.std.proofs.Common.{subst, suc, sym, true, zero, ℕ, ◌++◌, ◌+◌, ◌-◌, ◌<◌, ◌∙◌, ◌∷◌, ◌≡◌, ◌⊎◌}
+use Rattle.std.proofs.lemmas.Bool.{eq-eqb, ne_eqb}
 use Rattle.std.proofs.lemmas.Bool.Decides.{nat_tests}
 use Rattle.std.proofs.lemmas.Int.{ints}
 use Rattle.std.proofs.lemmas.List.{append_assoc, length-append, length-map}
 use Rattle.bk_laws.proofs.ZippedLists.{zip_append, zip_at, zip_length}
-use Rattle.bk_laws.proofs.NumberTests.{nat_eq-of_different, nat_eq-of_equal}
 use Rattle.bk_tiling.proofs.Rows.{Chain}
 use Rattle.bk_tiling.proofs.TilingLaws.{wide_enough}
 use Rattle.bk_tiling.specs.Column.{AreRuns, depth}
@@ -95,10 +95,10 @@ module _ (t : Tiling) (laid : List Square) (nodes : List Segment) (o : Outline) 
     where
       cases : ((p.before ≡ []) × (v.x ≡ 0)) ⊎ HasLast laid v.x p.before → AllZip (IsLevelOf sides) (left_level o bottoms) (depth_before laid v.x)
       cases (inl (none, at)) = zip_none sides (has_left_wall o) (level_of bottoms (slice_index_or o.segments (valley_place o.signs - 1) []))
-          (depth_before laid v.x) (nat_eq-of_equal (valley_place o.signs) 0 (number ∙ ap length none)) (ap (depth_before laid) at)
+          (depth_before laid v.x) (eq-eqb (valley_place o.signs) 0 (number ∙ ap length none)) (ap (depth_before laid) at)
       cases (inr h) = zip_by sides (has_left_wall o) (level_of bottoms (slice_index_or o.segments (valley_place o.signs - 1) [])) (depth_before laid v.x)
           ((h.last).level ∷ [])
-          (nat_eq-of_different (valley_place o.signs) 0 (λ e. omega (arith, number, e, before_many))) h.level (
+          (ne_eqb (valley_place o.signs) 0 (λ e. omega (arith, number, e, before_many))) h.level (
             subst (λ (k : ℕ). IsLevelOf sides (level_of bottoms (slice_index_or o.segments k [])) (h.last).level) place
                 (at_run h.front h.last (v ∷ p.after) split),
             tt,
@@ -128,11 +128,11 @@ module _ (t : Tiling) (laid : List Square) (nodes : List Segment) (o : Outline) 
           → AllZip (IsLevelOf sides) (right_level o bottoms) (depth_from t.width laid (v.x + v.width))
       cases (inl (none, at)) = zip_none sides (has_right_wall o) (level_of bottoms (slice_index_or o.segments (valley_place o.signs + 1) []))
           (depth_from t.width laid (v.x + v.width))
-          (nat_eq-of_equal (valley_place o.signs) (length o.signs) (omega (arith, number, many, ap length none)))
+          (eq-eqb (valley_place o.signs) (length o.signs) (omega (arith, number, many, ap length none)))
           (at_wall (v.x + v.width) t.width (depth laid (v.x + v.width) ∷ []) at)
       cases (inr h) = zip_by sides (has_right_wall o) (level_of bottoms (slice_index_or o.segments (valley_place o.signs + 1) []))
           (depth_from t.width laid (v.x + v.width)) ((h.first).level ∷ [])
-          (nat_eq-of_different (valley_place o.signs) (length o.signs) (λ e. omega (arith, number, many, e, ap length h.is))) h.level (
+          (ne_eqb (valley_place o.signs) (length o.signs) (λ e. omega (arith, number, many, e, ap length h.is))) h.level (
             subst (λ (k : ℕ). IsLevelOf sides (level_of bottoms (slice_index_or o.segments k [])) (h.first).level) place
                 (at_run (p.before ++ v ∷ []) h.first h.back split),
             tt,

@@ -15,7 +15,7 @@ use Rattle.bk_walk_cuts.proofs.SmallForms.{small_level, small_new}
 use Rattle.bk_walk_cuts.specs.KnownSides.{KeepsFirst}
 use Rattle.bk_walk_cuts.specs.SideForms.{level_of, new_bottoms}
 use Rattle.bk_walk_cuts.specs.SidesOfTilings.{AreSidesOf, HoldAfter, HoldFor, LaidBy}
-use Rattle.bk_walk_cuts.specs.Trace.{IsMarked, IsTraceOf, Trace}
+use Rattle.bk_walk_cuts.specs.Trace.{IsMarked, IsTraceOf}
 use Rattle.bk_walk_cuts.specs.declared.tracing.Mark.{Mark}
 use Rattle.bk_walk_cuts.proofs.Traces.{Asked, asks}
 
@@ -55,13 +55,6 @@ module _ (w : Word) (m : Move) (kept bottoms : List Form) (marks : List Mark)
 
   squares_still : (n : ℕ) → n ≤ length bottoms → take n (bottoms ++ new_bottoms (outline_of w) m bottoms) ≡ take n bottoms
   squares_still n h = take-append-le n bottoms (new_bottoms (outline_of w) m bottoms) h
-
-  Then : Trace
-  Then = record {
-    kept = kept_then;
-    bottoms = bottoms ++ new_bottoms (outline_of w) m bottoms;
-    marks = marks ++ record { equations = length kept; squares = length bottoms } ∷ [];
-  }
 
   hold_then : HoldAfter (w ++ m ∷ []) kept_then (bottoms ++ new_bottoms (outline_of w) m bottoms)
   hold_then t laid_then sides tiling p are = let a = asks w m kept bottoms begun t laid_then sides tiling p are

@@ -1,4 +1,4 @@
--- What is kept beside the moves of a search.
+-- What is kept beside the moves of a walk.
 use Rattle.std.specs.Prelude.{Bool, List}
 use Rattle.bk_word.specs.Word.{Word}
 use Rattle.bk_catalogue.specs.VerticalCut.{IsLinedWord}

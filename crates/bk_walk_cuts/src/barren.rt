@@ -18,8 +18,9 @@ use bk_catalogue::single_valleys;
 use bk_play::{Skel, open_side};
 use bk_word::{Class, Move, Sign};
 
-/// Passes over a legal move by which no member's word of the order and the class goes on, and over others of which this
-/// is as plain. False if it isn't plain; the move is then as it was.
+/// Passes over a legal move `m`, played after the moves of `lined`, by which no member's word of the order and the
+/// class goes on, and over others of which this is as plain: `m` is then the move to go on from. The move must hang no
+/// more squares than the order leaves. False if it isn't plain; the move is then as it was.
 pub fn skip(lined: &LinedSkel, class: Class, order: u8, m: &mut Move) -> bool
     requires legal { IsLegalMove (outline_of lined.now) m.old }
     requires count { m.old.count ≤ LARGEST_LISTED_ORDER }
@@ -127,7 +128,7 @@ fn is_shorter_first(skel: &Skel, m: &Move) -> bool
     m.signs.as_slice()[0].is_above()
 }
 
-/// Whether it is plain that no member's word of the order begins with these moves, in any class.
+/// Whether it is plain that no member's word of `order` begins with the moves of `lined`, in any class.
 pub fn is_barren(lined: &LinedSkel, order: u8) -> bool
     ensures { IsTrue result → (class : Class) → IsBarren order class lined.now }
 {

@@ -45,7 +45,7 @@ impl Model for LinedSkel {
 }
 
 impl LinedSkel {
-    /// The skeleton of no move, for a search of the order.
+    /// The skeleton of no move, for a walk of the order.
     pub fn new(order: u8) -> LinedSkel
         ensures { result ≡ [] }
     {
@@ -89,7 +89,7 @@ impl LinedSkel {
         self.lines.truncate(self.skel.order());
     }
 
-    /// Takes moves back until so many are left. From then on the sides are followed no further: it is for a search that
+    /// Takes moves back until so many are left. From then on the sides are followed no further: it is for a walk that
     /// knows the next member's word, or that there is none, and so asks no cut of the moves that it plays.
     pub fn shorten(&mut self, moves: usize)
         requires { moves ≤ length self.old }

@@ -1,4 +1,4 @@
-//! Which move comes next at a state. A search of the orders up to 16 meets moves of at most 17 squares and 18 signs.
+//! Which move comes next at a state. A walk of the orders up to 16 meets moves of at most 17 squares and 18 signs.
 #![tactic(auto)]
 
 ghost use Rattle.std.specs.Prelude.{IsTrue, None, Some, [], false, length, ◌+◌, ◌<◌, ◌≡◌, ◌≤◌};
@@ -51,7 +51,8 @@ fn raise(signs: &mut ArrayVec<Sign, MOST_SIGNS>) -> bool
     false
 }
 
-/// Makes of the move the next after all of its count whose signs begin with its own.
+/// Makes of `m` the move that is next after all of its count whose signs begin with its own. It must have at most 17
+/// squares and 18 signs.
 pub fn next_move(m: &mut Move)
     requires count { m.old.count ≤ LARGEST_LISTED_ORDER + 1 }
     requires signs { length m.old.signs ≤ LARGEST_LISTED_ORDER + 2 }
@@ -86,7 +87,8 @@ fn pad(m: &mut Move, sides: usize)
     }
 }
 
-/// Makes of the move the least legal one that isn't before it, at a valley with so many open sides.
+/// Makes of `m` the least legal move that isn't before it, at a valley of which `sides` sides, 2 at most, are no walls.
+/// It must have 1 to 17 squares, and at most 18 signs.
 pub fn least_legal_from(m: &mut Move, sides: usize)
     requires some { 0 < m.old.count }
     requires count { m.old.count ≤ LARGEST_LISTED_ORDER + 1 }

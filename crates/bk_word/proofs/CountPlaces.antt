@@ -155,10 +155,10 @@ popped bytes w k s is within some h behind =
         ap (λ (k : ℕ). take k (v ++ m ∷ [])) n ∙ take-append_seam v (m ∷ [])
 
 -- the move whose count stands at a place
-pub got : (bytes : List ℕ) (w : Word) (i k : ℕ) → IsStoredWord bytes → word_in bytes ≡ w → k < length bytes → is_count (get_or bytes k 0) ≡ true
+pub move_of_count_place : (bytes : List ℕ) (w : Word) (i k : ℕ) → IsStoredWord bytes → word_in bytes ≡ w → k < length bytes → is_count (get_or bytes k 0) ≡ true
     → word_in (drop k bytes) ≡ drop i (word_in bytes)
     → drop i w ≡ move_of (get_or bytes k 0) (drop (k + 1) bytes) ∷ word_in (drop (k + 1) bytes)
-got bytes w i k s is within h behind = ap (λ (v : Word). drop i v) (sym is) ∙ sym behind ∙ count_here bytes k within h
+move_of_count_place bytes w i k s is within h behind = ap (λ (v : Word). drop i v) (sym is) ∙ sym behind ∙ count_here bytes k within h
 
 -- the count at the place where move i begins, with the signs behind it, is that move
 pub got_move : (S B : List ℕ) (w : Word) (i k : ℕ) (signs : List Sign) → S ≡ B → IsStoredWord B → word_in B ≡ w → k < length S
@@ -167,7 +167,7 @@ pub got_move : (S B : List ℕ) (w : Word) (i k : ℕ) (signs : List Sign) → S
 got_move S B w i k signs same s is within h behind e =
     let word : word_in S ≡ w = ap word_in same ∙ is in
     let read : signs ≡ leading_signs (drop (k + 1) S) = e ∙ ap leading_signs (take_rest S (k + 1)) in
-    first_dropped w i _ _ (got S w i k (subst IsStoredWord (sym same) s) word within h behind)
+    first_dropped w i _ _ (move_of_count_place S w i k (subst IsStoredWord (sym same) s) word within h behind)
     ∙ (λ j. Some (record { count = get_or S k 0; signs = sym read j }))
 
 -- what is left of a word without its last move

@@ -33,13 +33,19 @@ legal-snoc o (n ∷ w) m legal last = (legal.0, legal-snoc (after_move o n) w m 
 pub legal-last : (o : Outline) (w : Word) (m : Move) → AreLegalFrom o (w ++ m ∷ []) → IsLegalMove (after_moves o w) m
 legal-last o w m legal = (legal_rest o w (m ∷ []) legal).0
 
+-- a side of the valley has at most one sign
+pub side_has_one_sign_at_most : (wall : Bool) → open_side wall ≤ 1
+side_has_one_sign_at_most true = omega arith
+side_has_one_sign_at_most false = omega arith
+
 -- a legal move has at most one sign more than squares
 pub at_most_one_sign_more_than_squares : (o : Outline) (m : Move) → IsLegalMove o m → length m.signs ≤ m.count + 1
-at_most_one_sign_more_than_squares o m legal = omega (arith, legal.signs, one (has_left_wall o), one (has_right_wall o))
-  where
-    one : (b : Bool) → open_side b ≤ 1
-    one true = omega arith
-    one false = omega arith
+at_most_one_sign_more_than_squares o m legal = omega (
+  arith,
+  legal.signs,
+  side_has_one_sign_at_most (has_left_wall o),
+  side_has_one_sign_at_most (has_right_wall o),
+)
 
 -- a legal word has at most as many moves as squares
 pub moves_many : (o : Outline) (w : Word) → AreLegalFrom o w → length w ≤ order_of w

@@ -27,13 +27,13 @@ behind_signs w m [] some = absurd (omega arith)
 behind_signs w m (s ∷ ss) some = refl
 
 -- what was read leads to where the reader stands
-pub leads : (r : Reading) (x : List ℕ) → CanBeRead r → word_read_from (spelled r ++ x) (Before []) ≡ word_read_from x r
-leads (Before w) x can = dotted_leads [] w x can
-leads (Count w c) x can =
+pub spelled_leads_to_reading : (r : Reading) (x : List ℕ) → CanBeRead r → word_read_from (spelled r ++ x) (Before []) ≡ word_read_from x r
+spelled_leads_to_reading (Before w) x can = dotted_leads [] w x can
+spelled_leads_to_reading (Count w c) x can =
     ap (λ (z : List ℕ). word_read_from z (Before [])) (append_assoc (dotted w) (decimal c) x)
     ∙ dotted_leads [] w (decimal c ++ x) can.0
     ∙ count_read w c x can.1.0 can.1.1
-leads (Signs w m) x can =
+spelled_leads_to_reading (Signs w m) x can =
     ap (λ (z : List ℕ). word_read_from z (Before [])) (append_assoc (dotted w) (move_text m) x)
     ∙ dotted_leads [] w (move_text m ++ x) can.0
     ∙ move_read w m x can.1.0 can.1.1 can.3

@@ -80,13 +80,14 @@ order_append v w = sum_by-append (λ (k : Move). k.count) v w
 pub order_one : (w : Word) (m : Move) → order_of (w ++ m ∷ []) ≡ order_of w + m.count
 order_one w m = omega (arith, order_append w (m ∷ []), order_more m [])
 
--- a move of n squares has at most 3 n bytes, and so has a word
-pub short : (w : Word) → AllByRecursion (λ (m : Move). (0 < m.count) × (length m.signs ≤ m.count + 1)) w → length (stored w) ≤ 3 * order_of w
-short [] all = omega arith
-short (m ∷ w) all =
+-- a word whose moves hang squares, and have at most one sign more than squares, is stored in at most three bytes a square
+pub stored-le_three_times_order : (w : Word) → AllByRecursion (λ (m : Move). (0 < m.count) × (length m.signs ≤ m.count + 1)) w
+    → length (stored w) ≤ 3 * order_of w
+stored-le_three_times_order [] all = omega arith
+stored-le_three_times_order (m ∷ w) all =
     let bytes : length (stored_move m ++ stored w) ≡ length (stored_move m) + length (stored w) = length-append (stored_move m) (stored w) in
     let signs : length (map sign_byte m.signs) ≡ length m.signs = length-map m.signs sign_byte in
-    omega (arith, bytes, signs, short w all.1, all.0.0, all.0.1, order_more m w)
+    omega (arith, bytes, signs, stored-le_three_times_order w all.1, all.0.0, all.0.1, order_more m w)
 
 -- each move that can stand hangs a square, and has at most one sign more than squares
 pub standing : (w : Word) → AllByRecursion CanStand w → AllByRecursion (λ (m : Move). (0 < m.count) × (length m.signs ≤ m.count + 1)) w
@@ -96,7 +97,7 @@ standing (m ∷ w) all = ((all.0.some, all.0.most), standing w all.1)
 -- a stored word has at most three bytes a square
 pub kept_short : (bytes : List ℕ) → IsStoredWord bytes → length bytes ≤ 3 * order_of (word_in bytes)
 kept_short bytes s = subst (λ (z : List ℕ). length z ≤ 3 * order_of (word_in bytes)) (sym s.same)
-    (short (word_in bytes) (standing (word_in bytes) s.kept.moves))
+    (stored-le_three_times_order (word_in bytes) (standing (word_in bytes) s.kept.moves))
 
 -- a word of moves that can stand, with one more of them
 pub all_can_stand_with_one_move_more : (w : Word) (m : Move) → AllByRecursion CanStand w → CanStand m → AllByRecursion CanStand (w ++ m ∷ [])

@@ -15,10 +15,10 @@ use Rattle.bk_word.specs.declared.reader.ByteKind.TheVariants.{Digit, Dot, Lette
 use Rattle.bk_word.specs.declared.reader.Place.{Place}
 use Rattle.bk_word.specs.declared.reader.Place.TheVariants.{BeforeCount, InCount, InSigns}
 use Rattle.bk_word.specs.declared.reading.Taken.{Taken}
-use Rattle.bk_word.proofs.StoredBytes.{short}
+use Rattle.bk_word.proofs.StoredBytes.{stored-le_three_times_order}
 use Rattle.bk_word.proofs.WordsRead.{ended_word, word_read_from, text_is_read}
 use Rattle.bk_word.proofs.WordsSpelled.{CanBeRead, further_is_spelled, spelled, text_found}
-use Rattle.bk_word.proofs.ReadSoFar.{begins, leads}
+use Rattle.bk_word.proofs.ReadSoFar.{begins, spelled_leads_to_reading}
 
 -- ---- the place goes along with what was read
 
@@ -110,9 +110,10 @@ word_progress_to_the_next_place bs i p next t more within g e keeps =
     }
 
 -- a byte behind which there is no place begins no rest of a text
-pub stops : (bs : List ℕ) (i : ℕ) (p : Place) (t : Taken) → i < length bs → Progress (take i bs) p t → next_word_place p (word_kind_of (get_or bs i 0)) ≡ None
+pub no_word_behind_stop : (bs : List ℕ) (i : ℕ) (p : Place) (t : Taken) → i < length bs → Progress (take i bs) p t
+    → next_word_place p (word_kind_of (get_or bs i 0)) ≡ None
     → IsNoWordText bs i
-stops bs i p t within g e =
+no_word_behind_stop bs i p t within g e =
     let none : step g.r (word_kind_of (get_or bs i 0)) ≡ None =
     from_none (step g.r (word_kind_of (get_or bs i 0))) (steps_place g.r (word_kind_of (get_or bs i 0)) g.can
     ∙ ap (λ (q : Place). next_word_place q (word_kind_of (get_or bs i 0))) (sym g.place) ∙ e) in
@@ -122,7 +123,7 @@ stops bs i p t within g e =
     no_more x none (w, text) =
         let found : word_read_from (take i bs ++ get_or bs i 0 ∷ x) (Before []) ≡ Some w = text_is_read (take i bs ++ get_or bs i 0 ∷ x) w text in
         let led : word_read_from (take i bs ++ get_or bs i 0 ∷ x) (Before []) ≡ word_read_from (get_or bs i 0 ∷ x) g.r =
-        ap (λ (z : List ℕ). word_read_from (z ++ get_or bs i 0 ∷ x) (Before [])) (sym g.spells) ∙ leads g.r (get_or bs i 0 ∷ x) g.can in
+        ap (λ (z : List ℕ). word_read_from (z ++ get_or bs i 0 ∷ x) (Before [])) (sym g.spells) ∙ spelled_leads_to_reading g.r (get_or bs i 0 ∷ x) g.can in
         let stuck : word_read_from (get_or bs i 0 ∷ x) g.r ≡ None = ap (λ (o : Option Reading). option_and_then (word_read_from x) o) none in
         absurd (cc)
 
@@ -140,7 +141,7 @@ no_word_text_where_bytes_end_early bs p t g e =
         let found : word_read_from bs (Before []) ≡ Some w = text_is_read bs w text in
         let led : word_read_from bs (Before []) ≡ ended_word g.r =
         ap (λ (z : List ℕ). word_read_from z (Before [])) (sym g.spells ∙ sym (append-nil (spelled g.r)))
-        ∙ leads g.r [] g.can in
+        ∙ spelled_leads_to_reading g.r [] g.can in
         let stuck : ended_word g.r ≡ None = no_end g.r (ap may_end (sym g.place) ∙ e) in
         absurd (cc)
 
@@ -176,4 +177,4 @@ taken_short (Signs w m) can = one_short w m (all_short w can.0) can.1.0 can.3
 pub at_most_600_bytes_for_200_squares : (front : List ℕ) (p : Place) (t : Taken) → Progress front p t → t.order ≤ 200 → length t.bytes.items ≤ 600
 at_most_600_bytes_for_200_squares front p t g few =
     let order : order_of (taken g.r) ≤ 200 = omega (arith, few, g.keeps.order) in
-    omega (arith, short (taken g.r) (taken_short g.r g.can), ap (λ (z : List ℕ). length z) (g.keeps.bytes order), order)
+    omega (arith, stored-le_three_times_order (taken g.r) (taken_short g.r g.can), ap (λ (z : List ℕ). length z) (g.keeps.bytes order), order)

@@ -76,8 +76,8 @@ either true one two b yes' no' = yes' refl
 either false one two b yes' no' = no'
 
 -- a byte is the one that its kind stands for
-pub means : (b : ℕ) → Means (word_kind_of b) b
-means b =
+pub byte_means_its_kind : (b : ℕ) → Means (word_kind_of b) b
+byte_means_its_kind b =
     either (nat_le 48 b && nat_le b 57) (Digit (b - 48)) _ b (λ h. digit_byte-from_test b h) (
     either (b == 97) (Letter Above) _ b (λ h. eqb-true b 97 h) (
     either (b == 101) (Letter Even) _ b (λ h. eqb-true b 101 h) (
@@ -154,7 +154,7 @@ one_further (Signs w m) Other b can is = tt
 
 -- what is read with a further byte is spelled by the bytes before and that byte
 pub further_is_spelled : (r next : Reading) (b : ℕ) → CanBeRead r → step r (word_kind_of b) ≡ Some next → Further r next b
-further_is_spelled r next b can e = subst (λ (o : Option Reading). FurtherBy o r b) e (one_further r (word_kind_of b) b can (means b))
+further_is_spelled r next b can e = subst (λ (o : Option Reading). FurtherBy o r b) e (one_further r (word_kind_of b) b can (byte_means_its_kind b))
 
 -- ---- where a word may end, and where it goes on
 

@@ -133,20 +133,11 @@ few_signs (x ∷ y ∷ xs) h = absurd (omega arith)
 bound_without : (signs : List Sign) → closing_bound signs ≤ 1 + closing_bound (take (valley_place signs - 1) signs ++ drop (valley_place signs + 1) signs)
 bound_without signs = cases a.behind
   where
-    p : ℕ
-    p = valley_place signs
-
     a : AroundValley signs
     a = around_valley signs
 
     l : LastSign signs (valley_place signs)
     l = last_sign signs (valley_place signs)
-
-    front : List Sign
-    front = take (valley_place signs - 1) signs
-
-    back : List Sign
-    back = drop (valley_place signs + 1) signs
 
     whole : closing_bound signs ≡ max (closing_bound (take (valley_place signs) signs) + unders (drop (valley_place signs) signs))
         (aboves (take (valley_place signs) signs) + closing_bound (drop (valley_place signs) signs))

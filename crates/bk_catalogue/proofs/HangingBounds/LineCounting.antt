@@ -56,9 +56,6 @@ module _ (signs : List Sign) (sizes ends : List ℕ) (lines : List Bool) (long :
     mark = list_any (on_line lines) (take (slice_index_or sizes i 0) (drop start ends)) || begins_on_line lines
         (take (slice_index_or sizes (i + 1) 0) (drop (start + slice_index_or sizes i 0) ends))
 
-    behind : List (List ℕ)
-    behind = segments_of (drop (i + 1) sizes) (drop (start + slice_index_or sizes i 0) ends)
-
     first_behind : next_on_line lines (segments_of (drop (i + 1) sizes) (drop (slice_index_or sizes i 0) (drop start ends)))
         ≡ begins_on_line lines (take (slice_index_or sizes (i + 1) 0) (drop (start + slice_index_or sizes i 0) ends))
     first_behind = λ j. next_on_line lines (segments_of (sizes_next j) (drop-drop (slice_index_or sizes i 0) start ends j))

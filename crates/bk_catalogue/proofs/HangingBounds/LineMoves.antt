@@ -72,9 +72,6 @@ module _ (lines later : List Bool) (keeps : (q : ℕ) → on_line lines q ≡ tr
       next : suc j + 1 ≡ suc (suc j)
       next = omega arith
 
-      g : Sign
-      g = slice_index_or signs j Even
-
       signs_are : drop j signs ≡ slice_index_or signs j Even ∷ drop (suc j) signs
       signs_are = drop-cons signs j Even few
 

@@ -3,7 +3,7 @@ use Rattle.std.proofs.Common.{Bool, List, [], ap, arith, drop, false, filter, in
 use Rattle.std.proofs.Common.{zero, ℕ, ◌++◌, ◌+◌, ◌-◌, ◌<◌, ◌∷◌, ◌≡◌, ◌≤◌, ◌⊎◌}
 use Rattle.std.proofs.lemmas.Bool.Decides.{nat_tests}
 use Rattle.std.proofs.lemmas.List.{length-append, length-drop, length-map, length-take}
-use Rattle.std.proofs.lemmas.Bool.{cases_lt}
+use Rattle.std.proofs.lemmas.Bool.{cases_lt, false≢true}
 use Rattle.bk_laws.proofs.ListParts.{drop-cons_one_more}
 use Rattle.bk_word.specs.Outline.{IsLegalMove, Outline, has_right_wall, open_side, sizes_of, valley_of, valley_place}
 use Rattle.bk_word.specs.Play.{after_move, before_first_list, joined, new_squares, parts}
@@ -45,10 +45,7 @@ pub grown_is_more : (b : Bool) (x : List ℕ) (signs : List Sign) (segments : Li
 grown_is_more b x signs segments = omega (arith, first_grown x signs segments, low_is_more b signs (before_first_list x segments))
 
 no_part : (A : Type 0) → parts Even ≡ true → A
-no_part A e = absurd (clash e)
-  where
-    clash : false ≡ true → ⊥
-    clash f = cc
+no_part A e = absurd (false≢true e)
 
 -- nothing is joined where no sign is even
 joined_parted : (signs : List Sign) (segments : List (List ℕ)) → AllPart signs → joined signs segments ≡ segments
@@ -104,12 +101,6 @@ parted_behind (s ∷ signs) (suc k) p = parted_behind signs k p.1
 module _ (o : Outline) (m : Move) (legal : IsLegalMove o m) (shape : Shaped o) where
   p : ℕ
   p = valley_place o.signs
-
-  front : List Sign
-  front = take (valley_place o.signs - 1) o.signs ++ m.signs
-
-  new : List (List ℕ)
-  new = take (valley_place o.signs) o.segments ++ map (λ q. q ∷ []) (new_squares o m)
 
   -- a side is open where its place isn't the wall's
   pub wall_test : (a b : ℕ) → (a ≡ b → open_side (nat_eq a b) ≡ 0) × ((a ≡ b → ⊥) → open_side (nat_eq a b) ≡ 1)

@@ -2,8 +2,8 @@
 use Rattle.std.specs.Cmp.Lexicographic.{nat_list_cmp_total, slice_cmp}
 use Rattle.std.specs.Ordering.{is_le, nat_cmp, ordering_reverse}
 use Rattle.std.specs.declared.cmp.Ordering.TheVariants.{Less}
-use Rattle.std.proofs.Common.{ap, arith, false, inl, inr, sym, true, ◌<◌, ◌∙◌, ◌≡◌, ◌≤◌, ◌⊎◌}
-use Rattle.std.proofs.lemmas.Bool.{cases_lt}
+use Rattle.std.proofs.Common.{ap, arith, inl, inr, sym, ◌<◌, ◌∙◌, ◌≡◌, ◌≤◌, ◌⊎◌}
+use Rattle.std.proofs.lemmas.Bool.{cases_lt, false≢true}
 use Rattle.bk_tiling.specs.Tiling.{Tiling}
 use Rattle.bk_code.specs.Code.{code_of, flat}
 use Rattle.bk_sym.proofs.FirstSide.{HasHead, shorter_is_less, top_left_first, turned_first}
@@ -14,10 +14,7 @@ use Rattle.bk_sym.specs.Image.{image, image_square}
 use Rattle.bk_catalogue.specs.CanonicalCorners.{CornersAreNoLonger}
 
 not_at_most : (t u : Tiling) → slice_cmp nat_cmp (flat (code_of t)) (flat (code_of u)) ≡ Less → IsAtMost u t → ⊥
-not_at_most t u less most = clash (ap is_le (sym (nat_list_cmp_total.antisymm (flat (code_of u)) (flat (code_of t)) ∙ ap ordering_reverse less)) ∙ most)
-  where
-    clash : false ≡ true → ⊥
-    clash e = cc
+not_at_most t u less most = false≢true (ap is_le (sym (nat_list_cmp_total.antisymm (flat (code_of u)) (flat (code_of t)) ∙ ap ordering_reverse less)) ∙ most)
 
 -- the law: else an image would have a greater list of sides
 pub corners_are_no_longer : CornersAreNoLonger

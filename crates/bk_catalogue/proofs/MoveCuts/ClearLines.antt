@@ -2,7 +2,7 @@
 use Rattle.std.specs.List.{AllByRecursion, AllZip}
 use Rattle.std.proofs.Common.{Bool, List, Some, [], ap, arith, drop, false, inl, inr, length, map, nat_eq, refl, replicate, slice_get}
 use Rattle.std.proofs.Common.{slice_index_or, subst, suc, sym, take, true, zero, ℕ, ◌++◌, ◌+◌, ◌-◌, ◌<◌, ◌∙◌, ◌∷◌, ◌≡◌, ◌≤◌, ◌⊎◌}
-use Rattle.std.proofs.lemmas.Bool.Decides.{nat_tests}
+use Rattle.std.proofs.lemmas.Bool.{eqb-true}
 use Rattle.std.proofs.lemmas.List.{length-append, length-replicate}
 use Rattle.bk_laws.proofs.ZippedLists.{zip_length}
 use Rattle.bk_laws.proofs.ListPlaces.{get_after, get_back}
@@ -33,15 +33,6 @@ use Rattle.bk_catalogue.proofs.MoveCuts.ClearSegments.{each_joined, each_number,
 module _ (t : Tiling) (laid : List Square) (nodes : List Segment) (o : Outline) (lines : List Bool) (v : Segment) (tiling : IsTiling t)
     (a : Along t laid nodes o) (long : length lines ≡ length laid)
     (clear : Each (IsClear laid lines) o.segments) (found : IsLeftmostValley t.width laid v) (low : v.level < t.height) where
-  new : List Square
-  new = squares_under t v
-
-  first : Bool
-  first = nat_eq (length o.closed) 0
-
-  added : List Bool
-  added = begins_on_line lines (valley_of o) ∷ replicate (length (squares_under t v) - 1) (nat_eq (length o.closed) 0)
-
   chain : Chain v.x (squares_under t v) (v.x + v.width)
   chain = under_chain t laid v tiling a.fills found low
 
@@ -98,12 +89,9 @@ module _ (t : Tiling) (laid : List Square) (nodes : List Segment) (o : Outline) 
   nothing_laid : nat_eq (length o.closed) 0 ≡ true → laid ≡ []
   nothing_laid e = cases a.begun
     where
-      none : (n : ℕ) → nat_eq n 0 ≡ true → n ≡ 0
-      none n f = grind (arith, nat_tests)
-
       cases : NotBegun laid nodes o ⊎ HasBegun t laid nodes o → laid ≡ []
       cases (inl n) = n.no_square
-      cases (inr b) = absurd (omega (arith, none (length o.closed) e, ap length b.closed_are))
+      cases (inr b) = absurd (omega (arith, eqb-true (length o.closed) 0 e, ap length b.closed_are))
 
   new_clear : (i : ℕ) → i < length (squares_under t v) → (s : Square) → slice_get (squares_under t v) i ≡ Some s
       → slice_index_or (begins_on_line lines (valley_of o) ∷ replicate (length (squares_under t v) - 1) (nat_eq (length o.closed) 0)) i false ≡ true

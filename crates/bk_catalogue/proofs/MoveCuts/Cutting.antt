@@ -85,9 +85,6 @@ module _ (n : ℕ) (t : Tiling) (front rest : Word) (tiling : IsTiling t) (order
     level.1 q.x (wide_of q (laid_in q h)),
   )
 
-  part : Rectangle
-  part = record { x = 0; y = 0; width = t.width; height = level.0 }
-
   within : (q : Square) → IsOneOf q r.laid → IsWithin (record { x = 0; y = 0; width = t.width; height = level.0 }) q
   within q h = record {
     left = omega arith;

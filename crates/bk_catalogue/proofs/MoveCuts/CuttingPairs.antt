@@ -5,7 +5,7 @@ use Rattle.std.proofs.Common.{Bool, Contains, List, [], ap, arith, drop, false, 
 use Rattle.std.proofs.Common.{take, true, zero, ℕ, ◌++◌, ◌+◌, ◌-◌, ◌<◌, ◌∙◌, ◌∷◌, ◌≡◌, ◌≤◌, ◌⊎◌}
 use Rattle.std.proofs.lemmas.Bool.Decides.{nat_tests}
 use Rattle.std.proofs.lemmas.List.Elements.{recursion_from_All}
-use Rattle.std.proofs.lemmas.Bool.{cases_lt}
+use Rattle.std.proofs.lemmas.Bool.{cases_lt, eq-eqb}
 use Rattle.std.proofs.lemmas.List.{append_assoc, length-append, length-map}
 use Rattle.bk_tiling.proofs.Cells.{covers_from}
 use Rattle.bk_tiling.proofs.Rows.{Chain}
@@ -66,12 +66,6 @@ own_signs_are t laid nodes o v tiling d found some = cases (subst (λ (w : Segme
     bs : List ℕ
     bs = map (λ q. q.y + q.s) (squares_under t v)
 
-    df : List ℕ
-    df = depth_from t.width laid (v.x + v.width)
-
-    zeroth : (a : ℕ) → a ≡ 0 → nat_eq a 0 ≡ true
-    zeroth a e = grind (arith, nat_tests)
-
     later : (a : ℕ) → 0 < a → nat_eq a 0 ≡ false
     later a e = grind (arith, nat_tests)
 
@@ -90,7 +84,7 @@ own_signs_are t laid nodes o v tiling d found some = cases (subst (λ (w : Segme
 
     cases : ((p.before ≡ []) × (v.x ≡ 0)) ⊎ HasLast laid v.x p.before
         → own_signs o (move_under t laid v) ≡ signs_between (map (λ q. q.y + q.s) (squares_under t v))
-    cases (inl (none, at)) = by true [] (zeroth (valley_place o.signs) (number ∙ ap length none)) (ap (depth_before laid) at)
+    cases (inl (none, at)) = by true [] (eq-eqb (valley_place o.signs) 0 (number ∙ ap length none)) (ap (depth_before laid) at)
         ∙ take_signs (map (λ q. q.y + q.s) (squares_under t v)) (depth_from t.width laid (v.x + v.width))
     cases (inr h) = by false ((h.last).level ∷ [])
         (later (valley_place o.signs) (omega (arith, number, ap length h.is, length-append h.front (h.last ∷ [])))) h.level

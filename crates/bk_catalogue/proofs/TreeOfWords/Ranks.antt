@@ -1,17 +1,18 @@
--- A number for each word of few and short moves, which rises with the word, so that a search ends.
+-- A number for each word of few and short moves, which rises with the word, so that a walk ends.
 use Rattle.std.specs.Cmp.Lexicographic.{slice_cmp}
 use Rattle.std.specs.List.{AllByRecursion}
 use Rattle.std.specs.Ordering.{ordering_then}
 use Rattle.std.specs.declared.cmp.Ordering.{Ordering}
 use Rattle.std.specs.declared.cmp.Ordering.TheVariants.{Equal, Greater, Less}
-use Rattle.std.proofs.Common.{Bool, List, [], ap, arith, false, inl, inr, length, map, refl, suc, sym, true, zero, ℕ, ◌*◌, ◌++◌, ◌+◌, ◌-◌, ◌<◌, ◌∙◌}
+use Rattle.std.proofs.Common.{List, [], ap, arith, inl, inr, length, map, refl, suc, sym, zero, ℕ, ◌*◌, ◌++◌, ◌+◌, ◌-◌, ◌<◌, ◌∙◌}
 use Rattle.std.proofs.Common.{◌∷◌, ◌≡◌, ◌≤◌}
 use Rattle.std.proofs.Math.Nat.{mul-le-mul_right}
 use Rattle.std.proofs.lemmas.List.{length-append}
 use Rattle.bk_laws.proofs.AllOfLists.{all_append}
 use Rattle.bk_laws.proofs.Powers.{power, some_power}
 use Rattle.bk_laws.proofs.Orderings.{eq-from_equal_is_nat_cmp, greater-is_not_less, lt-from_nat_cmp}
-use Rattle.bk_word.specs.Outline.{Outline, has_left_wall, has_right_wall, open_side, start}
+use Rattle.bk_word.proofs.PlayLaws.{side_has_one_sign_at_most}
+use Rattle.bk_word.specs.Outline.{Outline, has_left_wall, has_right_wall, start}
 use Rattle.bk_word.specs.Play.{AreLegalFrom, IsLegal, after_move}
 use Rattle.bk_word.specs.Word.{Follows, Move, Word, move_cmp, order_of, sign_cmp, sign_place}
 use Rattle.bk_word.specs.declared.Sign.{Sign}
@@ -134,11 +135,6 @@ pub record IsSmallWord (k : ℕ) (w : Word) : Type 0 where
   pub moves : AllByRecursion IsSmallMove w
   pub few : length w ≤ k
 
--- a side asks for at most one sign
-pub open_one : (b : Bool) → open_side b ≤ 1
-open_one true = omega arith
-open_one false = omega arith
-
 -- legal words of few squares have small moves
 pub small_from : (o : Outline) (w : Word) (k : ℕ) → AreLegalFrom o w → order_of w ≤ k → k ≤ 16 → IsSmallWord k w
 small_from o [] k l h b = record { moves = tt; few = omega arith }
@@ -150,7 +146,7 @@ small_from o (m ∷ w) k l h b = onto (small_from (after_move o m) w (k - m.coun
         record {
           count = omega (arith, order_more m w);
           signs =
-              omega (arith, order_more m w, open_one (has_left_wall o), open_one (has_right_wall o));
+              omega (arith, order_more m w, side_has_one_sign_at_most (has_left_wall o), side_has_one_sign_at_most (has_right_wall o));
         },
         s.moves,
       );

@@ -9,6 +9,7 @@ use Rattle.std.proofs.Math.Nat.{mul-le-mul_right}
 use Rattle.bk_laws.proofs.Powers.{power, power-cut, power_up, some_power}
 use Rattle.bk_laws.proofs.Multiples.{power-falls_with_count, power-four_times_fits}
 use Rattle.bk_lay.proofs.WordPlay.{tiling_word_is_complete}
+use Rattle.bk_word.proofs.PlayLaws.{side_has_one_sign_at_most}
 use Rattle.bk_word.specs.Outline.{IsLegalMove, Outline, has_left_wall, has_right_wall, start}
 use Rattle.bk_word.specs.Play.{AreLegalFrom, after_move}
 use Rattle.bk_word.specs.Word.{Move, Word, move_cmp, order_of, sign_cmp, sign_place, word_cmp}
@@ -19,7 +20,6 @@ use Rattle.bk_word.proofs.StoredBytes.{order_more}
 use Rattle.bk_word.proofs.WordOrder.{move_same}
 use Rattle.bk_catalogue.specs.Catalogue.{AreAscending, Entry, IsEntry}
 use Rattle.bk_catalogue.proofs.TreeOfWords.MoveOrder.{less_to}
-use Rattle.bk_catalogue.proofs.TreeOfWords.Ranks.{open_one}
 
 -- how many lists of signs of the same length come after these
 signs_left : List Sign → ℕ
@@ -69,7 +69,7 @@ some_left n (m ∷ w) = omega (arith, some_left (n - m.count) w)
 move_below : (o : Outline) (m : Move) → IsLegalMove o m → power 3 m.count + signs_left m.signs + 1 ≤ 4 * power 3 m.count
 move_below o m legal =
     let signs = legal.signs in
-    let few : length m.signs ≤ suc m.count = omega (arith, signs, open_one (has_left_wall o), open_one (has_right_wall o)) in
+    let few : length m.signs ≤ suc m.count = omega (arith, signs, side_has_one_sign_at_most (has_left_wall o), side_has_one_sign_at_most (has_right_wall o)) in
     omega (arith, signs_below m.signs, power_up 3 (length m.signs) (suc m.count) (omega arith) few)
 
 -- what is left from a move on

@@ -1,7 +1,7 @@
 -- What is asked for with one sign more.
 use Rattle.std.proofs.Common.{Bool, List, [], ap, append_assoc, arith, cond, false, inl, inr, length, min, nat_eq, refl, slice_index_or, subst}
 use Rattle.std.proofs.Common.{sym, true, ℕ, ◌++◌, ◌+◌, ◌-◌, ◌∙◌, ◌∷◌, ◌≡◌, ◌≤◌, ◌⊎◌}
-use Rattle.std.proofs.lemmas.Bool.Decides.{nat_tests}
+use Rattle.std.proofs.lemmas.Bool.{eqb-false, eqb-true}
 use Rattle.std.proofs.lemmas.List.{get_or-map, length-append}
 use Rattle.bk_laws.proofs.ListPlaces.{get_back}
 use Rattle.bk_word.specs.Outline.{has_left_wall, open_side, sizes_of, valley_of, valley_place}
@@ -31,11 +31,8 @@ pub inside : (front : Word) (signs : List Sign) → open_side (has_left_wall (ou
     → min (valley_place (outline_of front).signs) 1 ≤ length signs
 inside front signs from = omega (arith, from, few (valley_place (outline_of front).signs) (has_left_wall (outline_of front)) refl)
   where
-    zeroth : (p : ℕ) → nat_eq p 0 ≡ true → p ≡ 0
-    zeroth p f = grind (arith, nat_tests)
-
     few : (p : ℕ) (b : Bool) → nat_eq p 0 ≡ b → min p 1 ≤ open_side b
-    few p true e = omega (arith, zeroth p e)
+    few p true e = omega (arith, eqb-true p 0 e)
     few p false e = omega arith
 
 -- the sign behind which a pass stands
@@ -157,7 +154,4 @@ module _ (front : Word) (place : ℕ) (at : place + 1 ≡ valley_place (outline_
 
 -- a valley without a wall at its left isn't the first segment
 pub left_apart : (front : Word) → has_left_wall (outline_of front) ≡ false → valley_place (outline_of front).signs ≡ 0 → ⊥
-left_apart front e z = none (valley_place (outline_of front).signs) e z
-  where
-    none : (p : ℕ) → nat_eq p 0 ≡ false → p ≡ 0 → ⊥
-    none p f g = grind (arith, nat_tests)
+left_apart front e z = eqb-false (valley_place (outline_of front).signs) 0 e z

@@ -2,15 +2,15 @@
 use Rattle.std.proofs.Common.{Bool, List, Some, [], ap, append-nil, arith, cond}
 use Rattle.std.proofs.Common.{drop, false, inl, inr, length, map, max, refl, slice_get}
 use Rattle.std.proofs.Common.{slice_index_or, subst, suc, sym, true, zero, ℕ, ◌++◌, ◌+◌, ◌-◌, ◌<◌, ◌∙◌, ◌∷◌, ◌≡◌, ◌≤◌, ◌⊎◌}
+use Rattle.std.proofs.lemmas.Bool.{eqb-true}
 use Rattle.std.proofs.lemmas.List.{drop_all, length-append}
 use Rattle.bk_laws.proofs.ListPlaces.{get_back}
-use Rattle.bk_laws.proofs.NumberTests.{eq-from_nat_eq}
 use Rattle.bk_word.specs.Outline.{IsLegalMove, Outline, has_left_wall, has_right_wall, open_side, start, valley_place}
 use Rattle.bk_word.specs.Play.{IsLegal, outline_of}
 use Rattle.bk_word.specs.Word.{Move, Word, order_of}
 use Rattle.bk_word.specs.declared.Sign.{Sign}
 use Rattle.bk_word.specs.declared.Sign.TheVariants.{Above, Even}
-use Rattle.bk_word.proofs.PlayLaws.{legal_rest}
+use Rattle.bk_word.proofs.PlayLaws.{legal_rest, side_has_one_sign_at_most}
 use Rattle.bk_word.proofs.StoredBytes.{order_append, order_more}
 use Rattle.bk_layout.proofs.NormalCuts.NextMove.{most_moves_hold_then}
 use Rattle.bk_layout.proofs.NormalCuts.StrongWords.{strong_bound_is_normal_barren, strong_weight_is_normal_barren}
@@ -20,7 +20,7 @@ use Rattle.bk_layout.specs.WordNumbers.{first_count}
 use Rattle.bk_layout.specs.StrongBound.{strong_bound_of, weight_of}
 use Rattle.bk_free_search.proofs.Asks.BehindSigns.{asked_with_all, asked_with_some, behind_marks_long}
 use Rattle.bk_free_search.proofs.NextWords.Cutting.{by_legal}
-use Rattle.bk_free_search.proofs.Asks.EvenSigns.{apart_from_own, side_few}
+use Rattle.bk_free_search.proofs.Asks.EvenSigns.{apart_from_own}
 use Rattle.bk_free_search.proofs.Asks.PassesOn.{ArePartsButLast}
 use Rattle.bk_free_search.proofs.Asks.SharedAround.{marks_behind_shared}
 use Rattle.bk_free_search.specs.Apart.{AreAsks, behind_marks, behind_signs, behind_sizes, joined_marks, wide_first}
@@ -74,7 +74,7 @@ parted front other signs s more legal are some none i low even = none (length si
       low,
       legal.signs,
       legal.some,
-      side_few (has_right_wall (outline_of front)),
+      side_has_one_sign_at_most (has_right_wall (outline_of front)),
       ap (λ (l : List Sign). length l) are,
       length-append signs (s ∷ more),
     ))
@@ -102,7 +102,7 @@ none_at_wall o marks asks wall none told = at (behind_signs o) (behind_sizes o) 
     (ap (λ (b : Bool). cond b (1 ∷ []) (map (λ (s : List ℕ). length s) (drop (valley_place o.signs + 1) o.segments))) wall) none told
   where
     place : valley_place o.signs ≡ length o.signs
-    place = eq-from_nat_eq (valley_place o.signs) (length o.signs) wall
+    place = eqb-true (valley_place o.signs) (length o.signs) wall
 
     no_signs : behind_signs o ≡ []
     no_signs = drop_all (valley_place o.signs + 1) o.signs (omega (arith, place))

@@ -2,12 +2,11 @@
 use Rattle.std.proofs.Common.{Bool, List, [], ap, arith, cond, drop, false, length, map, nat_eq, nat_le, refl, slice_index_or, subst, suc, sym, true}
 use Rattle.std.proofs.Common.{zero, ℕ, ◌||◌, ◌+◌, ◌<◌}
 use Rattle.std.proofs.Common.{◌∙◌, ◌∷◌, ◌≡◌, ◌≤◌, ◌⊎◌, inl, inr}
-use Rattle.std.proofs.lemmas.Bool.{or_left, or_right}
+use Rattle.std.proofs.lemmas.Bool.{eq-eqb, le-leb, or_left, or_right}
 use Rattle.std.proofs.lemmas.List.{drop_all, drop_more, length-map}
 use Rattle.std.proofs.lemmas.Bool.Decides.{nat_tests}
 use Rattle.bk_laws.proofs.ListParts.{drop-cons_one_more}
 use Rattle.bk_laws.proofs.ListsOfLists.{drop-map_length}
-use Rattle.bk_laws.proofs.NumberTests.{nat_le-of_le}
 use Rattle.bk_word.specs.Outline.{has_right_wall, sizes_of, valley_place}
 use Rattle.bk_word.specs.Play.{IsLegal, outline_of}
 use Rattle.bk_word.specs.Word.{Word}
@@ -71,10 +70,7 @@ asks_at_wall low w asks at a = (
 )
   where
     wall : has_right_wall (outline_of w) ≡ true
-    wall = same (valley_place (outline_of w).signs) (length (outline_of w).signs) at
-      where
-        same : (p n : ℕ) → p ≡ n → nat_eq p n ≡ true
-        same p n e = grind (arith, nat_tests)
+    wall = eq-eqb (valley_place (outline_of w).signs) (length (outline_of w).signs) at
 
 drop_marks : (top : ℕ) (lines : List Bool) (n : ℕ) (xs : List (List ℕ)) → drop n (touched_or_wide top lines xs) ≡ touched_or_wide top lines (drop n xs)
 drop_marks top lines zero xs = refl
@@ -199,7 +195,7 @@ wide_mark w place (inl e) = or_left (slice_index_or (marks_of_word w) place fals
     (outline_of w)) place 0 + 1)) e
 wide_mark w place (inr h) = or_right (slice_index_or (marks_of_word w) place false) (nat_le (first_count w) (slice_index_or (sizes_of
     (outline_of w)) place 0 + 1))
-    (nat_le-of_le (first_count w) (slice_index_or (sizes_of (outline_of w)) place 0 + 1) h)
+    (le-leb (first_count w) (slice_index_or (sizes_of (outline_of w)) place 0 + 1) h)
 
 -- a word's open segments have as many marks as sizes
 pub marks_many : (w : Word) (sizes : List ℕ) → sizes ≡ sizes_of (outline_of w) → length (marks_of_word w) ≡ length sizes

@@ -24,6 +24,7 @@ use Rattle.bk_free_search.proofs.Asks.PassesOn.{Segments, fewer_marks, goes_on, 
 use Rattle.bk_free_search.specs.Strong.{with_mark}
 use Rattle.bk_free_search.proofs.Asks.SharedMarks.{shared_long, strong_shared}
 use Rattle.bk_free_search.specs.Apart.{IsCountedTo, marks_apart, marks_of_word, sizes_apart}
+use Rattle.bk_laws.proofs.NumberOrder.{le-same_or_less, zero_or_positive}
 
 wall_side : (a b : ℕ) → a ≡ b → open_side (nat_eq a b) ≡ 0
 wall_side a b e = grind (arith, nat_tests)
@@ -33,22 +34,16 @@ no_wall a b e = grind (arith, nat_tests)
 
 -- how many sides are open
 pub left_open : (p : ℕ) → open_side (nat_eq p 0) ≡ min p 1
-left_open p = cases (two p)
+left_open p = cases (zero_or_positive p)
   where
-    two : (p : ℕ) → (p ≡ 0) ⊎ (0 < p)
-    two p = grind arith
-
     cases : (p ≡ 0) ⊎ (0 < p) → open_side (nat_eq p 0) ≡ min p 1
     cases (inl e) = omega (arith, e, wall_side p 0 e)
     cases (inr h) = omega (arith, h, no_wall p 0 (λ e. absurd (omega (arith, e, h))))
 
 -- behind place p of n signs the valley has as many open sides as signs are left, at most one
 pub right_open : (p n : ℕ) → p ≤ n → open_side (nat_eq p n) ≡ min (n - p) 1
-right_open p n within = cases (two p n within)
+right_open p n within = cases (le-same_or_less p n within)
   where
-    two : (p n : ℕ) → p ≤ n → (p ≡ n) ⊎ (p < n)
-    two p n h = grind arith
-
     cases : (p ≡ n) ⊎ (p < n) → open_side (nat_eq p n) ≡ min (n - p) 1
     cases (inl e) = omega (arith, e, wall_side p n e)
     cases (inr h) = omega (arith, h, no_wall p n (λ e. absurd (omega (arith, e, h))))

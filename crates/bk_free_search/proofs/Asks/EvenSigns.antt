@@ -1,7 +1,8 @@
 -- How many signs of a next move are even: none between its own squares, so no more than it has neighbours.
-use Rattle.std.proofs.Common.{Bool, List, Some, [], ap, append-nil, arith, cond, count_by, false, inl, inr, length, refl, slice_get, suc, sym, true}
+use Rattle.std.proofs.Common.{List, Some, [], ap, append-nil, arith, cond, count_by, inl, inr, length, refl, slice_get, suc, sym}
 use Rattle.std.proofs.Common.{zero, ℕ, ◌++◌, ◌+◌, ◌-◌, ◌<◌, ◌∙◌, ◌∷◌}
 use Rattle.std.proofs.Common.{◌≡◌, ◌≤◌, ◌⊎◌}
+use Rattle.std.proofs.lemmas.Bool.{cases_lt}
 use Rattle.std.proofs.lemmas.List.{append_assoc, length-append}
 use Rattle.std.proofs.lemmas.List.Sums.{sum_by-append}
 use Rattle.bk_word.specs.Outline.{IsLegalMove, has_left_wall, has_right_wall, open_side, start}
@@ -10,7 +11,7 @@ use Rattle.bk_word.specs.Signs.{is_even}
 use Rattle.bk_word.specs.Word.{Move, Word, order_of}
 use Rattle.bk_word.specs.declared.Sign.{Sign}
 use Rattle.bk_word.specs.declared.Sign.TheVariants.{Above, Even, Under}
-use Rattle.bk_word.proofs.PlayLaws.{legal_rest}
+use Rattle.bk_word.proofs.PlayLaws.{legal_rest, side_has_one_sign_at_most}
 use Rattle.bk_layout.proofs.FreeCuts.CutsOfTilings.{even_squares_are_free_barren}
 use Rattle.bk_layout.proofs.FreeCuts.SquaresLeft.{evens-cons, evens_most}
 use Rattle.bk_layout.specs.NormalCuts.{IsNormalBarren}
@@ -30,11 +31,8 @@ behind_get (x ∷ xs) ys i = let e : suc (length xs) + i ≡ suc (length xs + i)
 -- one more sign, which is even only where no more than so many stand there
 with_one : (s : Sign) (signs : List Sign) (b : ℕ) → count_by is_even signs ≤ b → (0 + b < length (s ∷ signs) → Some s ≡ Some Even → ⊥)
     → count_by is_even (s ∷ signs) ≤ b
-with_one s signs b rest not = cases (two (length signs) b)
+with_one s signs b rest not = cases (cases_lt (length signs) b)
   where
-    two : (x y : ℕ) → (x < y) ⊎ (y ≤ x)
-    two x y = grind arith
-
     none : (t : Sign) → (Some t ≡ Some Even → ⊥) → count_by is_even (t ∷ signs) ≡ count_by is_even signs
     none Above apart = omega (arith, evens-cons Above signs)
     none Even apart = absurd (apart refl)
@@ -49,7 +47,7 @@ evens_last : (signs : List Sign) (b : ℕ) → ((i : ℕ) → i + b < length sig
 evens_last [] b not = omega arith
 evens_last (s ∷ signs) b not = with_one s signs b (evens_last signs b (λ i low e. not (suc i) (omega (arith, low)) e)) (not 0)
 
--- where the first so many, no more than one, may be even too
+-- where of the signs only the first a, no more than one, and the last b may be even, at most a + b are
 pub evens_ends : (signs : List Sign) (a b : ℕ) → a ≤ 1 → ((i : ℕ) → a ≤ i → i + b < length signs → slice_get signs i ≡ Some Even → ⊥)
     → count_by is_even signs ≤ a + b
 evens_ends signs zero b few not = omega (arith, evens_last signs b (λ i. not i (omega arith)))
@@ -80,11 +78,6 @@ module _ (n : ℕ) (front : Word) (m : Move) where
       barren (legal_rest start front (m ∷ []) legal).0
       (λ i from to even. own_even_is_barred i from to even l w rest sound is_normal word keeps is) l w rest sound is_normal word keeps is)
 
--- a wall has no sign, and a neighbour one
-pub side_few : (b : Bool) → open_side b ≤ 1
-side_few true = omega arith
-side_few false = omega arith
-
 -- no next move has as many even signs as are needed where they are more than its neighbours
 pub next_lacks_evens : (n : ℕ) (front : Word) (evens : ℕ) → AreEvensNeeded n front evens
     → open_side (has_left_wall (outline_of front)) + open_side (has_right_wall (outline_of front)) < evens → (m : Move) → IsNormalBarren n (front ++ m ∷ [])
@@ -92,7 +85,7 @@ next_lacks_evens n front evens needed over m = apart_from_own n front m (λ lega
   arith,
   over,
   evens_ends m.signs (open_side (has_left_wall (outline_of front))) (open_side (has_right_wall (outline_of front)))
-      (side_few (has_left_wall (outline_of front))) (λ i from to even. not i from (omega (arith, to, legal.signs, legal.some)) even),
+      (side_has_one_sign_at_most (has_left_wall (outline_of front))) (λ i from to even. not i from (omega (arith, to, legal.signs, legal.some)) even),
 )))
 
 -- no next move has as many even signs as are needed where its first signs have fewer, by more than may still come
@@ -117,7 +110,7 @@ signs_lack_evens n front signs other more evens still needed some are over may =
       arith,
       may (omega (arith, legal.signs, ap length e, length-append signs (s ∷ more))),
       evens_last (s ∷ more) (open_side (has_right_wall (outline_of front))) (λ i low even. not (length signs + i)
-          (omega (arith, some, side_few (has_left_wall (outline_of front))))
+          (omega (arith, some, side_has_one_sign_at_most (has_left_wall (outline_of front))))
           (omega (arith, low, legal.signs, legal.some, ap length e, length-append signs (s ∷ more)))
           (ap (λ l. slice_get l (length signs + i)) e ∙ behind_get signs (s ∷ more) i ∙ even)),
     )

@@ -6,9 +6,9 @@ use Rattle.std.proofs.Common.{sym, true, ℕ, ◌++◌}
 use Rattle.std.proofs.Common.{◌+◌, ◌-◌, ◌<◌, ◌∙◌, ◌∷◌, ◌≡◌, ◌≤◌, ◌⊎◌}
 use Rattle.std.proofs.lemmas.Bool.{both_ways}
 use Rattle.std.proofs.lemmas.List.Sums.{count_by-le-length}
+use Rattle.std.proofs.lemmas.Option.{same_Some}
 use Rattle.bk_laws.proofs.ListPlaces.{get_after, get_append}
 use Rattle.bk_laws.proofs.ListParts.{singletons-same_item}
-use Rattle.bk_laws.proofs.Outcomes.{some-injective}
 use Rattle.bk_word.specs.Outline.{IsLegalMove, Outline, start, valley_place}
 use Rattle.bk_word.specs.Play.{IsLegal, after_move, before_first_list, joined, new_squares, numbers_from, outline_of, parts}
 use Rattle.bk_word.specs.Signs.{is_even}
@@ -52,7 +52,7 @@ record Run (signs : List Sign) (left right : List (List ℕ)) (q : ℕ) : Type 0
 
 before_first : (l : List ℕ) (lists : List (List ℕ)) (x : List ℕ) → slice_get lists 0 ≡ Some x → slice_get (before_first_list l lists) 0 ≡ Some (l ++ x)
 before_first l [] x e = absurd (cc)
-before_first l (y ∷ lists) x e = ap (λ (z : List ℕ). Some (l ++ z)) (some-injective y x e)
+before_first l (y ∷ lists) x e = ap (λ (z : List ℕ). Some (l ++ z)) (same_Some y x e)
 
 run : (signs : List Sign) (left right : List (List ℕ)) (q : ℕ) → length left ≤ 1 → length right ≤ 1 → length signs ≡ length left + length right
     → Run signs left right q
@@ -106,7 +106,7 @@ module _ (o : Outline) (v : AtValley o) (m : Move) (legal : IsLegalMove o m) (on
       cases [] f = absurd (omega (arith, some, v.place, ap length f, ap length (v.no_before f)))
       cases (l ∷ k ∷ left) f = absurd (omega (arith, (left_one o v).1, ap length f))
       cases (l ∷ []) f =
-          ap (λ (x : List ℕ). x ∷ []) (some-injective l s (sym (ap (λ (ls : List (List ℕ)). slice_get (ls ++ (v.valley ∷ (v.right ++ v.after))) 0) f)
+          ap (λ (x : List ℕ). x ∷ []) (same_Some l s (sym (ap (λ (ls : List (List ℕ)). slice_get (ls ++ (v.valley ∷ (v.right ++ v.after))) 0) f)
           ∙ sym (get_after v.before (v.left ++ (v.valley ∷ (v.right ++ v.after))) 0 (valley_place o.signs - 1) (omega (arith, v.place, ap length f)))
           ∙ ap (λ (ls : List (List ℕ)). slice_get ls (valley_place o.signs - 1)) (sym v.segments) ∙ e))
 
@@ -126,7 +126,7 @@ module _ (o : Outline) (v : AtValley o) (m : Move) (legal : IsLegalMove o m) (on
           nothing [] h g = cc
           nothing (x ∷ l) h g = omega arith
       cases (r ∷ k ∷ right) f = absurd (omega (arith, (right_one o v).1, ap length f))
-      cases (r ∷ []) f = ap (λ (x : List ℕ). x ∷ []) (some-injective r s (sym (ap (λ (ls : List (List ℕ)). slice_get (ls ++ v.after) 0) f) ∙ behind))
+      cases (r ∷ []) f = ap (λ (x : List ℕ). x ∷ []) (same_Some r s (sym (ap (λ (ls : List (List ℕ)). slice_get (ls ++ v.after) 0) f) ∙ behind))
 
   -- where the move joins these squares, they stand so
   pub is_joined : (left right : List ℕ) → JoinsLeft o m left → JoinsRight o m right → IsJoined o m left right

@@ -2,10 +2,10 @@
 use Rattle.std.specs.List.{list_any}
 use Rattle.std.proofs.Common.{Bool, List, [], arith, false, length, nat_le, refl, slice_index_or, subst, suc, sym, true, zero, ℕ}
 use Rattle.std.proofs.Common.{◌||◌, ◌++◌, ◌+◌, ◌<◌, ◌∙◌, ◌∷◌, ◌≡◌, ◌≤◌}
-use Rattle.std.proofs.lemmas.Bool.{or_left, or_right}
+use Rattle.std.proofs.lemmas.Bool.{le-leb, or_left, or_right}
 use Rattle.std.proofs.lemmas.List.{length-append}
 use Rattle.bk_laws.proofs.AllOfLists.{list_any-append_left, list_any-append_right}
-use Rattle.bk_laws.proofs.NumberTests.{nat_le-of_le, nat_le-weaken}
+use Rattle.bk_laws.proofs.NumberTests.{nat_le-weaken}
 use Rattle.bk_laws.proofs.Truth.{or-elim, or-monotone}
 use Rattle.bk_word.specs.Play.{before_first_list, joined}
 use Rattle.bk_word.specs.declared.Sign.{Sign}
@@ -125,7 +125,7 @@ module _ (top : ℕ) (lines : List Bool) where
         where
           mark : mark_of top lines (s ++ f.0) f.1 ≡ true
           mark = or_right (list_any (on_line lines) (s ++ f.0) || next_on_line lines f.1) (nat_le top (length (s ++ f.0)))
-              (nat_le-of_le top (length (s ++ f.0)) (omega (arith, wide, f.3, length-append s f.0)))
+              (le-leb top (length (s ++ f.0)) (omega (arith, wide, f.3, length-append s f.0)))
   both_wide (Above ∷ signs) (s ∷ u ∷ segments) (suc i) e low wide = both_wide signs (u ∷ segments) i e (omega (arith, low)) wide
   both_wide (Under ∷ signs) (s ∷ u ∷ segments) (suc i) e low wide = both_wide signs (u ∷ segments) i e (omega (arith, low)) wide
   both_wide (Even ∷ signs) (s ∷ u ∷ segments) (suc i) e low wide = at (first_of signs u segments) (both_wide signs (u ∷ segments) i e (omega (arith, low)) wide)

@@ -3,8 +3,7 @@ use Rattle.std.specs.List.{concat, list_any}
 use Rattle.std.proofs.Common.{Bool, List, [], ap, arith, drop, false, inl, inr, length, map, nat_le, refl, slice_index_or, suc, sum, sym, take, true, zero}
 use Rattle.std.proofs.Common.{ℕ, ◌||◌, ◌+◌}
 use Rattle.std.proofs.Common.{◌<◌, ◌∙◌, ◌∷◌, ◌≡◌, ◌≤◌, ◌⊎◌}
-use Rattle.std.proofs.lemmas.Bool.{cases_lt}
-use Rattle.std.proofs.lemmas.Bool.Decides.{nat_tests}
+use Rattle.std.proofs.lemmas.Bool.{cases_lt, le-leb}
 use Rattle.std.proofs.lemmas.List.{drop-drop, drop_all, drop_more, get_or-drop, get_or-take, length-drop, length-map, length-take}
 use Rattle.std.proofs.lemmas.List.Folds.{list_any_at}
 use Rattle.bk_laws.proofs.ListItems.{slice_index_or-beyond}
@@ -117,18 +116,12 @@ module _ (top : ℕ) (lines : List Bool) (sizes ends : List ℕ) where
         ∙ or_true (list_any (on_line lines) (take (slice_index_or sizes i 0) (drop start ends))
         || begins_on_line lines (take (slice_index_or sizes (i + 1) 0) (drop (start + slice_index_or sizes i 0) ends)))
       where
-        least : (a b : ℕ) → a ≤ b → nat_le a b ≡ true
-        least a b h = grind (arith, nat_tests)
-
         wide_enough : nat_le top (slice_index_or sizes i 0) ≡ true
-        wide_enough = least top (slice_index_or sizes i 0) wide
-    marked_there places on filled (inl one) = mark_there ∙ cases (two one.more size)
+        wide_enough = le-leb top (slice_index_or sizes i 0) wide
+    marked_there places on filled (inl one) = mark_there ∙ cases (cases_lt one.more size)
       where
         size : ℕ
         size = slice_index_or sizes i 0
-
-        two : (a b : ℕ) → (a < b) ⊎ (b ≤ a)
-        two a b = grind arith
 
         here : (start + one.more < length ends) × (on_line lines (slice_index_or ends (start + one.more) 0) ≡ true)
         here = on (start + one.more) one.has
@@ -152,7 +145,7 @@ module _ (top : ℕ) (lines : List Bool) (sizes ends : List ℕ) where
             next_at = omega (arith, same)
 
             next_low : i + 1 < length sizes
-            next_low = more (two (i + 1) (length sizes))
+            next_low = more (cases_lt (i + 1) (length sizes))
               where
                 more : (i + 1 < length sizes) ⊎ (length sizes ≤ i + 1) → i + 1 < length sizes
                 more (inl h) = h

@@ -1,10 +1,10 @@
 -- The marks that the segments around a next move share, of those that a board has before it.
-use Rattle.std.proofs.Common.{Bool, List, [], ap, append_assoc, arith, cond, drop, false, inl, inr, length, map, nat_le, refl}
+use Rattle.std.proofs.Common.{Bool, List, [], ap, append_assoc, arith, cond, drop, false, inl, inr, length, map, refl}
 use Rattle.std.proofs.Common.{slice_index_or, subst, suc, sym, take, true, zero, ℕ, ◌++◌, ◌+◌, ◌-◌, ◌<◌, ◌∙◌, ◌∷◌, ◌≡◌, ◌≤◌, ◌⊎◌}
-use Rattle.std.proofs.lemmas.Bool.Decides.{nat_tests}
+use Rattle.std.proofs.lemmas.Bool.{eqb-true, leb-true}
 use Rattle.std.proofs.lemmas.List.{drop_all, drop_at, drop_more, length-append, length-take}
 use Rattle.bk_laws.proofs.ListPlaces.{get_back, get_front}
-use Rattle.bk_laws.proofs.NumberTests.{eq-from_nat_eq, lt-from_le_and_nat_eq}
+use Rattle.bk_laws.proofs.NumberTests.{lt-from_le_and_nat_eq}
 use Rattle.bk_word.specs.Outline.{has_right_wall, start, valley_of, valley_place}
 use Rattle.bk_word.specs.Play.{IsLegal, joined, new_squares, outline_of, segments_apart, signs_apart}
 use Rattle.bk_word.specs.Word.{Move, Word}
@@ -26,10 +26,6 @@ top_kept [] m some = absurd (omega (arith, some))
 top_kept (k ∷ front) m some = refl
 
 module _ (front : Word) (m : Move) (legal : IsLegal (front ++ m ∷ [])) where
-  -- the lines after the move
-  abbrev later : List Bool
-  later = lines_after (outline_of front) (edges_on_lines front) m
-
   abbrev news : List (List ℕ)
   news = map (λ q. q ∷ []) (new_squares (outline_of front) m)
 
@@ -192,7 +188,7 @@ module _ (front : Word) (m : Move) (legal : IsLegal (front ++ m ∷ [])) where
           ∙ (λ i. one i ∷ none i) ∙ sym (ap (λ (b : Bool). cond b (1 ∷ []) (map (λ (s : List ℕ). length s) back)) e)
         where
           wall : valley_place (outline_of front).signs ≡ length (outline_of front).signs
-          wall = eq-from_nat_eq (valley_place (outline_of front).signs) (length (outline_of front).signs) e
+          wall = eqb-true (valley_place (outline_of front).signs) (length (outline_of front).signs) e
 
           last : valley_place (outline_of front).signs - 1 + length m.signs ≡ valley_place (outline_of front).signs + (m.count - 1)
           last = omega (arith, wall, move_long front m legal, (legal_move front m legal).some)
@@ -229,10 +225,7 @@ module _ (front : Word) (m : Move) (legal : IsLegal (front ++ m ∷ [])) where
   wide_at top [] marks t e = inl e
   wide_at top (s ∷ segments) [] t e = absurd (cc)
   wide_at top (s ∷ segments) (true ∷ marks) zero e = inl refl
-  wide_at top (s ∷ segments) (false ∷ marks) zero e = inr (refl, told top (length s + 1) e, omega arith)
-    where
-      told : (a b : ℕ) → nat_le a b ≡ true → a ≤ b
-      told a b e = grind (arith, nat_tests)
+  wide_at top (s ∷ segments) (false ∷ marks) zero e = inr (refl, leb-true top (length s + 1) e, omega arith)
   wide_at top (s ∷ segments) (mark ∷ marks) (suc t) e = inl e
 
   -- where a move's last sign is even, a mark behind the valley, with a square more, is shared there

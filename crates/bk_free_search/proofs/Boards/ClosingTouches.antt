@@ -1,11 +1,11 @@
 -- The lines that the node touches which a move closes: those beside the squares that end on it, and beside those that hang from it.
 use Rattle.std.proofs.Common.{List, Some, [], ap, arith, inl, inr, length, length-append, refl, replicate, slice_get, subst, suc, sym, ℕ, ◌+◌, ◌-◌, ◌<◌}
 use Rattle.std.proofs.Common.{◌∙◌, ◌∷◌, ◌≡◌, ◌≤◌, ◌⊎◌}
+use Rattle.std.proofs.lemmas.Bool.{cases_lt}
 use Rattle.std.proofs.lemmas.List.{length-replicate}
-use Rattle.std.proofs.lemmas.Option.{get_or_from_slice_get}
+use Rattle.std.proofs.lemmas.Option.{get_or_from_slice_get, same_Some}
 use Rattle.bk_laws.proofs.ListPlaces.{get_after, get_last, slice_get-append_front_back, slice_get-replicate}
 use Rattle.bk_laws.proofs.Occurrences.{times-positive_of_slice_get, times_at, times_in-append}
-use Rattle.bk_laws.proofs.Outcomes.{some-injective}
 use Rattle.bk_word.specs.Outline.{Outline, valley_of, valley_place}
 use Rattle.bk_word.specs.Play.{after_move}
 use Rattle.bk_word.specs.Word.{Move}
@@ -81,9 +81,6 @@ only_touch o sides m line played t = cases (t.at).at
     beside : IsAtSquare (lefts_in (sides_after o sides m)) (rights_in (sides_after o sides m)) (suc t.place) line
     beside = pair_beside (sides_after o sides m) t.place line t.beside
 
-    two : (a b : ℕ) → (a < b) ⊎ (b ≤ a)
-    two a b = grind arith
-
     new : slice_get (after_move o m).hung t.place ≡ Some (length o.closed) → (t.place < length o.hung) ⊎ (length o.hung ≤ t.place) → length o.hung ≤ t.place
     new e (inl low) = absurd (omega (
       arith,
@@ -98,7 +95,7 @@ only_touch o sides m line played t = cases (t.at).at
         → IsBesideOneOf (lefts_in (sides_after o sides m)) (rights_in (sides_after o sides m)) (valley_of o) line
         ⊎ IsBesideNew (lefts_in (sides_after o sides m)) (rights_in (sides_after o sides m)) (length o.hung) m.count line
     cases (inl e) =
-        let high = new e (two t.place (length o.hung)) in
+        let high = new e (cases_lt t.place (length o.hung)) in
         let number : suc t.place ≡ length o.hung + (t.place - length o.hung) + 1 = omega (arith, high) in
         inr (record {
           k = t.place - length o.hung;
@@ -106,5 +103,5 @@ only_touch o sides m line played t = cases (t.at).at
           beside = subst (λ n. IsAtSquare (lefts_in (sides_after o sides m)) (rights_in (sides_after o sides m)) n line) number beside;
         })
     cases (inr (k, numbers, e, f)) =
-        let same : numbers ≡ valley_of o = some-injective numbers (valley_of o) (sym e ∙ get_last o.closed (valley_of o) []) in
+        let same : numbers ≡ valley_of o = same_Some numbers (valley_of o) (sym e ∙ get_last o.closed (valley_of o) []) in
         inl (record { place = k; number = suc t.place; at = subst (λ (l : List ℕ). slice_get l k ≡ Some (suc t.place)) same f; beside = beside })

@@ -1,6 +1,7 @@
 -- The lines that a closed node touches are the same after the next move as before it.
 use Rattle.std.proofs.Common.{List, Some, [], ap, arith, inl, inr, length, length-append, replicate, slice_get, subst, suc, sym, ℕ, ◌-◌, ◌<◌, ◌∙◌}
 use Rattle.std.proofs.Common.{◌∷◌, ◌≡◌, ◌≤◌, ◌⊎◌}
+use Rattle.std.proofs.lemmas.Bool.{cases_lt}
 use Rattle.std.proofs.lemmas.Option.{get_or_from_slice_get}
 use Rattle.bk_laws.proofs.ListPlaces.{get_after, get_append, get_front, slice_get-append_front_back, slice_get-replicate_is}
 use Rattle.bk_laws.proofs.Occurrences.{times, times-positive_of_slice_get, times_at, times_in-append}
@@ -56,9 +57,6 @@ number_in o numbered v k number numbers e f = (hung_number o numbered number (om
 at_before : (o : Outline) (m : Move) → Numbered o → (place v : ℕ) → v < length o.closed → IsAtClosed (after_move o m) place v → IsAtClosed o place v
 at_before o m numbered place v old a = cases a.at
   where
-    two : (a b : ℕ) → (a < b) ⊎ (b ≤ a)
-    two a b = grind arith
-
     hangs : slice_get (after_move o m).hung place ≡ Some v → (place < length o.hung) ⊎ (length o.hung ≤ place) → place < length o.hung
     hangs e (inl low) = low
     hangs e (inr high) = absurd (omega (
@@ -71,7 +69,7 @@ at_before o m numbered place v old a = cases a.at
     cases : (slice_get (after_move o m).hung place ≡ Some v) ⊎ ((k : ℕ) × (numbers : List ℕ) × (slice_get (after_move o m).closed v ≡ Some numbers)
         × (slice_get numbers k ≡ Some (suc place)))
         → IsAtClosed o place v
-    cases (inl e) = let low = hangs e (two place (length o.hung)) in
+    cases (inl e) = let low = hangs e (cases_lt place (length o.hung)) in
         record { within = low; closed = old; at = inl (slice_get-append_front_back o.hung (replicate m.count (length o.closed)) place v low e) }
     cases (inr (k, numbers, e, f)) = let same = slice_get-append_front_back o.closed (valley_of o ∷ []) v numbers old e in
         record { within = omega (arith, number_in o numbered v k (suc place) numbers same f); closed = old; at = inr (k, numbers, same, f) }

@@ -1,12 +1,12 @@
 -- The lines that closed nodes touch, as a move is played and taken back.
 use Rattle.std.proofs.Common.{List, Some, [], ap, arith, bit_and, drop, inl, inr, length, length-append, refl, slice_get, subst, suc, sym, take, zero, ℕ}
 use Rattle.std.proofs.Common.{◌++◌, ◌-◌, ◌<◌, ◌∙◌, ◌∷◌, ◌≡◌, ◌≤◌, ◌⊎◌}
+use Rattle.std.proofs.lemmas.Bool.{cases_lt}
 use Rattle.std.specs.Int.{bit_at}
 use Rattle.std.proofs.lemmas.List.{take-append-drop}
-use Rattle.std.proofs.lemmas.Option.{slice_get_within}
+use Rattle.std.proofs.lemmas.Option.{same_Some, slice_get_within}
 use Rattle.bk_laws.proofs.Bits.{bit_at-and_left, bit_at-and_right}
 use Rattle.bk_laws.proofs.ListPlaces.{get_last, slice_get-append_front_back}
-use Rattle.bk_laws.proofs.Outcomes.{some-injective}
 use Rattle.bk_word.specs.Outline.{Outline, start, valley_of}
 use Rattle.bk_word.specs.Play.{IsLegal, after_move, outline_of}
 use Rattle.bk_word.specs.Word.{Move, Word, order_of}
@@ -89,13 +89,10 @@ pub nodes_more : (w : Word) (m : Move) (nodes : List LineSet) (lines : LineSet) 
     → AreNodeLines (w ++ m ∷ []) (nodes ++ lines ∷ [])
 nodes_more w m nodes lines legal are next = record {
   as_many = omega (arith, are.as_many, length-append nodes (lines ∷ []), length-append w (m ∷ []));
-  touch = λ v line set e has. touched v line set e has (two v (length nodes));
-  all = λ v line set e low t. held v line set e low t (two v (length nodes));
+  touch = λ v line set e has. touched v line set e has (cases_lt v (length nodes));
+  all = λ v line set e low t. held v line set e low t (cases_lt v (length nodes));
 }
   where
-    two : (a b : ℕ) → (a < b) ⊎ (b ≤ a)
-    two a b = grind arith
-
     last : (v : ℕ) (set : LineSet) → slice_get (nodes ++ lines ∷ []) v ≡ Some set → length nodes ≤ v → v ≡ length nodes
     last v set e high = omega (arith, high, slice_get_within (nodes ++ lines ∷ []) v set e, length-append nodes (lines ∷ []))
 
@@ -103,7 +100,7 @@ nodes_more w m nodes lines legal are next = record {
     place v set e high = omega (arith, closed_many w, are.as_many, last v set e high)
 
     same : (v : ℕ) (set : LineSet) → slice_get (nodes ++ lines ∷ []) v ≡ Some set → length nodes ≤ v → lines ≡ set
-    same v set e high = some-injective lines set (sym (get_last nodes lines []) ∙ ap (λ k. slice_get (nodes ++ lines ∷ []) k) (sym (last v set e high)) ∙ e)
+    same v set e high = same_Some lines set (sym (get_last nodes lines []) ∙ ap (λ k. slice_get (nodes ++ lines ∷ []) k) (sym (last v set e high)) ∙ e)
 
     touched : (v line : ℕ) (set : LineSet) → slice_get (nodes ++ lines ∷ []) v ≡ Some set → Has set line → (v < length nodes) ⊎ (length nodes ≤ v)
         → TouchesClosed (outline_of (w ++ m ∷ [])) (square_lines (w ++ m ∷ [])) line v

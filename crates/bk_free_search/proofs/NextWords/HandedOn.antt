@@ -2,12 +2,12 @@
 use Rattle.std.proofs.Common.{List, [], ap, arith, false, length, refl, subst, sym, take, ◌*◌, ◌++◌, ◌+◌, ◌-◌, ◌<◌, ◌∙◌, ◌∷◌, ◌≡◌, ◌≤◌}
 use Rattle.std.proofs.Math.Seq.{take-append_seam}
 use Rattle.std.proofs.lemmas.List.{length-append}
+use Rattle.bk_word.proofs.PlayLaws.{side_has_one_sign_at_most}
 use Rattle.bk_word.specs.Outline.{has_left_wall, has_right_wall, open_side}
 use Rattle.bk_word.specs.Play.{outline_of}
 use Rattle.bk_word.specs.Word.{Move, Word}
 use Rattle.bk_word.specs.declared.Sign.{Sign}
 use Rattle.bk_word.specs.declared.TheConstants.{INLINE_ORDER}
-use Rattle.bk_free_search.proofs.Asks.EvenSigns.{side_few}
 use Rattle.bk_free_search.specs.AskedSigns.{IsMoveBegun}
 use Rattle.bk_free_search.specs.declared.asking.Beside.{Beside}
 use Rattle.bk_free_search.specs.declared.asking.Next.{Next}
@@ -68,7 +68,7 @@ begun_with {s = s} {b = b} c sign begun count signs next low = record {
 
 -- a move has no more own signs than squares
 pub own_few : {s : Search} {b : Begun} {around : Beside} → IsMoveBegun s b around → b.next.own ≤ b.m.count
-own_few {s = s} begun = omega (arith, begun.next_is.own_is, side_few (has_left_wall (outline_of s.board)))
+own_few {s = s} begun = omega (arith, begun.next_is.own_is, side_has_one_sign_at_most (has_left_wall (outline_of s.board)))
 
 -- a move that is begun wants few signs
 pub wanted_few : {s : Search} {b : Begun} {around : Beside} → IsMoveBegun s b around → b.next.wanted ≤ 16
@@ -77,8 +77,8 @@ wanted_few {s = s} begun = omega (
   begun.fits,
   begun.most,
   begun.next_is.wanted_is,
-  side_few (has_left_wall (outline_of s.board)),
-  side_few (has_right_wall (outline_of s.board)),
+  side_has_one_sign_at_most (has_left_wall (outline_of s.board)),
+  side_has_one_sign_at_most (has_right_wall (outline_of s.board)),
 )
 
 -- no sign is too many for a small move

@@ -6,13 +6,13 @@ use Rattle.std.proofs.lemmas.List.{length-replicate}
 use Rattle.std.proofs.lemmas.List.Folds.{concat-append}
 use Rattle.std.proofs.lemmas.Bool.{cases_eq}
 use Rattle.bk_laws.proofs.ListItems.{length-only_list}
-use Rattle.bk_word.specs.Outline.{IsLegalMove, Outline, has_left_wall, has_right_wall, open_side, start, valley_of}
+use Rattle.bk_word.specs.Outline.{IsLegalMove, Outline, has_left_wall, has_right_wall, open_side, open_sides, start, valley_of}
 use Rattle.bk_word.specs.Play.{AreLegalFrom, IsLegal, outline_of}
 use Rattle.bk_word.specs.Signs.{is_even}
 use Rattle.bk_word.specs.Word.{Move, Word, order_of}
 use Rattle.bk_word.specs.declared.Sign.{Sign}
 use Rattle.bk_word.specs.declared.Sign.TheVariants.{Even}
-use Rattle.bk_word.proofs.PlayLaws.{after-snoc, legal_front}
+use Rattle.bk_word.proofs.PlayLaws.{after-snoc, legal_front, side_has_one_sign_at_most}
 use Rattle.bk_word.proofs.StoredBytes.{order_append, order_more}
 use Rattle.bk_word_net.proofs.Outlines.OutlineParts.{left_open, many_segments, right_open}
 use Rattle.bk_word_net.proofs.Outlines.Shape.{valley_in}
@@ -30,9 +30,8 @@ use Rattle.bk_layout.specs.NormalCuts.{IsNormalBarren}
 use Rattle.bk_layout.specs.NormalImage.{IsNormalSought}
 use Rattle.bk_layout.specs.WordNumbers.{first_count}
 use Rattle.bk_free_search.proofs.NextWords.Cutting.{by_legal, lone_is_barren, normal, shared_is_barren}
-use Rattle.bk_free_search.proofs.Asks.EvenSigns.{apart_from_own, evens_ends, side_few}
+use Rattle.bk_free_search.proofs.Asks.EvenSigns.{apart_from_own, evens_ends}
 use Rattle.bk_free_search.proofs.NextWords.NextMoves.{HasNextMove, is_whole, next_fits, next_move}
-use Rattle.bk_catalogue.specs.NextMove.{open_sides}
 use Rattle.bk_free_search.specs.LastSquare.{with_last}
 use Rattle.bk_free_search.specs.Sought.{GoesOn}
 
@@ -86,7 +85,7 @@ all_at_once_is_barren n front m two all = apart_from_own n front m (λ move not.
       a_move_leaves_segments front m by_rule,
       sides_within front (legal_front start front (m ∷ []) by_rule),
       evens_ends m.signs (open_side (has_left_wall (outline_of front))) (open_side (has_right_wall (outline_of front)))
-          (side_few (has_left_wall (outline_of front))) (λ i from to even. not i from (omega (arith, to, move.signs, move.some)) even),
+          (side_has_one_sign_at_most (has_left_wall (outline_of front))) (λ i from to even. not i from (omega (arith, to, move.signs, move.some)) even),
     ))))
 
 -- ---- the word with the last square

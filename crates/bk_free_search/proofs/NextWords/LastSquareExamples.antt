@@ -1,10 +1,10 @@
 -- The last square of the free word of the rectangle 33x32.
 use Rattle.std.proofs.Common.{[], length, refl, slice_index_or, ◌++◌, ◌∷◌, ◌≡◌}
+use Rattle.bk_word.specs.Outline.{open_sides}
 use Rattle.bk_word.specs.Play.{outline_of}
 use Rattle.bk_word.specs.Word.{Word, order_of}
 use Rattle.bk_word.specs.declared.Sign.TheVariants.{Above, Even, Under}
 use Rattle.bk_word.proofs.WordExamples.{move}
-use Rattle.bk_catalogue.specs.NextMove.{open_sides}
 use Rattle.bk_free_search.specs.LastSquare.{with_last}
 
 -- 2a.2uu.2ea.2eue

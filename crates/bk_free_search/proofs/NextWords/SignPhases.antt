@@ -4,6 +4,7 @@ use Rattle.std.proofs.Common.{List, [], ap, append_assoc, arith, count_by, false
 use Rattle.std.proofs.Common.{◌++◌, ◌+◌, ◌<◌, ◌∙◌, ◌∷◌, ◌≡◌, ◌≤◌}
 use Rattle.std.proofs.lemmas.List.{length-append}
 use Rattle.std.proofs.lemmas.List.Sums.{count_by-le-length}
+use Rattle.bk_word.proofs.PlayLaws.{side_has_one_sign_at_most}
 use Rattle.bk_word.specs.Outline.{IsLegalMove, has_left_wall, open_side}
 use Rattle.bk_word.specs.Play.{outline_of}
 use Rattle.bk_word.specs.Signs.{is_even}
@@ -14,7 +15,7 @@ use Rattle.bk_layout.proofs.FreeCuts.SquaresLeft.{evens-cons}
 use Rattle.bk_layout.specs.NormalImage.{IsNormalSought}
 use Rattle.bk_free_search.proofs.Asks.AskedSigns.{begun_is_barred}
 use Rattle.bk_free_search.proofs.NextWords.Cutting.{above_is_barred, even_is_barred, even_then_above_is_barred, normal}
-use Rattle.bk_free_search.proofs.Asks.EvenSigns.{evens_append, side_few, signs_lack_evens}
+use Rattle.bk_free_search.proofs.Asks.EvenSigns.{evens_append, signs_lack_evens}
 use Rattle.bk_free_search.proofs.NextWords.NextMoves.{next_fertile}
 use Rattle.bk_free_search.proofs.NextWords.HandedOn.{wanted_few}
 use Rattle.bk_free_search.specs.AskedSigns.{BarsNext, BarsSigns, IsAsked, IsMoveBegun, IsNextCount, IsWithOwn}
@@ -119,7 +120,7 @@ pub first_is_barred : {s : Search} {b : Begun} {around : Beside} (sign : Sign) (
     → NeedsLeft asked.passed around.behind.even around.ahead.moves need → b.next.left < need → BarsNext s b sign
 first_is_barred {s = s} {b = b} sign asked need begun none apart is needs less =
     subst (λ (l : List Sign). BarsSigns s.order s.board b.m.count (l ++ sign ∷ [])) (sym none)
-    (need_is_barred (sign ∷ []) asked need begun is (omega (arith, side_few (has_left_wall (outline_of s.board))))
+    (need_is_barred (sign ∷ []) asked need begun is (omega (arith, side_has_one_sign_at_most (has_left_wall (outline_of s.board))))
     (omega (arith, begun.next_is.own_is, begun.some, ap open_side apart)) needs less)
 
 -- a move isn't whole before its last own sign
@@ -168,7 +169,7 @@ own_even_then_above_is_barred {s = s} {b = b} begun low even = own_above_is_barr
   ap (λ (l : List Sign). length l) even,
   low,
   begun.next_is.own_is,
-  side_few (has_left_wall (outline_of s.board)),
+  side_has_one_sign_at_most (has_left_wall (outline_of s.board)),
 )) even
 
 -- the numbers that are counted are small

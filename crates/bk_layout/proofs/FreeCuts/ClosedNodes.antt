@@ -1,8 +1,9 @@
 -- A node that first moves of a word have closed: what ends on it hangs from a closed one too, and lines of squares at it touch it.
 use Rattle.std.proofs.Common.{List, Some, [], ap, arith, inl, inr, length, slice_get, slice_index_or, subst, suc, sym, ℕ, ◌++◌, ◌+◌, ◌<◌, ◌∙◌, ◌≡◌, ◌⊎◌}
 use Rattle.std.proofs.lemmas.List.{length-append}
+use Rattle.std.proofs.lemmas.Option.{slice_get-get_or}
 use Rattle.bk_laws.proofs.Occurrences.{times, times_at, times_in-append}
-use Rattle.bk_laws.proofs.ListPlaces.{get_some, got_index, slice_index_or-of_slice_get}
+use Rattle.bk_laws.proofs.ListPlaces.{get_some, slice_index_or-of_slice_get}
 use Rattle.bk_word.specs.Outline.{start}
 use Rattle.bk_word.specs.Play.{AreLegalFrom, outline_of}
 use Rattle.bk_word.specs.Word.{Word}
@@ -45,7 +46,7 @@ module _ (l : Layout) (fits : Fits l) (w : Word) (word : IsWordOfLayout l w) (fr
             slice_index_or (outline_of front).hung k 0,
             played.below k within,
             ap l.above (sym same) ∙ above_is l fits w word front rest is k (slice_index_or (outline_of front).hung k 0)
-                (got_index (outline_of front).hung k within),
+                (slice_get-get_or (outline_of front).hung k 0 within),
           )
             where
               there : 0 < times (1 + k) (slice_index_or (outline_of front).closed v [])

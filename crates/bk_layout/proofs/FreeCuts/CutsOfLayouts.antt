@@ -28,6 +28,7 @@ use Rattle.bk_layout.proofs.FreeCuts.TouchingWalls.{ends_left, ends_right}
 use Rattle.bk_layout.proofs.FreeCuts.WideNodes.{no_wide_node}
 use Rattle.bk_layout.proofs.NormalCuts.WideBottom.{no_wide_bottom}
 use Rattle.bk_catalogue.specs.WordBounds.{EndsNoLine, HangNoPairsFrom, HangsNoPair, IsWithoutPairs}
+use Rattle.bk_laws.proofs.NumberOrder.{zero_or_positive}
 use Rattle.bk_layout.specs.FreeCuts.{AreOuterWalls}
 
 -- what hangs by nodes hangs so after its first moves too
@@ -165,11 +166,8 @@ module _ (l : Layout) (fits : Fits l) (w : Word) (word : IsWordOfLayout l w) whe
           )
 
           above_none : 0 < h.node
-          above_none = cases (two h.node)
+          above_none = cases (zero_or_positive h.node)
             where
-              two : (n : ℕ) → (n ≡ 0) ⊎ (0 < n)
-              two n = grind arith
-
               cases : (h.node ≡ 0) ⊎ (0 < h.node) → 0 < h.node
               cases (inl e) = absurd (omega (arith, ends, ap (λ (v : ℕ). length (l.ending v)) e, ap length (top_ends_none l fits)))
               cases (inr k) = k

@@ -1,13 +1,13 @@
 -- The number of a line in a word is 0 or 1, or its line is no wall.
 use Rattle.std.proofs.Common.{List, Some, [], arith, inl, inr, length, refl, slice_get, slice_index_or, subst, suc, sym, zero, ℕ, ◌+◌, ◌-◌, ◌<◌, ◌∙◌}
 use Rattle.std.proofs.Common.{◌∷◌, ◌≡◌, ◌⊎◌}
+use Rattle.std.proofs.lemmas.Option.{same_Some}
 use Rattle.bk_word.specs.Outline.{Outline, valley_of}
 use Rattle.bk_word.specs.Play.{after_move}
 use Rattle.bk_word.specs.Word.{Word}
 use Rattle.bk_layout.specs.Layout.{Fits, Layout}
 use Rattle.bk_layout.specs.LayoutLaws.{HangByNodesFrom, HangsNode}
 use Rattle.bk_laws.proofs.ListPlaces.{get_either}
-use Rattle.bk_laws.proofs.Outcomes.{some-injective}
 use Rattle.bk_layout.proofs.FreeCuts.NumberedLines.{hung_at}
 use Rattle.bk_layout.specs.FreeCuts.{AreOuterWalls}
 use Rattle.bk_layout.specs.LineNumbers.{left_end, new_sides, numbered_line, right_end, sides_after, sides_along}
@@ -27,9 +27,9 @@ module _ (l : Layout) (square : ℕ → ℕ) where
   new_known : (hung count left right : ℕ) → IsKnown left → IsKnown right → ((k : ℕ) → suc k < count → NoWall (l.right (square (hung + k))))
       → AllKnown (new_sides hung count left right)
   new_known hung zero left right a b inner j p e = absurd (cc)
-  new_known hung (suc zero) left right a b inner zero p e = subst (λ (q : ℕ × ℕ). IsKnown q.0 × IsKnown q.1) (some-injective (left, right) p e) (a, b)
+  new_known hung (suc zero) left right a b inner zero p e = subst (λ (q : ℕ × ℕ). IsKnown q.0 × IsKnown q.1) (same_Some (left, right) p e) (a, b)
   new_known hung (suc zero) left right a b inner (suc j) p e = absurd (cc)
-  new_known hung (suc (suc more)) left right a b inner zero p e = subst (λ (q : ℕ × ℕ). IsKnown q.0 × IsKnown q.1) (some-injective (left, suc (suc hung)) p e)
+  new_known hung (suc (suc more)) left right a b inner zero p e = subst (λ (q : ℕ × ℕ). IsKnown q.0 × IsKnown q.1) (same_Some (left, suc (suc hung)) p e)
       (a, inr (inr (subst (λ (n : ℕ). NoWall (l.right (square n))) (omega arith) (inner 0 (omega arith)))))
   new_known hung (suc (suc more)) left right a b inner (suc j) p e = new_known (suc hung) (suc more) (suc (suc hung)) right
       (inr (inr (subst (λ (n : ℕ). NoWall (l.right (square n))) (omega arith) (inner 0 (omega arith))))) b

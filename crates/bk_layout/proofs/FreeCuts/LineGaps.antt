@@ -3,8 +3,8 @@
 use Rattle.std.proofs.Common.{List, Some, [], ap, arith, inl, inr, length, refl, slice_get, slice_index_or, subst, suc, sym, zero, ℕ, ◌++◌, ◌+◌, ◌-◌}
 use Rattle.std.proofs.Common.{◌∙◌, ◌∷◌, ◌≡◌, ◌⊎◌}
 use Rattle.std.proofs.lemmas.List.{append-nil, append_assoc, length-append}
+use Rattle.std.proofs.lemmas.Option.{same_Some}
 use Rattle.bk_laws.proofs.ListPlaces.{get_append, get_either}
-use Rattle.bk_laws.proofs.Outcomes.{some-injective}
 use Rattle.bk_word.specs.Outline.{Outline, start, valley_of}
 use Rattle.bk_word.specs.Play.{after_move, after_moves}
 use Rattle.bk_word.specs.Word.{Move, Word}
@@ -88,12 +88,12 @@ new_lines : (base : List (ℕ × ℕ)) (hung count left right : ℕ) → length 
     → IsLine 0 (base ++ new_sides hung count left right) p.0 × IsLine 1 (base ++ new_sides hung count left right) p.1
 new_lines base hung zero left right long a b j p e = absurd (cc)
 new_lines base hung (suc zero) left right long a b zero p e =
-    subst (λ (q : ℕ × ℕ). IsLine 0 (base ++ (left, right) ∷ []) q.0 × IsLine 1 (base ++ (left, right) ∷ []) q.1) (some-injective (left, right) p e) (a, b)
+    subst (λ (q : ℕ × ℕ). IsLine 0 (base ++ (left, right) ∷ []) q.0 × IsLine 1 (base ++ (left, right) ∷ []) q.1) (same_Some (left, right) p e) (a, b)
 new_lines base hung (suc zero) left right long a b (suc j) p e = absurd (cc)
 new_lines base hung (suc (suc more)) left right long a b zero p e =
     subst (λ (q : ℕ × ℕ). IsLine 0 (base ++ (left, suc (suc hung)) ∷ new_sides (suc hung) (suc more) (suc (suc hung)) right) q.0
     × IsLine 1 (base ++ (left, suc (suc hung)) ∷ new_sides (suc hung) (suc more) (suc (suc hung)) right) q.1)
-    (some-injective (left, suc (suc hung)) p e) (a, gap_line 1 base hung more left right long)
+    (same_Some (left, suc (suc hung)) p e) (a, gap_line 1 base hung more left right long)
 new_lines base hung (suc (suc more)) left right long a b (suc j) p e = subst (λ (xs : List (ℕ × ℕ)). IsLine 0 xs p.0 × IsLine 1 xs p.1) (sym same)
     (new_lines (base ++ (left, suc (suc hung)) ∷ []) (suc hung) (suc more) (suc (suc hung)) right
     (omega (arith, length-append base ((left, suc (suc hung)) ∷ []), long))

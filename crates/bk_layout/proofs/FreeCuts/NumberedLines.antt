@@ -2,9 +2,10 @@
 use Rattle.std.proofs.Common.{List, Some, [], ap, arith, inl, inr, length, map, refl, replicate, slice_get, slice_index_or, subst, suc, sym, zero, ℕ, ◌+◌, ◌-◌}
 use Rattle.std.proofs.Common.{◌<◌, ◌∙◌, ◌∷◌, ◌≡◌, ◌⊎◌}
 use Rattle.std.proofs.lemmas.List.{length-append, length-map, length-replicate}
+use Rattle.std.proofs.lemmas.Option.{same_Some}
 use Rattle.bk_laws.proofs.ListPlaces.{get_either, get_map}
+use Rattle.bk_laws.proofs.NumberOrder.{zero_or_positive}
 use Rattle.bk_laws.proofs.Occurrences.{times-positive_of_slice_get, times_at, times_in-append}
-use Rattle.bk_laws.proofs.Outcomes.{some-injective}
 use Rattle.bk_word.specs.Outline.{Outline, start, valley_of, valley_place}
 use Rattle.bk_word.specs.Play.{AreLegalFrom, after_move, new_squares, numbers_from}
 use Rattle.bk_word.specs.Word.{Move, Word}
@@ -48,10 +49,10 @@ module _ (l : Layout) (square : ℕ → ℕ) where
       → (j : ℕ) (p : ℕ × ℕ) → slice_get (new_sides hung count left right) j ≡ Some p → Stand (hung + j) p.0 p.1
   new_stand hung zero left right first last next j p e = absurd (cc)
   new_stand hung (suc zero) left right first last next zero p e =
-      subst (λ (q : ℕ × ℕ). Stand (hung + 0) q.0 q.1) (some-injective (left, right) p e) (ap (λ (n : ℕ). l.left (square n)) (omega arith) ∙ first, last 0 refl)
+      subst (λ (q : ℕ × ℕ). Stand (hung + 0) q.0 q.1) (same_Some (left, right) p e) (ap (λ (n : ℕ). l.left (square n)) (omega arith) ∙ first, last 0 refl)
   new_stand hung (suc zero) left right first last next (suc j) p e = absurd (cc)
   new_stand hung (suc (suc more)) left right first last next zero p e =
-      subst (λ (q : ℕ × ℕ). Stand (hung + 0) q.0 q.1) (some-injective (left, suc (suc hung)) p e)
+      subst (λ (q : ℕ × ℕ). Stand (hung + 0) q.0 q.1) (same_Some (left, suc (suc hung)) p e)
       (ap (λ (n : ℕ). l.left (square n)) (omega arith) ∙ first, ap (λ (n : ℕ). l.right (square n)) (omega arith))
   new_stand hung (suc (suc more)) left right first last next (suc j) p e = subst (λ (n : ℕ). Stand n p.0 p.1) (shift j)
       (new_stand (suc hung) (suc more) (suc (suc hung)) right
@@ -101,15 +102,12 @@ module _ (l : Layout) (square : ℕ → ℕ) where
           (subst (λ (v : ℕ). IsLast (l.hanging v) (square (length o.hung + k))) top (k, omega (arith, e, many), hung_at o m h k (omega (arith, e)))),
     )
       where
-        two : (n : ℕ) → (n ≡ 0) ⊎ (0 < n)
-        two n = grind arith
-
         cases : (h.node ≡ 0) ⊎ (0 < h.node) → h.node ≡ 0
         cases (inl e) = e
         cases (inr k) = absurd (omega (arith, fits.nodes.ending_some h.node k (omega (arith, h.low)), ap length (sym is)))
 
         top : h.node ≡ 0
-        top = cases (two h.node)
+        top = cases (zero_or_positive h.node)
     ends some (a ∷ more) is low = (
       ap (λ (n : ℕ). l.left (square n)) (omega arith)
           ∙ fits.lines.same_left h.node (square (a - 1)) (square (length o.hung + 0)) (ap (λ (xs : List ℕ). slice_get xs 0) (sym is)) (hung_at o m h 0 some)

@@ -8,12 +8,12 @@ use Rattle.std.proofs.lemmas.Bool.Decides.{nat_tests}
 use Rattle.std.proofs.lemmas.List.{append_assoc, length-append}
 use Rattle.std.proofs.lemmas.List.Folds.{concat-append}
 use Rattle.std.proofs.lemmas.List.Sums.{sum_by-append, sum_by-cons}
+use Rattle.std.proofs.lemmas.Option.{same_Some}
 use Rattle.bk_laws.proofs.ListPlaces.{get_front}
 use Rattle.bk_laws.proofs.Occurrences.{times-concat, times-positive_of_slice_get, times_in-append}
 use Rattle.bk_laws.proofs.ListItems.{concat-cut_at, slice_index_or-append_at_length}
 use Rattle.bk_laws.proofs.ListsOfLists.{concat-drop_all, concat-singletons, concat-take_none}
 use Rattle.bk_laws.proofs.NumberTests.{nat_eq-same_of_iff}
-use Rattle.bk_laws.proofs.Outcomes.{some-injective}
 use Rattle.bk_word.specs.Outline.{IsLegalMove, Outline, has_left_wall, has_right_wall, start, valley_of, valley_place}
 use Rattle.bk_word.specs.Play.{AreLegalFrom, after_move, after_moves, new_squares, numbers_from, segments_apart, signs_apart}
 use Rattle.bk_word.specs.Word.{Move, Word}
@@ -370,14 +370,14 @@ run_next sides a [] b r k x y e f = absurd (cc)
 run_next sides a (z ∷ []) b r k x y e f = absurd (cc)
 run_next sides a (z ∷ u ∷ row) b r (suc k) x y e f = run_next sides (sides_at sides z).1 (u ∷ row) b r.1 k x y e f
 run_next sides a (z ∷ u ∷ row) b r zero x y e f =
-    ap (λ (n : ℕ). (sides_at sides n).0) (sym (some-injective u y f)) ∙ (r.1).0 ∙ ap (λ (n : ℕ). (sides_at sides n).1) (some-injective z x e)
+    ap (λ (n : ℕ). (sides_at sides n).0) (sym (same_Some u y f)) ∙ (r.1).0 ∙ ap (λ (n : ℕ). (sides_at sides n).1) (same_Some z x e)
 
 -- the last square of a row ends at the line at which the row ends
 pub run_end : (sides : List (ℕ × ℕ)) (a : ℕ) (row : List ℕ) (b : ℕ) → Runs sides a row b → (k x : ℕ) → slice_get row k ≡ Some x → suc k ≡ length row
     → (sides_at sides x).1 ≡ b
 run_end sides a [] b r k x e f = absurd (omega (arith, f))
 run_end sides a (z ∷ row) b r (suc k) x e f = run_end sides (sides_at sides z).1 row b r.1 k x e (omega (arith, f))
-run_end sides a (z ∷ []) b r zero x e f = ap (λ (n : ℕ). (sides_at sides n).1) (sym (some-injective z x e)) ∙ r.1
+run_end sides a (z ∷ []) b r zero x e f = ap (λ (n : ℕ). (sides_at sides n).1) (sym (same_Some z x e)) ∙ r.1
 run_end sides a (z ∷ u ∷ row) b r zero x e f = absurd (omega (arith, f))
 
 -- the law

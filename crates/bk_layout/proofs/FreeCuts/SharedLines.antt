@@ -2,9 +2,9 @@
 use Rattle.std.proofs.Common.{List, Some, [], ap, arith, length, option_map, replicate, slice_get, slice_index_or, subst}
 use Rattle.std.proofs.Common.{suc, sym, ℕ, ◌++◌, ◌+◌, ◌-◌, ◌<◌, ◌∙◌, ◌∷◌, ◌≡◌, ◌≤◌}
 use Rattle.std.proofs.lemmas.List.{append-nil, append_assoc, length-append}
+use Rattle.std.proofs.lemmas.Option.{get_or_from_slice_get, slice_get_within, some_pair_parts}
 use Rattle.bk_laws.proofs.Occurrences.{times, times-positive_in_list_at, times_at, times_in, times_in-append}
-use Rattle.bk_laws.proofs.ListPlaces.{get_append, get_map, get_some, got_low, index_got, slice_index_or-of_slice_get}
-use Rattle.bk_laws.proofs.Outcomes.{some_pair-injective}
+use Rattle.bk_laws.proofs.ListPlaces.{get_append, get_map, get_some, slice_index_or-of_slice_get}
 use Rattle.bk_laws.proofs.TestsAsNumbers.{nat_eq-same_if_counted}
 use Rattle.bk_word.specs.Outline.{Outline, start, valley_of}
 use Rattle.bk_word.specs.Play.{after_move, after_moves, numbers_from, outline_of}
@@ -59,7 +59,7 @@ module _ (l : Layout) (fits : Fits l) (w : Word) (word : IsWordOfLayout l w) whe
   pub wire : (k : ℕ) → k < length (outline_of w).hung
       → (l.above (word.square k) ≡ word.node (slice_index_or (outline_of w).hung k 0))
       × (l.below (word.square k) ≡ word.node (end_of ((outline_of w).closed ++ (outline_of w).segments) (1 + k)))
-  wire k h = some_pair-injective (l.above (word.square k)) (l.below (word.square k)) (word.node (slice_index_or (outline_of w).hung k 0))
+  wire k h = some_pair_parts (l.above (word.square k)) (word.node (slice_index_or (outline_of w).hung k 0)) (l.below (word.square k))
       (word.node (end_of ((outline_of w).closed ++ (outline_of w).segments) (1 + k)))
       (sym there ∙ word.net.each k (omega (arith, h, wires_w))
       ∙ ap (option_map (λ (x : ℕ × ℕ). (word.node x.0, word.node x.1)))
@@ -97,8 +97,8 @@ module _ (l : Layout) (fits : Fits l) (w : Word) (word : IsWordOfLayout l w) whe
 
     -- the node from which a square hangs after first moves is the layout's
     pub above_is : (k v : ℕ) → slice_get (outline_of front).hung k ≡ Some v → l.above (word.square k) ≡ word.node v
-    above_is k v e = (wire k (omega (arith, got_low (outline_of front).hung k v e, hung_less))).0
-        ∙ ap word.node (index_got (outline_of w).hung k v (ap (λ (xs : List ℕ). slice_get xs k) hung_then.1
+    above_is k v e = (wire k (omega (arith, slice_get_within (outline_of front).hung k v e, hung_less))).0
+        ∙ ap word.node (get_or_from_slice_get (outline_of w).hung k v 0 (ap (λ (xs : List ℕ). slice_get xs k) hung_then.1
         ∙ get_append (outline_of front).hung hung_then.0 k v e))
 
     -- a node that is closed after first moves is closed as the same in the word

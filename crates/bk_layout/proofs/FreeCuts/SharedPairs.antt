@@ -1,8 +1,7 @@
 -- Lines and nodes that words share: two lines at one open segment, and a closed node.
 use Rattle.std.proofs.Common.{List, Some, ap, arith, inl, inr, length, refl, slice_get, slice_index_or, subst, sym, ℕ, ◌++◌, ◌+◌, ◌-◌, ◌<◌, ◌∙◌, ◌≡◌, ◌≤◌, ◌⊎◌}
 use Rattle.std.proofs.lemmas.Bool.{cases_lt}
-use Rattle.bk_laws.proofs.ListPlaces.{got_index}
-use Rattle.bk_laws.proofs.Outcomes.{some-injective}
+use Rattle.std.proofs.lemmas.Option.{same_Some, slice_get-get_or}
 use Rattle.bk_word.specs.Outline.{start}
 use Rattle.bk_word.specs.Play.{AreLegalFrom, outline_of}
 use Rattle.bk_word.specs.Word.{Word}
@@ -51,7 +50,7 @@ module _ (l : Layout) (fits : Fits l) (simple : IsSimpleLayout l) (lines : AreLi
     place = subst (λ (u : ℕ). (k : ℕ) × (slice_get (l.ending u) k ≡ Some z)) bottom (fits.lists.ends z within)
 
     is_it : l.left z ≡ left_line → l.right z ≡ right_line → (i ≡ j) × (slice_get (outline_of front).hung (a - 1) ≡ Some v)
-    is_it h k = (omega (arith, at_a, at_b), got_index (outline_of front).hung (a - 1) low ∙ ap (λ (u : ℕ). Some u) same_node)
+    is_it h k = (omega (arith, at_a, at_b), slice_get-get_or (outline_of front).hung (a - 1) 0 low ∙ ap (λ (u : ℕ). Some u) same_node)
       where
         at_a : place.0 ≡ t.from + i
         at_a = lines.lefts t.node place.0 (t.from + i) z (word.square (a - 1)) place.1 (t.stands i a f) h
@@ -60,7 +59,7 @@ module _ (l : Layout) (fits : Fits l) (simple : IsSimpleLayout l) (lines : AreLi
         at_b = lines.rights t.node place.0 (t.from + j) z (word.square (b - 1)) place.1 (t.stands j b g) k
 
         same : z ≡ word.square (a - 1)
-        same = some-injective z (word.square (a - 1)) (sym place.1 ∙ ap (λ (n : ℕ). slice_get (l.ending t.node) n) at_a ∙ t.stands i a f)
+        same = same_Some z (word.square (a - 1)) (sym place.1 ∙ ap (λ (n : ℕ). slice_get (l.ending t.node) n) at_a ∙ t.stands i a f)
 
         low : a - 1 < length (outline_of front).hung
         low = omega (arith, a_low.0, a_low.1)
@@ -69,7 +68,7 @@ module _ (l : Layout) (fits : Fits l) (simple : IsSimpleLayout l) (lines : AreLi
         same_node = node_apart l fits w word (slice_index_or (outline_of front).hung (a - 1) 0) v
             (omega (arith, played.below (a - 1) low, closed_less l fits w word front rest is)) (omega (arith, closed, closed_less l fits w word front rest is))
             (sym (above_is l fits w word front rest is (a - 1) (slice_index_or (outline_of front).hung (a - 1) 0)
-            (got_index (outline_of front).hung (a - 1) low)) ∙ ap l.above (sym same) ∙ top)
+            (slice_get-get_or (outline_of front).hung (a - 1) 0 low)) ∙ ap l.above (sym same) ∙ top)
 
     own : l.left z ≡ l.right z → ⊥
     own h = lines.order t.node place.0 place.0 z z place.1 place.1 (omega arith) h

@@ -2,9 +2,10 @@
 use Rattle.std.proofs.Common.{Some, ap, arith, inl, inr, length, map, slice_get, suc, sym, zero, ℕ, ◌<◌, ◌∙◌, ◌∷◌, ◌≡◌, ◌≤◌, ◌⊎◌}
 use Rattle.std.proofs.lemmas.List.{length-map}
 use Rattle.std.proofs.lemmas.Bool.{cases_eq}
+use Rattle.std.proofs.lemmas.Option.{same_Some, slice_get_within}
 use Rattle.bk_laws.proofs.Occurrences.{slice_get-of_times_positive, times, times-le_one_of_unique_place}
-use Rattle.bk_laws.proofs.ListPlaces.{get_map, got_low}
-use Rattle.bk_laws.proofs.Outcomes.{some-injective}
+use Rattle.bk_laws.proofs.ListPlaces.{get_map}
+use Rattle.bk_laws.proofs.NumberOrder.{zero_or_positive}
 use Rattle.bk_laws.proofs.TestsAsNumbers.{cond_count-nat_eq_other, cond_count-nat_eq_same}
 use Rattle.bk_word.proofs.PlayLists.{numbers-length}
 use Rattle.bk_word.specs.Play.{numbers_from, outline_of}
@@ -27,10 +28,10 @@ module _ (l : Layout) (fits : Fits l) (w : Word) (word : IsWordOfLayout l w) whe
 
   low_place : (k q : ℕ) → slice_get (map word.square (numbers_from 0 (length (outline_of w).hung))) k ≡ Some q
       → (k < length (outline_of w).hung) × (word.square k ≡ q)
-  low_place k q e = (below, some-injective (word.square k) q (sym (at_place k below) ∙ e))
+  low_place k q e = (below, same_Some (word.square k) q (sym (at_place k below) ∙ e))
     where
       below : k < length (outline_of w).hung
-      below = omega (arith, got_low (map word.square (numbers_from 0 (length (outline_of w).hung))) k q e, long)
+      below = omega (arith, slice_get_within (map word.square (numbers_from 0 (length (outline_of w).hung))) k q e, long)
 
   few : (q : ℕ) → times q (map word.square (numbers_from 0 (length (outline_of w).hung))) ≤ 1
   few q = times-le_one_of_unique_place (map word.square (numbers_from 0 (length (outline_of w).hung))) q
@@ -38,11 +39,8 @@ module _ (l : Layout) (fits : Fits l) (w : Word) (word : IsWordOfLayout l w) whe
 
   -- each square of the layout has a number in the word
   pub numbered_square : (q : ℕ) → q < l.squares → (k : ℕ) × (k < length (outline_of w).hung) × (word.square k ≡ q)
-  numbered_square q h = cases (two (times q (map word.square (numbers_from 0 (length (outline_of w).hung)))))
+  numbered_square q h = cases (zero_or_positive (times q (map word.square (numbers_from 0 (length (outline_of w).hung)))))
     where
-      two : (n : ℕ) → (n ≡ 0) ⊎ (0 < n)
-      two n = grind arith
-
       none : times q (map word.square (numbers_from 0 (length (outline_of w).hung))) ≡ 0 → ⊥
       none e = omega (arith, long, hung_w l fits w word, at_most l.squares (q ∷ map word.square (numbers_from 0 (length (outline_of w).hung))) low once)
         where
@@ -50,7 +48,7 @@ module _ (l : Layout) (fits : Fits l) (w : Word) (word : IsWordOfLayout l w) whe
           low x k = by_place (slice_get-of_times_positive (q ∷ map word.square (numbers_from 0 (length (outline_of w).hung))) x k)
             where
               by_place : (j : ℕ) × (slice_get (q ∷ map word.square (numbers_from 0 (length (outline_of w).hung))) j ≡ Some x) → x < l.squares
-              by_place (zero, g) = omega (arith, h, some-injective q x g)
+              by_place (zero, g) = omega (arith, h, same_Some q x g)
               by_place (suc j, g) = omega (arith, square_low l fits w word j (low_place j x g).0, (low_place j x g).1)
 
           once : (x : ℕ) → x < l.squares → times x (q ∷ map word.square (numbers_from 0 (length (outline_of w).hung))) ≤ 1

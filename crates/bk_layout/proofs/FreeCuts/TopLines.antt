@@ -1,8 +1,8 @@
 -- In a simple layout of three squares or more no line but the walls goes down from the top to the bottom.
 use Rattle.std.proofs.Common.{Some, ap, arith, inl, inr, max, slice_get, subst, suc, sym, zero, false, true, Bool, refl, ℕ, ◌+◌, ◌<◌, ◌∙◌, ◌≡◌, ◌≤◌, ◌⊎◌}
-use Rattle.bk_laws.proofs.ListPlaces.{get_some, got_low}
-use Rattle.bk_laws.proofs.NumberOrder.{le-same_or_less, three_numbers-not_two}
-use Rattle.bk_laws.proofs.Outcomes.{some-injective}
+use Rattle.std.proofs.lemmas.Option.{same_Some, slice_get_within}
+use Rattle.bk_laws.proofs.ListPlaces.{get_some}
+use Rattle.bk_laws.proofs.NumberOrder.{le-same_or_less, le_suc-last_or_less, three_numbers-not_two}
 use Rattle.bk_layout.specs.Layout.{AreNeighbours, Fits, IsFirst, IsLast, Layout}
 use Rattle.bk_layout.specs.SimpleLayout.{AreOutermost, HasOneBetween, IsSimpleLayout, Touches}
 use Rattle.bk_layout.specs.FreeCuts.{AreOuterWalls}
@@ -18,11 +18,8 @@ at_most f zero v h = subst (λ (u : ℕ). f u ≤ f 0) (sym none) (omega arith)
   where
     none : v ≡ 0
     none = omega (arith, h)
-at_most f (suc b) v h = cases (either v b h) (at_most f b v)
+at_most f (suc b) v h = cases (le_suc-last_or_less v b h) (at_most f b v)
   where
-    either : (v b : ℕ) → v ≤ suc b → (v ≡ suc b) ⊎ (v ≤ b)
-    either v b h = grind arith
-
     cases : (v ≡ suc b) ⊎ (v ≤ b) → (v ≤ b → f v ≤ most f b) → f v ≤ max (f (suc b)) (most f b)
     cases (inl e) rest = omega (arith, ap f e)
     cases (inr k) rest = omega (arith, rest k)
@@ -85,8 +82,8 @@ module _ (l : Layout) (fits : Fits l) (simple : IsSimpleLayout l) (walls : AreOu
     only_two z h at = from (subst (λ (u : ℕ). (k : ℕ) × (slice_get (l.ending u) k ≡ Some z)) at (fits.lists.ends z h))
       where
         from : (k : ℕ) × (slice_get (l.ending l.bottom) k ≡ Some z) → (z ≡ a.square) ⊎ (z ≡ b.square)
-        from (zero, e) = inl (some-injective z a.square (sym e ∙ first))
-        from (suc k, e) = inr (some-injective z b.square (sym e ∙ (λ i. slice_get (l.ending l.bottom) (same i)) ∙ last.2))
+        from (zero, e) = inl (same_Some z a.square (sym e ∙ first))
+        from (suc k, e) = inr (same_Some z b.square (sym e ∙ (λ i. slice_get (l.ending l.bottom) (same i)) ∙ last.2))
           where
             at_one : suc side_by_side.0 ≡ last.0
             at_one = fits.lists.ending_once l.bottom (suc side_by_side.0) last.0 b.square side_by_side.2 last.2
@@ -95,7 +92,7 @@ module _ (l : Layout) (fits : Fits l) (simple : IsSimpleLayout l) (walls : AreOu
             at_none = fits.lists.ending_once l.bottom side_by_side.0 0 a.square side_by_side.1 first
 
             same : suc k ≡ last.0
-            same = omega (arith, got_low (l.ending l.bottom) (suc k) z e, last.1, at_one, at_none)
+            same = omega (arith, slice_get_within (l.ending l.bottom) (suc k) z e, last.1, at_one, at_none)
 
     no_top : (z : ℕ) → (z ≡ a.square) ⊎ (z ≡ b.square) → l.above z ≡ 0
     no_top z (inl e) = ap l.above e ∙ a.top

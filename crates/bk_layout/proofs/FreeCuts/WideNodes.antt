@@ -1,6 +1,7 @@
 -- In a simple layout no node but the top and the bottom reaches from wall to wall.
 use Rattle.std.proofs.Common.{Some, ap, arith, inl, inr, length, slice_get, subst, suc, sym, zero, ℕ, ◌<◌, ◌∙◌, ◌≡◌, ◌⊎◌}
-use Rattle.bk_laws.proofs.ListPlaces.{get_some, got_low}
+use Rattle.std.proofs.lemmas.Option.{slice_get_within}
+use Rattle.bk_laws.proofs.ListPlaces.{get_some}
 use Rattle.bk_layout.specs.Layout.{Fits, IsLast, Layout}
 use Rattle.bk_layout.specs.SimpleLayout.{AreOutermost, HasOneBetween, IsSimpleLayout, Touches}
 use Rattle.bk_layout.specs.FreeCuts.{AreOuterWalls}
@@ -12,11 +13,11 @@ module _ (l : Layout) (fits : Fits l) (simple : IsSimpleLayout l) (walls : AreOu
   only_hanging v r h at left right = from (fits.lists.hangs r h)
     where
       by_place : (k : ℕ) → slice_get (l.hanging v) k ≡ Some r → length (l.hanging v) ≡ 1
-      by_place (suc k) e = absurd (before (get_some (l.hanging v) k (omega (arith, got_low (l.hanging v) (suc k) r e))))
+      by_place (suc k) e = absurd (before (get_some (l.hanging v) k (omega (arith, slice_get_within (l.hanging v) (suc k) r e))))
         where
           before : (p : ℕ) × (slice_get (l.hanging v) k ≡ Some p) → ⊥
           before (p, f) = walls.not_before p (fits.lists.hanging_is v k p f).0 (fits.lines.between v p r (k, f, e) ∙ left)
-      by_place zero e = cases (two (length (l.hanging v)) (got_low (l.hanging v) 0 r e))
+      by_place zero e = cases (two (length (l.hanging v)) (slice_get_within (l.hanging v) 0 r e))
         where
           two : (n : ℕ) → 0 < n → (n ≡ 1) ⊎ (1 < n)
           two n some = grind arith

@@ -1,8 +1,7 @@
 -- Lists of numbers in which a key rises, and what sorting by a key and filtering by a test keep.
 use Rattle.std.proofs.Common.{Bool, List, Some, [], ap, arith, cond, false, filter, inl, inr, nat_lt, refl, slice_get, suc, sym, true, zero, ℕ, ◌+◌}
 use Rattle.std.proofs.Common.{◌<◌, ◌∙◌, ◌∷◌, ◌≡◌, ◌≤◌, ◌⊎◌}
-use Rattle.std.proofs.lemmas.Bool.{cases_lt}
-use Rattle.bk_laws.proofs.NumberTests.{le-from_not_nat_lt, lt-from_nat_lt}
+use Rattle.std.proofs.lemmas.Bool.{cases_lt, ltb-false, ltb-true}
 use Rattle.bk_word.specs.Play.{numbers_from}
 use Rattle.bk_layout.specs.TilingLayout.{put_by, sorted_by}
 
@@ -75,8 +74,8 @@ put_ascends f q (x ∷ xs) a apart = cases (nat_lt (f q) (f x)) refl (put_ascend
     before l r (inr h) = a.0 r h
 
     cases : (b : Bool) → nat_lt (f q) (f x) ≡ b → Ascends f (put_by f q xs) → Ascends f (cond b (q ∷ x ∷ xs) (x ∷ put_by f q xs))
-    cases true e rest = (behind (lt-from_nat_lt (f q) (f x) e), a)
-    cases false e rest = ((λ r h. before (le-from_not_nat_lt (f q) (f x) e) r (put_from f q xs r h)), rest)
+    cases true e rest = (behind (ltb-true (f q) (f x) e), a)
+    cases false e rest = ((λ r h. before (ltb-false (f q) (f x) e) r (put_from f q xs r h)), rest)
 
 -- what stands in a list stands in the sorted one
 pub sorted_to : (f : ℕ → ℕ) (xs : List ℕ) (r : ℕ) → IsIn r xs → IsIn r (sorted_by f xs)

@@ -3,10 +3,9 @@ use Rattle.std.specs.List.{list_all}
 use Rattle.std.proofs.Common.{Bool, List, Some, [], ap, arith, cond, false, length, nat_eq, nat_lt, not, refl, slice_get, slice_index_or, subst, suc, sym}
 use Rattle.std.proofs.Common.{true, zero, ℕ, ◌&&◌, ◌<◌, ◌||◌, ◌∙◌, ◌∷◌, ◌≡◌, ◌≤◌}
 use Rattle.std.proofs.Common.{inl, inr, ◌⊎◌}
-use Rattle.std.proofs.lemmas.Bool.{and_parts, cases_lt}
-use Rattle.bk_laws.proofs.NumberTests.{eq-from_nat_eq, lt-from_nat_lt, nat_eq-of_equal}
+use Rattle.std.proofs.lemmas.Bool.{and_parts, cases_lt, eq-eqb, eqb-true, ltb-true}
+use Rattle.std.proofs.lemmas.Option.{same_Some}
 use Rattle.bk_laws.proofs.Occurrences.{slice_get-of_times_positive, times}
-use Rattle.bk_laws.proofs.Outcomes.{some-injective}
 use Rattle.bk_laws.proofs.Tests.{after_of, all_below, each_below}
 use Rattle.bk_laws.proofs.TestsAsNumbers.{cond_count-nat_eq_other}
 use Rattle.bk_laws.proofs.Truth.{or-elim, or-right_of_false}
@@ -72,7 +71,7 @@ neighbours p (x ∷ y ∷ xs) = p x y && neighbours p (y ∷ xs)
 
 first_to : (xs : List ℕ) (q : ℕ) → is_first xs q ≡ true → IsFirst xs q
 first_to [] q e = absurd (cc)
-first_to (x ∷ xs) q e = ap (λ (y : ℕ). Some y) (eq-from_nat_eq x q e)
+first_to (x ∷ xs) q e = ap (λ (y : ℕ). Some y) (eqb-true x q e)
 
 last_to : (xs : List ℕ) (q : ℕ) → IsFirst (last_of xs) q → IsLast xs q
 last_to [] q e = absurd (cc)
@@ -94,19 +93,19 @@ neighbours_to (x ∷ y ∷ xs) q r e = cases e (neighbours_to (y ∷ xs) q r)
     cases : (nat_eq x q && nat_eq y r) || are_neighbours (y ∷ xs) q r ≡ true → (are_neighbours (y ∷ xs) q r ≡ true → AreNeighbours (y ∷ xs) q r)
         → AreNeighbours (x ∷ y ∷ xs) q r
     cases f rest = or-elim (nat_eq x q && nat_eq y r) (are_neighbours (y ∷ xs) q r) (λ g. let h = and_parts (nat_eq x q) (nat_eq y r) g in
-        (0, ap (λ (z : ℕ). Some z) (eq-from_nat_eq x q h.0), ap (λ (z : ℕ). Some z) (eq-from_nat_eq y r h.1)))
+        (0, ap (λ (z : ℕ). Some z) (eqb-true x q h.0), ap (λ (z : ℕ). Some z) (eqb-true y r h.1)))
         (λ g. let k = rest g in (suc k.0, k.1, k.2)) f
 
 firsts_at : (p : ℕ → ℕ → Bool) (xs ys : List ℕ) (q r : ℕ) → firsts p xs ys ≡ true → IsFirst xs q → IsFirst ys r → p q r ≡ true
 firsts_at p [] ys q r e f g = absurd (cc)
 firsts_at p (x ∷ xs) [] q r e f g = absurd (cc)
-firsts_at p (x ∷ xs) (y ∷ ys) q r e f g = sym (λ i. p (some-injective x q f i) (some-injective y r g i)) ∙ e
+firsts_at p (x ∷ xs) (y ∷ ys) q r e f g = sym (λ i. p (same_Some x q f i) (same_Some y r g i)) ∙ e
 
 neighbours_at : (p : ℕ → ℕ → Bool) (xs : List ℕ) (k q r : ℕ) → neighbours p xs ≡ true → slice_get xs k ≡ Some q → slice_get xs (suc k) ≡ Some r → p q r ≡ true
 neighbours_at p [] k q r e f g = absurd (cc)
 neighbours_at p (x ∷ []) k q r e f g = absurd (cc)
 neighbours_at p (x ∷ y ∷ xs) zero q r e f g =
-    sym (λ i. p (some-injective x q f i) (some-injective y r g i)) ∙ (and_parts (p x y) (neighbours p (y ∷ xs)) e).0
+    sym (λ i. p (same_Some x q f i) (same_Some y r g i)) ∙ (and_parts (p x y) (neighbours p (y ∷ xs)) e).0
 neighbours_at p (x ∷ y ∷ xs) (suc k) q r e f g = neighbours_at p (y ∷ xs) k q r (and_parts (p x y) (neighbours p (y ∷ xs)) e).1 f g
 
 -- ---- lists
@@ -127,7 +126,7 @@ all_low n xs x e some = let k = slice_get-of_times_positive xs x some in at xs k
   where
     at : (xs : List ℕ) (k : ℕ) → list_all (λ y. nat_lt y n) xs ≡ true → slice_get xs k ≡ Some x → x < n
     at [] k e f = absurd (cc)
-    at (y ∷ xs) zero e f = subst (λ (z : ℕ). z < n) (some-injective y x f) (lt-from_nat_lt y n (and_parts (nat_lt y n) (list_all (λ y. nat_lt y n) xs) e).0)
+    at (y ∷ xs) zero e f = subst (λ (z : ℕ). z < n) (same_Some y x f) (ltb-true y n (and_parts (nat_lt y n) (list_all (λ y. nat_lt y n) xs) e).0)
     at (y ∷ xs) (suc k) e f = at xs k (and_parts (nat_lt y n) (list_all (λ y. nat_lt y n) xs) e).1 f
 
 sorted_by_test : (n bound : ℕ) (a : ℕ → ℕ) (h : ℕ → List ℕ) → ((w : ℕ) → bound ≤ w → h w ≡ []) → are_sorted n bound a h ≡ true → Sorted n a h
@@ -142,10 +141,10 @@ sorted_by_test n bound a h past e =
         (each_below (λ x. nat_lt (a x) bound && is_counted bound a h x) n parts.0 x low)
 
     counted : (x w : ℕ) → x < n → (w < bound) ⊎ (bound ≤ w) → times x (h w) ≡ cond {A = ℕ} (nat_eq (a x) w) 1 0
-    counted x w low (inl m) = eq-from_nat_eq (times x (h w)) (cond {A = ℕ} (nat_eq (a x) w) 1 0)
+    counted x w low (inl m) = eqb-true (times x (h w)) (cond {A = ℕ} (nat_eq (a x) w) 1 0)
         (each_below (λ w. nat_eq (times x (h w)) (cond (nat_eq (a x) w) 1 0)) bound (at x low).1 w m)
     counted x w low (inr m) = ap (times x) (past w m)
-        ∙ sym (cond_count-nat_eq_other (a x) w (λ f. omega (arith, f, m, lt-from_nat_lt (a x) bound (at x low).0)))
+        ∙ sym (cond_count-nat_eq_other (a x) w (λ f. omega (arith, f, m, ltb-true (a x) bound (at x low).0)))
 
     below : (x w : ℕ) → 0 < times x (h w) → (w < bound) ⊎ (bound ≤ w) → x < n
     below x w some (inl m) = all_low n (h w) x (each_below (λ w. list_all (λ x. nat_lt x n) (h w)) bound parts.1 w m) some
@@ -217,7 +216,7 @@ module _ (t : Table) where
   lists_pass e = lists_of_sorted l
       (sorted_by_test l.squares (suc l.bottom) l.above l.hanging (λ v h. past_end t.hanging v (omega (arith, h))) parts.0)
       (sorted_by_test l.squares (suc l.bottom) l.below l.ending
-      (λ v h. past_end t.ending v (omega (arith, h, lt-from_nat_lt (length t.ending) (suc (suc l.bottom)) parts.2))) parts.1)
+      (λ v h. past_end t.ending v (omega (arith, h, ltb-true (length t.ending) (suc (suc l.bottom)) parts.2))) parts.1)
     where
       parts : (are_sorted l.squares (suc l.bottom) l.above l.hanging ≡ true) × (are_sorted l.squares (suc l.bottom) l.below l.ending ≡ true)
           × (nat_lt (length t.ending) (suc (suc l.bottom)) ≡ true)
@@ -226,9 +225,9 @@ module _ (t : Table) where
 
   nodes_pass : ((q : ℕ) → q < l.squares → is_square q ≡ true) → ((v : ℕ) → v < l.bottom → is_node v ≡ true) → AreNodes l
   nodes_pass squares nodes = record {
-    hangs_above = λ q low. lt-from_nat_lt (l.above q) l.bottom (square q low).0;
-    ends_below = λ q low. (omega (arith, down q low), omega (arith, lt-from_nat_lt (l.below q) (suc l.bottom) (square q low).2));
-    hanging_some = λ v low. lt-from_nat_lt 0 (length (l.hanging v)) (node v low).0;
+    hangs_above = λ q low. ltb-true (l.above q) l.bottom (square q low).0;
+    ends_below = λ q low. (omega (arith, down q low), omega (arith, ltb-true (l.below q) (suc l.bottom) (square q low).2));
+    hanging_some = λ v low. ltb-true 0 (length (l.hanging v)) (node v low).0;
     ending_some = ending_some;
     rank = λ v. v;
     rises = down;
@@ -242,22 +241,22 @@ module _ (t : Table) where
       node v low = and_parts (nat_lt 0 (length (l.hanging v))) (nat_lt 0 (length (l.ending (suc v)))) (nodes v low)
 
       down : (q : ℕ) → q < l.squares → l.above q < l.below q
-      down q low = lt-from_nat_lt (l.above q) (l.below q) (square q low).1
+      down q low = ltb-true (l.above q) (l.below q) (square q low).1
 
       ending_some : (v : ℕ) → 0 < v → v ≤ l.bottom → 0 < length (l.ending v)
       ending_some zero some low = absurd (omega (arith, some))
-      ending_some (suc v) some low = lt-from_nat_lt 0 (length (l.ending (suc v))) (node v (omega (arith, low))).1
+      ending_some (suc v) some low = ltb-true 0 (length (l.ending (suc v))) (node v (omega (arith, low))).1
 
   lines_pass : AreLists l → AreNodes l → is_top ≡ true → ((v : ℕ) → v < l.bottom → has_lines v ≡ true) → AreLines l
   lines_pass lists nodes top lines = record {
-    between = λ v q r next. eq-from_nat_eq (l.right q) (l.left r) (neighbours_at (λ q r. nat_eq (l.right q) (l.left r)) (l.hanging v) next.0 q r
+    between = λ v q r next. eqb-true (l.right q) (l.left r) (neighbours_at (λ q r. nat_eq (l.right q) (l.left r)) (l.hanging v) next.0 q r
         (node v next.0 q next.1).0 next.1 next.2);
-    same_left = λ v q p f g. eq-from_nat_eq (l.left p) (l.left q) (firsts_at (λ q p. nat_eq (l.left p) (l.left q)) (l.ending v) (l.hanging v) q p
+    same_left = λ v q p f g. eqb-true (l.left p) (l.left q) (firsts_at (λ q p. nat_eq (l.left p) (l.left q)) (l.ending v) (l.hanging v) q p
         (node v 0 p g).1 f g);
-    same_right = λ v q p f g. eq-from_nat_eq (l.right p) (l.right q) (firsts_at (λ q p. nat_eq (l.right p) (l.right q)) (last_of (l.ending v))
+    same_right = λ v q p f g. eqb-true (l.right p) (l.right q) (firsts_at (λ q p. nat_eq (l.right p) (l.right q)) (last_of (l.ending v))
         (last_of (l.hanging v)) q p (node v g.0 p g.2).2 (last_from (l.ending v) q f) (last_from (l.hanging v) p g));
-    top_left = λ p f. eq-from_nat_eq (l.left p) 0 (firsts_at (λ q p. nat_eq (l.left q) 0) (l.hanging 0) (l.hanging 0) p p ends.0 f f);
-    top_right = λ p f. eq-from_nat_eq (l.right p) 1 (firsts_at (λ q p. nat_eq (l.right q) 1) (last_of (l.hanging 0)) (last_of (l.hanging 0)) p p ends.1
+    top_left = λ p f. eqb-true (l.left p) 0 (firsts_at (λ q p. nat_eq (l.left q) 0) (l.hanging 0) (l.hanging 0) p p ends.0 f f);
+    top_right = λ p f. eqb-true (l.right p) 1 (firsts_at (λ q p. nat_eq (l.right q) 1) (last_of (l.hanging 0)) (last_of (l.hanging 0)) p p ends.1
         (last_from (l.hanging 0) p f) (last_from (l.hanging 0) p f));
   }
     where
@@ -278,10 +277,10 @@ module _ (t : Table) where
   go_on_pass squares = record {
     on_left = λ q low f. let k = and_parts (is_first (l.ending (l.below q)) q) (nat_lt (l.below q) l.bottom)
         (after_of (l.goes_left q) (is_first (l.ending (l.below q)) q && nat_lt (l.below q) l.bottom) (square q low).0 f) in
-        (first_to (l.ending (l.below q)) q k.0, lt-from_nat_lt (l.below q) l.bottom k.1);
+        (first_to (l.ending (l.below q)) q k.0, ltb-true (l.below q) l.bottom k.1);
     on_right = λ q low f. let k = and_parts (is_first (last_of (l.ending (l.below q))) q) (nat_lt (l.below q) l.bottom)
         (after_of (l.goes_right q) (is_first (last_of (l.ending (l.below q))) q && nat_lt (l.below q) l.bottom) (square q low).1 f) in
-        (last_to (l.ending (l.below q)) q (first_to (last_of (l.ending (l.below q))) q k.0), lt-from_nat_lt (l.below q) l.bottom k.1);
+        (last_to (l.ending (l.below q)) q (first_to (last_of (l.ending (l.below q))) q k.0), ltb-true (l.below q) l.bottom k.1);
     at_left_wall = λ q low f. first_to (l.ending (l.below q)) q (after_of (nat_eq (l.left q) 0) (is_first (l.ending (l.below q)) q) (rest q low).0
         (ap (λ (n : ℕ). nat_eq n 0) f));
     at_right_wall = λ q low f. last_to (l.ending (l.below q)) q (first_to (last_of (l.ending (l.below q))) q
@@ -290,7 +289,7 @@ module _ (t : Table) where
         (or-right_of_false (l.goes_left r) (are_neighbours (l.ending (l.below q)) q r) g
         (or-right_of_false (l.goes_right q) (l.goes_left r || are_neighbours (l.ending (l.below q)) q r) f
         (after_of (nat_eq (l.right q) (l.left r)) (l.goes_right q || (l.goes_left r || are_neighbours (l.ending (l.below q)) q r))
-        (each_below (do_meet q) l.squares (rest q low_q).2 r low_r) (nat_eq-of_equal (l.right q) (l.left r) line))));
+        (each_below (do_meet q) l.squares (rest q low_q).2 r low_r) (eq-eqb (l.right q) (l.left r) line))));
   }
     where
       square : (q : ℕ) → q < l.squares
@@ -313,7 +312,7 @@ module _ (t : Table) where
           on : (nat_lt 0 l.bottom ≡ true) × (are_lists ≡ true) × (is_top ≡ true) → (all_below is_square l.squares ≡ true)
               × (all_below (λ v. is_node v && has_lines v) l.bottom ≡ true) × (all_below goes_on l.squares ≡ true) → Fits l
           on (a, b, c) (d, h, k) = record {
-            some = lt-from_nat_lt 0 l.bottom a;
+            some = ltb-true 0 l.bottom a;
             lists = lists_pass b;
             nodes = nodes;
             lines = lines_pass (lists_pass b) nodes c (λ v low. (node v low).1);

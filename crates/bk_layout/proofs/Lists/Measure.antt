@@ -1,11 +1,12 @@
 -- Words as numbers: words of one order that become less can't do so for ever.
 use Rattle.std.specs.List.{AllByRecursion}
-use Rattle.std.proofs.Common.{Bool, List, [], ap, arith, inl, inr, length, map, false, refl, subst, suc, true, zero, ℕ, ◌*◌, ◌++◌, ◌+◌, ◌<◌, ◌∷◌, ◌≡◌, ◌≤◌, ◌⊎◌}
+use Rattle.std.proofs.Common.{List, [], ap, arith, inl, inr, length, map, refl, subst, suc, zero, ℕ, ◌*◌, ◌++◌, ◌+◌, ◌<◌, ◌∷◌, ◌≡◌, ◌≤◌, ◌⊎◌}
 use Rattle.std.proofs.Math.Nat.{mul-le-mul_right}
 use Rattle.std.proofs.lemmas.List.{length-append, length-map}
 use Rattle.bk_laws.proofs.Powers.{power, some_power}
+use Rattle.bk_word.proofs.PlayLaws.{side_has_one_sign_at_most}
 use Rattle.bk_word.proofs.StoredBytes.{order_more}
-use Rattle.bk_word.specs.Outline.{Outline, has_left_wall, has_right_wall, open_side}
+use Rattle.bk_word.specs.Outline.{Outline, has_left_wall, has_right_wall}
 use Rattle.bk_word.specs.Play.{AreLegalFrom, after_move}
 use Rattle.bk_word.specs.Word.{Move, Word, order_of, sign_place}
 use Rattle.bk_word.specs.declared.Sign.{Sign}
@@ -80,13 +81,9 @@ few_digits o (m ∷ w) legal = omega (
   legal.0.signs,
   length-append (m.count ∷ map sign_place m.signs) (digits w),
   length-map m.signs sign_place,
-  one_side (has_left_wall o),
-  one_side (has_right_wall o),
+  side_has_one_sign_at_most (has_left_wall o),
+  side_has_one_sign_at_most (has_right_wall o),
 )
-  where
-    one_side : (b : Bool) → open_side b ≤ 1
-    one_side true = omega arith
-    one_side false = omega arith
 
 same_front : (xs ys zs : List ℕ) → AreLess ys zs → AreLess (xs ++ ys) (xs ++ zs)
 same_front [] ys zs l = l

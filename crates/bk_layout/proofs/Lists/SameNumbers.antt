@@ -41,7 +41,7 @@ once_places (x ∷ xs) one = (
   once_places xs (λ j k q e f. let g : suc j ≡ suc k = one (suc j) (suc k) q e f in omega (arith, g)),
 )
 
--- what passes a test is one, of such a list
+-- the numbers of a list without repeated ones that pass a test repeat none
 pub once_filter : (p : ℕ → Bool) (xs : List ℕ) → Once xs → Once (filter p xs)
 once_filter p [] once = tt
 once_filter p (x ∷ xs) once = cases (p x) (once_filter p xs once.1)

@@ -3,11 +3,11 @@
 use Rattle.std.specs.List.{concat, list_any}
 use Rattle.std.proofs.Common.{Bool, List, Some, [], ap, arith, cond, false, inl, inr, length, refl, slice_get, slice_index_or, subst, suc, sym, take}
 use Rattle.std.proofs.Common.{true, zero, ℕ, ◌||◌, ◌++◌, ◌+◌, ◌-◌, ◌<◌, ◌∙◌, ◌∷◌, ◌≡◌, ◌≤◌, ◌⊎◌}
-use Rattle.bk_laws.proofs.ListPlaces.{get_front, get_map, get_some, got_low, length-concat_take_next, slice_get-concat}
+use Rattle.std.proofs.lemmas.Option.{same_Some, slice_get_within}
+use Rattle.bk_laws.proofs.ListPlaces.{get_front, get_map, get_some, length-concat_take_next, slice_get-concat}
 use Rattle.bk_laws.proofs.Occurrences.{times-positive_of_slice_get, times_at, times_in-append, times_in-positive_of_slice_get}
 use Rattle.bk_laws.proofs.AllOfLists.{list_any-slice_get}
 use Rattle.bk_laws.proofs.ListItems.{concat-only_list}
-use Rattle.bk_laws.proofs.Outcomes.{some-injective}
 use Rattle.bk_word.specs.Outline.{Outline, start}
 use Rattle.bk_word.specs.Play.{AreLegalFrom, after_move, outline_of}
 use Rattle.bk_word.specs.Word.{Word, order_of}
@@ -51,7 +51,7 @@ touched_at lines (u ∷ segments) zero s e f = cases (list_any (on_line lines) u
 
     cases : (b : Bool) → list_any (on_line lines) u ≡ b → (b || next_on_line lines segments) ≡ true → (list_any (on_line lines) s ≡ true)
         ⊎ ((t : List ℕ) × (slice_get (u ∷ segments) 1 ≡ Some t) × (begins_on_line lines t ≡ true))
-    cases true g h = inl (subst (λ (x : List ℕ). list_any (on_line lines) x ≡ true) (some-injective u s e) g)
+    cases true g h = inl (subst (λ (x : List ℕ). list_any (on_line lines) x ≡ true) (same_Some u s e) g)
     cases false g h = inr (next segments h)
 
 begins_at : (lines : List Bool) (t : List ℕ) → begins_on_line lines t ≡ true → (y : ℕ) × (slice_get t 0 ≡ Some y) × (on_line lines y ≡ true)
@@ -60,7 +60,7 @@ begins_at lines (y ∷ t) e = (y, refl, e)
 
 filled_got : (segments : List (List ℕ)) (i : ℕ) (s : List ℕ) → AllFilled segments → slice_get segments i ≡ Some s → 0 < length s
 filled_got [] i s all e = absurd (cc)
-filled_got (t ∷ segments) zero s all e = omega (arith, all.0, ap length (some-injective t s e))
+filled_got (t ∷ segments) zero s all e = omega (arith, all.0, ap length (same_Some t s e))
 filled_got (t ∷ segments) (suc i) s all e = filled_got segments i s all.1 e
 
 -- one segment without marks has no square on a line
@@ -172,7 +172,7 @@ module _ (n : ℕ) (l : Layout) (w : Word) (sound : IsSound n l) (normal : IsNor
   before_line : (i : ℕ) (s t : List ℕ) → slice_get (outline_of front).segments i ≡ Some s → slice_get (outline_of front).segments (suc i) ≡ Some t
       → (y : ℕ) → slice_get t 0 ≡ Some y → on_line (edges_on_lines front) y ≡ true → (k z : ℕ) → suc k ≡ length s → slice_get s k ≡ Some z
       → (j : ℕ) → slice_get last j ≡ Some z → ⊥
-  before_line i s t at next y first on k z end in_s j in_last = cases (two j (length last) (got_low last j z in_last))
+  before_line i s t at next y first on k z end in_s j in_last = cases (two j (length last) (slice_get_within last j z in_last))
     where
       two : (a b : ℕ) → a < b → (suc a ≡ b) ⊎ (suc a < b)
       two a b h = grind arith
@@ -245,7 +245,7 @@ module _ (n : ℕ) (l : Layout) (w : Word) (sound : IsSound n l) (normal : IsNor
       cases (inl f) = by_line (touched_at (edges_on_lines front) (outline_of front).segments i s at f)
       cases (inr (u, f, wide)) =
           let z = get_some s 0 some_s in
-          let same : u ≡ s = some-injective u s (sym f ∙ at) in (
+          let same : u ≡ s = same_Some u s (sym f ∙ at) in (
             z.0,
             0,
             z.1,

@@ -1,8 +1,10 @@
 -- The moves at the walls in two parts of a word, and how many moves a word of a normal layout has at most.
-use Rattle.std.proofs.Common.{Bool, [], ap, arith, cond, false, inl, inr, length, max, nat_lt, refl, slice_get, subst, true, ℕ, ◌*◌, ◌++◌, ◌+◌, ◌<◌}
+use Rattle.std.proofs.Common.{Bool, [], ap, arith, cond, false, inl, inr, length, max, nat_lt, refl, slice_get, subst, ℕ, ◌*◌, ◌++◌, ◌+◌, ◌<◌}
 use Rattle.std.proofs.Common.{◌∙◌, ◌∷◌, ◌≡◌, ◌≤◌, ◌⊎◌}
+use Rattle.std.proofs.lemmas.Bool.{lt-ltb}
 use Rattle.std.specs.Prelude.{◌/◌}
 use Rattle.std.proofs.lemmas.Bool.Decides.{nat_tests}
+use Rattle.bk_laws.proofs.NumberOrder.{le_or_gt}
 use Rattle.bk_word.specs.Outline.{Outline, start}
 use Rattle.bk_word.specs.Play.{AreLegalFrom, after_move, after_moves, outline_of}
 use Rattle.bk_word.specs.Word.{Word}
@@ -83,11 +85,8 @@ module _ (n : ℕ) (l : Layout) (w : Word) (sound : IsSound n l) (normal : IsNor
     -- the word has few moves
     pub few_moves : (most : ℕ) → AreMostMoves n front most → length w ≤ most
     few_moves most (inl few) = omega (arith, few, normal.few, sound.squares, moves_is l w word)
-    few_moves most (inr (few, wide)) = cases (two (length w) most)
+    few_moves most (inr (few, wide)) = cases (le_or_gt (length w) most)
       where
-        two : (a b : ℕ) → (a ≤ b) ⊎ (b < a)
-        two a b = grind arith
-
         cases : (length w ≤ most) ⊎ (most < length w) → length w ≤ most
         cases (inl h) = h
         cases (inr h) = absurd (omega (
@@ -105,21 +104,15 @@ pub most_moves_are_most : MostMovesAreMost
 most_moves_are_most n front = of (first_count front) (max (left_squares front) (right_squares front))
   where
     of : (a b : ℕ) → (n ≤ 2 * cond (nat_lt a b) (n / 2) ((n + 1) / 2)) ⊎ ((n ≤ 2 * cond (nat_lt a b) (n / 2) ((n + 1) / 2) + 1) × (a < b))
-    of a b = cases (two a b)
+    of a b = cases (le_or_gt b a)
       where
-        two : (a b : ℕ) → (b ≤ a) ⊎ (a < b)
-        two a b = grind arith
-
         not : (a b : ℕ) → b ≤ a → nat_lt a b ≡ false
         not a b h = grind (arith, nat_tests)
-
-        is : (a b : ℕ) → a < b → nat_lt a b ≡ true
-        is a b h = grind (arith, nat_tests)
 
         cases : (b ≤ a) ⊎ (a < b)
             → (n ≤ 2 * cond (nat_lt a b) (n / 2) ((n + 1) / 2)) ⊎ ((n ≤ 2 * cond (nat_lt a b) (n / 2) ((n + 1) / 2) + 1) × (a < b))
         cases (inl h) = inl (omega (arith, ap (λ (x : Bool). cond {A = ℕ} x (n / 2) ((n + 1) / 2)) (not a b h)))
-        cases (inr h) = inr (omega (arith, ap (λ (x : Bool). cond {A = ℕ} x (n / 2) ((n + 1) / 2)) (is a b h)), h)
+        cases (inr h) = inr (omega (arith, ap (λ (x : Bool). cond {A = ℕ} x (n / 2) ((n + 1) / 2)) (lt-ltb a b h)), h)
 
 -- a move at a wall hangs one square there
 pub a_move_hangs_at_walls : AMoveHangsAtWalls

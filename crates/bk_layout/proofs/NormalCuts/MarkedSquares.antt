@@ -13,6 +13,7 @@ use Rattle.bk_layout.specs.Layout.{AreNeighbours, Fits, Layout}
 use Rattle.bk_layout.specs.LayoutLaws.{HangByLinesFrom, HangByNodesFrom, HangsByLines, HangsNode}
 use Rattle.bk_catalogue.proofs.HangingBounds.LineMoves.{lines_long}
 use Rattle.bk_catalogue.specs.VerticalCut.{begins_on_line, lines_after, lines_along, on_line}
+use Rattle.bk_laws.proofs.NumberOrder.{zero_or_positive}
 
 -- the line stands between two squares that hang from the top
 pub record IsTopLine (l : Layout) (line : ℕ) : Type 0 where
@@ -74,11 +75,8 @@ module _ (l : Layout) (fits : Fits l) (f : ℕ → ℕ) where
   -- the first move
   module _ (m : Move) (by_node : HangsNode l square start m) where
     at_top : by_node.node ≡ 0
-    at_top = cases (two by_node.node)
+    at_top = cases (zero_or_positive by_node.node)
       where
-        two : (n : ℕ) → (n ≡ 0) ⊎ (0 < n)
-        two n = grind arith
-
         cases : (by_node.node ≡ 0) ⊎ (0 < by_node.node) → by_node.node ≡ 0
         cases (inl e) = e
         cases (inr h) = absurd (omega (arith, fits.nodes.ending_some by_node.node h (omega (arith, by_node.low)), ap length (sym by_node.ends)))

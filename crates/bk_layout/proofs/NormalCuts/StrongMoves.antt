@@ -20,6 +20,7 @@ use Rattle.bk_word_net.proofs.Outlines.ValleyCut.{AllPart, AtValley, Beside}
 use Rattle.bk_catalogue.proofs.HangingBounds.ClosingLaws.{unders-cons}
 use Rattle.bk_catalogue.specs.SingleValleys.{single_valley}
 use Rattle.bk_catalogue.specs.WordBounds.{HangsNoPair}
+use Rattle.bk_laws.proofs.NumberOrder.{zero_or_positive}
 use Rattle.bk_layout.specs.FreeWord.{HangsNoTwins, IsFreeMove}
 use Rattle.bk_layout.specs.RuleR.{BeginsNoEvenAbove}
 use Rattle.bk_layout.proofs.Lists.Pieces.{empty-of_length_zero}
@@ -63,7 +64,7 @@ module _ (P : List ℕ → Bool) (gl : (s t : List ℕ) → P t ≡ true → P (
   two_see Even ms bs x numbers R part e = absurd (part refl)
   two_see Under ms bs x numbers R part e = omega (arith, seen_behind true ms bs (singles numbers) R (omega (arith, e, length-map numbers (λ q. q ∷ []))))
 
-  -- new squares up to the wall: one is a valley of one square again
+  -- of new squares up to the wall, compared by signs that are never even, one at least is a valley
   pub weight_wall : (x : ℕ) (ms : List Sign) (numbers : List ℕ) → length ms ≡ length numbers → NoEvens ms (suc (length numbers))
       → 1 ≤ weight true ms (singles (x ∷ numbers))
   weight_wall x [] numbers e none = omega arith
@@ -85,11 +86,8 @@ module _ (P : List ℕ → Bool) (gl : (s t : List ℕ) → P t ≡ true → P (
       → NoEvens ms (length numbers) → (length V ≡ 1 → length numbers ≡ 1 → ⊥) → Falls (length numbers) (Above ∷ bs) (V ∷ R) (ms ++ bs) (singles numbers ++ R)
   wall_inner V [] bs numbers R some e none pair = absurd (omega (arith, e, some))
   wall_inner V (g ∷ ms) bs [] R some e none pair = absurd (omega arith)
-  wall_inner V (g ∷ ms) bs (x ∷ numbers) R some e none pair = cases (single_case (length V)) (two (length numbers))
+  wall_inner V (g ∷ ms) bs (x ∷ numbers) R some e none pair = cases (single_case (length V)) (zero_or_positive (length numbers))
     where
-      two : (k : ℕ) → (k ≡ 0) ⊎ (0 < k)
-      two k = grind arith
-
       long : length (g ∷ ms) ≡ length (singles (x ∷ numbers))
       long = omega (arith, e, length-map numbers (λ q. q ∷ []))
 
@@ -328,9 +326,6 @@ module _ (P : List ℕ → Bool) (gl : (s t : List ℕ) → P t ≡ true → P (
         at : (b : Bool) → open_side b ≡ 1 → b ≡ false
         at true h = absurd (omega (arith, h))
         at false h = refl
-
-    abbrev news : List (List ℕ)
-    news = singles (new_squares o m)
 
     middle : Beside Under v.left v.left_signs → Beside Above v.right v.right_signs
         → Falls (length (new_squares o m)) (v.left_signs ++ (v.right_signs ++ v.after_signs)) (v.left ++ (v.valley ∷ (v.right ++ v.after)))

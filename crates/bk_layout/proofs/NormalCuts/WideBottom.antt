@@ -2,6 +2,7 @@
 use Rattle.std.proofs.Common.{Some, ap, arith, inl, inr, length, slice_get, subst, suc, sym, zero, ℕ, ◌<◌, ◌∙◌, ◌≡◌, ◌≤◌, ◌⊎◌}
 use Rattle.std.proofs.lemmas.Bool.{cases_eq}
 use Rattle.bk_laws.proofs.ListPlaces.{get_some, slice_get-only_item}
+use Rattle.bk_laws.proofs.NumberOrder.{zero_or_positive}
 use Rattle.bk_layout.specs.Layout.{Fits, Layout}
 use Rattle.bk_layout.specs.SimpleLayout.{IsSimpleLayout}
 use Rattle.bk_layout.specs.FreeCuts.{AreOuterWalls}
@@ -52,11 +53,8 @@ module _ (l : Layout) (fits : Fits l) (simple : IsSimpleLayout l) (walls : AreOu
 
   -- no single square ends on the bottom, where there are two squares or more
   pub no_wide_bottom : ⊥
-  no_wide_bottom = cases (two (l.above q))
+  no_wide_bottom = cases (zero_or_positive (l.above q))
     where
-      two : (n : ℕ) → (n ≡ 0) ⊎ (0 < n)
-      two n = grind arith
-
       cases : (l.above q ≡ 0) ⊎ (0 < l.above q) → ⊥
       cases (inl e) = only_one e
       cases (inr h) = simple.pairs (l.above q)

@@ -2,12 +2,13 @@
 use Rattle.std.specs.List.{concat}
 use Rattle.std.proofs.Common.{Bool, List, Some, [], ap, arith, drop, false, inl, inr, length, map, nat_le, refl, slice_get, slice_index_or}
 use Rattle.std.proofs.Common.{subst, suc, sym, take, true, zero, ℕ, ◌||◌, ◌++◌, ◌+◌, ◌-◌, ◌<◌, ◌∙◌, ◌∷◌, ◌≡◌, ◌≤◌, ◌⊎◌}
+use Rattle.std.proofs.lemmas.Bool.{false≢true}
 use Rattle.std.proofs.lemmas.Bool.Decides.{nat_tests}
 use Rattle.std.proofs.lemmas.List.{append-nil, append_assoc, nil_from_length}
-use Rattle.bk_laws.proofs.ListPlaces.{get_map, get_some, got_low, slice_index_or-of_slice_get}
+use Rattle.std.proofs.lemmas.Option.{same_Some, slice_get_within}
+use Rattle.bk_laws.proofs.ListPlaces.{get_map, get_some, slice_index_or-of_slice_get}
 use Rattle.bk_laws.proofs.Occurrences.{slice_get-of_times_positive, times, times-append, times-concat, times-positive_of_slice_get, times_at, times_in-append}
 use Rattle.bk_laws.proofs.Occurrences.{times_in-only_list}
-use Rattle.bk_laws.proofs.Outcomes.{some-injective}
 use Rattle.bk_word.specs.Outline.{Outline, sizes_of, start, valley_place}
 use Rattle.bk_word.specs.Play.{AreLegalFrom, after_move, after_moves, new_squares, outline_of}
 use Rattle.bk_word.specs.Word.{Word, order_of}
@@ -43,10 +44,7 @@ wide_long top lines (s ∷ segments) = ap suc (wide_long top lines segments)
 -- a mark is that of a line, or of squares
 pub wide_at : (top : ℕ) (lines : List Bool) (segments : List (List ℕ)) (i : ℕ) → slice_index_or (touched_or_wide top lines segments) i false ≡ true
     → (slice_index_or (touched lines segments) i false ≡ true) ⊎ ((s : List ℕ) × (slice_get segments i ≡ Some s) × (top ≤ length s))
-wide_at top lines [] i e = absurd (none e)
-  where
-    none : false ≡ true → ⊥
-    none e = cc
+wide_at top lines [] i e = absurd (false≢true e)
 wide_at top lines (s ∷ segments) (suc i) e = wide_at top lines segments i e
 wide_at top lines (s ∷ segments) zero e = cases (slice_index_or (touched lines (s ∷ segments)) 0 false) refl e
   where
@@ -193,7 +191,7 @@ module _ (n : ℕ) (l : Layout) (w : Word) (sound : IsSound n l) (normal : IsNor
         end_of_s = get_some s (length s - 1) (omega (arith, many_s))
 
         fits_in : e.from + (length s - 1) < length (l.ending l.bottom)
-        fits_in = got_low (l.ending l.bottom) (e.from + (length s - 1)) (square end_of_s.0) (stands (length s - 1) end_of_s.0 end_of_s.1)
+        fits_in = slice_get_within (l.ending l.bottom) (e.from + (length s - 1)) (square end_of_s.0) (stands (length s - 1) end_of_s.0 end_of_s.1)
 
         s_long : length s ≡ length (slice_index_or (outline_of w).segments 0 [])
         s_long = omega (arith, fits_in, last_long, top_wide, wide, many_s)
@@ -202,7 +200,7 @@ module _ (n : ℕ) (l : Layout) (w : Word) (sound : IsSound n l) (normal : IsNor
         from_none = omega (arith, fits_in, last_long, top_wide, wide, many_s)
 
         low_a : last_square.0 < length (slice_index_or (outline_of w).segments 0 [])
-        low_a = got_low last last_square.0 (length (outline_of w).hung) last_square.1
+        low_a = slice_get_within last last_square.0 (length (outline_of w).hung) last_square.1
 
         clash : (y : ℕ) × (slice_get s last_square.0 ≡ Some y) → ⊥
         clash (y, f) = omega (
@@ -227,7 +225,7 @@ module _ (n : ℕ) (l : Layout) (w : Word) (sound : IsSound n l) (normal : IsNor
             fewer = omega (arith, hung_many start front, hung_w l sound.fits w word, sound.squares, few)
 
             same : word.square (y - 1) ≡ word.square (length (outline_of w).hung - 1)
-            same = some-injective (square y) (square (length (outline_of w).hung))
+            same = same_Some (square y) (square (length (outline_of w).hung))
                 (sym (stands last_square.0 y f) ∙ ap (slice_get (l.ending l.bottom)) place ∙ got_last last_square.0 (length (outline_of w).hung) last_square.1)
               where
                 place : e.from + last_square.0 ≡ last_square.0

@@ -1,11 +1,11 @@
 -- As many squares hang from the top of a tiling's layout as the first move of the tiling's word hangs.
 use Rattle.std.proofs.Common.{Bool, List, Some, [], ap, arith, cond, count_by, false, filter, length, nat_lt, refl, slice_get, suc, sym}
 use Rattle.std.proofs.Common.{true, ℕ, ◌+◌, ◌==◌, ◌∙◌, ◌∷◌, ◌≡◌, ◌≤◌}
+use Rattle.std.proofs.lemmas.Bool.{eq-eqb, eqb-true}
 use Rattle.std.proofs.lemmas.Bool.Decides.{nat_tests}
 use Rattle.std.proofs.lemmas.List.Sums.{length-filter, sum_by-cons}
 use Rattle.std.proofs.lemmas.Option.{get_or_from_slice_get}
 use Rattle.bk_laws.proofs.Truth.{same_test-of_implications}
-use Rattle.bk_laws.proofs.NumberTests.{eq-from_nat_eq, nat_eq-of_equal}
 use Rattle.bk_tiling.proofs.Cells.{count-cons}
 use Rattle.bk_tiling.specs.SquareGroups.{square_groups}
 use Rattle.bk_tiling.specs.Tiling.{IsOneOf, IsTiling, Tiling, square_of}
@@ -65,9 +65,9 @@ module _ (t : Tiling) (tiling : IsTiling t) where
   same_test : (v : Segment) → v.x ≡ 0 → v.width ≡ t.width → v.level ≡ 0 → (q : Square) → IsOneOf q t.squares
       → (node_above (square_groups t.squares) q == 0) ≡ hangs_under v q
   same_test v x width level q h = same_test-of_implications (node_above (square_groups t.squares) q == 0) (hangs_under v q)
-      (λ e. let hang = top.hang_to q h (eq-from_nat_eq (node_above (square_groups t.squares) q) 0 e) in
+      (λ e. let hang = top.hang_to q h (eqb-true (node_above (square_groups t.squares) q) 0 e) in
       under_to v q (omega (arith, hang.0, (top.top refl).0, level)) (omega (arith, x)) (omega (arith, x, width, right_within t tiling q h)))
-      (λ e. nat_eq-of_equal (node_above (square_groups t.squares) q) 0
+      (λ e. eq-eqb (node_above (square_groups t.squares) q) 0
       (top.hang_from q q.x h (omega (arith, under_from v q e, (top.top refl).0, level)) (omega (arith, (top.top refl).1))
       (omega (arith, (top.top refl).2, right_within t tiling q h, side t tiling q h)) (omega arith) (omega (arith, side t tiling q h))))
 

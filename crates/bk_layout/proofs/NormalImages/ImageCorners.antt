@@ -75,13 +75,13 @@ module _ (t : Tiling) (tiling : IsTiling t) where
   corner_x_bottom = longest_image FlipX (is_in_bottom_corner t.width t.height) (is_in_bottom_corner t.width t.height) (λ q. refl)
       (λ q a b. ap (λ (c : Bool). is_at_bottom t.height q && c) (mirrored_walls q a))
 
-  -- at the left it is the one that was at the right, and the other way round
+  -- of a tiling with left and right exchanged, the longest side in the corners at either is that of the tiling at the other
   pub corners_x : (longest (is_in_left_corner t.height) (image FlipX t).squares ≡ longest (is_in_right_corner t.width t.height) t.squares)
       × (longest (is_in_right_corner t.width t.height) (image FlipX t).squares ≡ longest (is_in_left_corner t.height) t.squares)
   corners_x = exchanged FlipX is_at_left (is_at_right t.width) (λ q. is_at_top q || is_at_bottom t.height q) (λ q. refl) (λ q. refl)
       (λ q a b. eq_test-counted_back_start t.width q.x q.s a) (λ q a b. eq_test-counted_back_end t.width q.x q.s a)
 
-  -- with top and bottom exchanged, the one at the top was at the bottom, and the other way round
+  -- of a tiling with top and bottom exchanged, the longest side in the corners at either is that of the tiling at the other
   pub corners_y : (longest (is_in_top_corner t.width) (image FlipY t).squares ≡ longest (is_in_bottom_corner t.width t.height) t.squares)
       × (longest (is_in_bottom_corner t.width t.height) (image FlipY t).squares ≡ longest (is_in_top_corner t.width) t.squares)
   corners_y = exchanged FlipY is_at_top (is_at_bottom t.height) (λ q. is_at_left q || is_at_right t.width q) (λ q. refl) (λ q. refl)

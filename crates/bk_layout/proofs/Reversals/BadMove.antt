@@ -2,10 +2,9 @@
 -- after that.
 use Rattle.std.proofs.Common.{Bool, List, ap, arith, cond, inl, inr, length, nat_eq, refl, slice_get, suc, sym, ℕ, ◌+◌, ◌<◌, ◌∙◌, ◌≡◌}
 use Rattle.std.proofs.Common.{◌≤◌, ◌⊎◌}
-use Rattle.std.proofs.lemmas.Bool.{cases_eq}
+use Rattle.std.proofs.lemmas.Bool.{cases_eq, eq-eqb, ne_eqb}
 use Rattle.bk_laws.proofs.Occurrences.{times}
 use Rattle.bk_laws.proofs.NumberOrder.{zero_or_positive}
-use Rattle.bk_laws.proofs.NumberTests.{nat_eq-of_different, nat_eq-of_equal}
 use Rattle.bk_word.specs.Outline.{Outline}
 use Rattle.bk_word_net.proofs.Outlines.ValleyCut.{AtValley}
 use Rattle.bk_layout.proofs.Sweeps.Chains.{last_from}
@@ -44,10 +43,10 @@ module _ (l : Layout) (fits : Fits l) (o : Outline) (st : State l o) (c : AtVall
   u_not_v e = omega (arith, fits.nodes.rises q (q_is l fits o st c at low h begins).0, ap old e)
 
   rank_out : (w : ℕ) → times w st.done ≡ 0 → rank w ≡ late w
-  rank_out w e = ap (λ (b : Bool). cond {A = ℕ} b (late w) (old w)) (nat_eq-of_equal (times w st.done) 0 e)
+  rank_out w e = ap (λ (b : Bool). cond {A = ℕ} b (late w) (old w)) (eq-eqb (times w st.done) 0 e)
 
   rank_in : (w : ℕ) → 0 < times w st.done → rank w ≡ old w
-  rank_in w e = ap (λ (b : Bool). cond {A = ℕ} b (late w) (old w)) (nat_eq-of_different (times w st.done) 0 (λ f. omega (arith, e, f)))
+  rank_in w e = ap (λ (b : Bool). cond {A = ℕ} b (late w) (old w)) (ne_eqb (times w st.done) 0 (λ f. omega (arith, e, f)))
 
   old_low : (w : ℕ) → 0 < times w st.done → old w < top
   old_low w e = omega (arith, in_total fits.nodes.rank w st.done e)

@@ -1,10 +1,9 @@
 -- A layout without pairs has none up to reversed squares: a node with one square above and one below has two squares.
 use Rattle.std.proofs.Common.{List, Some, [], ap, arith, false, inl, inr, length, refl, slice_get, sym, true, ℕ, ◌<◌, ◌∙◌, ◌∷◌, ◌≡◌, ◌⊎◌}
 use Rattle.std.proofs.lemmas.Bool.{cases_Bool}
-use Rattle.std.proofs.lemmas.Option.{slice_get_within}
+use Rattle.std.proofs.lemmas.Option.{same_Some, slice_get_within}
 use Rattle.bk_laws.proofs.ListPlaces.{get_some}
 use Rattle.bk_laws.proofs.Truth.{either-swap}
-use Rattle.bk_laws.proofs.Outcomes.{some-injective}
 use Rattle.bk_layout.proofs.Lists.NodeLists.{Sorted, ending_sorted, hanging_sorted, sorted_is, sorted_once}
 use Rattle.bk_layout.specs.Layout.{Fits, Layout}
 use Rattle.bk_layout.specs.SimpleLayout.{HasNoPairs}
@@ -21,7 +20,7 @@ third a b x y z (inr e) (inl f) (inr h) n = inl (h ∙ sym e)
 
 -- a list of one number has no other
 only_one : (xs : List ℕ) (k x a : ℕ) → length xs ≡ 1 → slice_get xs k ≡ Some x → slice_get xs 0 ≡ Some a → x ≡ a
-only_one xs k x a one got first = some-injective x a (sym (ap (slice_get xs) place ∙ got) ∙ first)
+only_one xs k x a one got first = same_Some x a (sym (ap (slice_get xs) place ∙ got) ∙ first)
   where
     place : 0 ≡ k
     place = omega (arith, slice_get_within xs k x got, one)

@@ -1,7 +1,7 @@
 -- A layout of five squares, in whose word the second move is of two squares and begins with even and above; and the layout
 -- with the first of them reversed.
 use Rattle.std.proofs.Common.{[], arith, false, nat_lt, refl, suc, true, zero, ℕ, ◌<◌, ◌∷◌, ◌≡◌}
-use Rattle.bk_laws.proofs.NumberTests.{lt-from_nat_lt}
+use Rattle.std.proofs.lemmas.Bool.{ltb-true}
 use Rattle.bk_laws.proofs.Tests.{each_below}
 use Rattle.bk_layout.specs.Layout.{Fits, Layout}
 use Rattle.bk_layout.specs.Reversal.{CanReverse, reversed}
@@ -41,7 +41,7 @@ can_reverse_five = record {
   even_before = refl;
   above_at_right = refl;
   rank = λ v. v;
-  rises = λ x h. lt-from_nat_lt (layout_five.above x) (layout_five.below x)
+  rises = λ x h. ltb-true (layout_five.above x) (layout_five.below x)
       (each_below (λ x. nat_lt (layout_five.above x) (layout_five.below x)) 5 refl x h);
   hangs_beside = λ x h n e. hangs x h n e;
   ends_beside = λ x h n e. ends x h n e;

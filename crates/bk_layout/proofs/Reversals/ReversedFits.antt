@@ -1,9 +1,8 @@
 -- A layout with a square reversed fits, and has no twins if the layout has none; the signs of its squares and the states
 -- of its sweep are as before, but for two squares.
-use Rattle.bk_laws.proofs.ListPlaces.{got_low, slice_get-snoc_cases}
-use Rattle.bk_laws.proofs.NumberTests.{eq-from_nat_eq, ne-from_nat_eq}
+use Rattle.bk_laws.proofs.ListPlaces.{slice_get-snoc_cases}
+use Rattle.bk_laws.proofs.NumberOrder.{zero_or_positive}
 use Rattle.bk_laws.proofs.Occurrences.{times, times-head_differs, times_in}
-use Rattle.bk_laws.proofs.Outcomes.{some-injective}
 use Rattle.bk_laws.proofs.TestsAsNumbers.{cond_count-nat_eq_other}
 use Rattle.bk_layout.proofs.Lists.Drops.{Drops}
 use Rattle.bk_layout.proofs.Lists.SquareLists.{lists_at}
@@ -21,8 +20,9 @@ use Rattle.bk_word.specs.declared.Sign.{Sign}
 use Rattle.bk_word.specs.declared.Sign.TheVariants.{Above, Even, Under}
 use Rattle.std.proofs.Common.{Bool, List, Some, [], ap, arith, cond, false, inl, inr, length, map, nat_eq, refl, slice_get, subst, suc, sym, true, zero, ℕ}
 use Rattle.std.proofs.Common.{◌+◌, ◌<◌, ◌∙◌, ◌∷◌, ◌≡◌, ◌≤◌, ◌⊎◌}
-use Rattle.std.proofs.lemmas.Bool.{cases_eq}
+use Rattle.std.proofs.lemmas.Bool.{cases_eq, eqb-false, eqb-true}
 use Rattle.std.specs.List.{AllZip}
+use Rattle.std.proofs.lemmas.Option.{same_Some, slice_get_within}
 
 -- the last of some squares isn't one that is none of them
 pub last_not : (w x : ℕ) (xs : List ℕ) → times w (x ∷ xs) ≡ 0 → last_from x xs ≡ w → ⊥
@@ -50,22 +50,16 @@ module _ (l : Layout) (fits : Fits l) (q p r : ℕ) (can : CanReverse l q p r) w
     squares = refl;
     bottom = refl;
     top = (top_is l fits q p r can);
-    above_kept = λ x h e. about.above_x x (not_same x e);
-    below_kept = λ x h e. about.below_x x (not_same x e);
-    left_kept = λ x h e. about.left_x x (not_same x e);
-    right_kept = λ x h e. about.right_x x (not_same x e);
-    above_reversed = λ x h e. subst (λ (z : ℕ). m.above z ≡ l.below z) (sym (same x e)) about.above_q;
-    below_reversed = λ x h e. subst (λ (z : ℕ). m.below z ≡ l.above z) (sym (same x e)) about.below_q;
-    left_reversed = λ x h e. subst (λ (z : ℕ). m.left z ≡ l.right z) (sym (same x e)) about.left_q;
-    right_reversed = λ x h e. subst (λ (z : ℕ). m.right z ≡ l.left z) (sym (same x e)) about.right_q;
-    later = λ x h e. subst (λ (z : ℕ). 0 < l.above z) (sym (same x e)) can.later;
+    above_kept = λ x h e. about.above_x x (eqb-false x q e);
+    below_kept = λ x h e. about.below_x x (eqb-false x q e);
+    left_kept = λ x h e. about.left_x x (eqb-false x q e);
+    right_kept = λ x h e. about.right_x x (eqb-false x q e);
+    above_reversed = λ x h e. subst (λ (z : ℕ). m.above z ≡ l.below z) (sym (eqb-true x q e)) about.above_q;
+    below_reversed = λ x h e. subst (λ (z : ℕ). m.below z ≡ l.above z) (sym (eqb-true x q e)) about.below_q;
+    left_reversed = λ x h e. subst (λ (z : ℕ). m.left z ≡ l.right z) (sym (eqb-true x q e)) about.left_q;
+    right_reversed = λ x h e. subst (λ (z : ℕ). m.right z ≡ l.left z) (sym (eqb-true x q e)) about.right_q;
+    later = λ x h e. subst (λ (z : ℕ). 0 < l.above z) (sym (eqb-true x q e)) can.later;
   }
-    where
-      not_same : (x : ℕ) → nat_eq x q ≡ false → x ≡ q → ⊥
-      not_same x e = ne-from_nat_eq x q e
-
-      same : (x : ℕ) → nat_eq x q ≡ true → x ≡ q
-      same x e = eq-from_nat_eq x q e
 
   -- ---- no twins
 
@@ -79,7 +73,7 @@ module _ (l : Layout) (fits : Fits l) (q p r : ℕ) (can : CanReverse l q p r) w
       first_q : x ≡ q → ⊥
       first_q i = omega (
         arith,
-        got_low (m.hanging v) (suc j) y next,
+        slice_get_within (m.hanging v) (suc j) y next,
         by_place.length_hv,
         (lists_then l fits q p r can).hanging_once v j (length (l.hanging v)) q here (by_place.get_hv_new (length (l.hanging v)) refl),
       )
@@ -118,7 +112,7 @@ module _ (l : Layout) (fits : Fits l) (q p r : ℕ) (can : CanReverse l q p r) w
           next = ap (λ (z : ℕ). slice_get (m.hanging z) (suc j)) (sym i) ∙ f
 
           first : slice_get (l.hanging v) j ≡ Some x
-          first = sym (by_place.get_hv j (omega (arith, got_low (m.hanging v) (suc j) y next, by_place.length_hv)))
+          first = sym (by_place.get_hv j (omega (arith, slice_get_within (m.hanging v) (suc j) y next, by_place.length_hv)))
               ∙ ap (λ (z : ℕ). slice_get (m.hanging z) j) (sym i) ∙ e
 
           ends : ((suc j < length (l.hanging v)) × (slice_get (l.hanging v) (suc j) ≡ Some y)) ⊎ ((suc j ≡ length (l.hanging v)) × (q ≡ y))
@@ -136,7 +130,7 @@ module _ (l : Layout) (fits : Fits l) (q p r : ℕ) (can : CanReverse l q p r) w
       )
 
       at_u : (x ≡ q → ⊥) → (i : ℕ) → slice_get (m.ending u) i ≡ Some x → slice_get (m.ending u) (suc i) ≡ Some y → AreNeighbours (l.ending u) x y
-      at_u a zero c d = absurd (a (some-injective x q (sym c ∙ by_place.get_eu_new)))
+      at_u a zero c d = absurd (a (same_Some x q (sym c ∙ by_place.get_eu_new)))
       at_u a (suc i) c d = (i, sym (by_place.get_eu i) ∙ c, sym (by_place.get_eu (suc i)) ∙ d)
 
       ended : (x ≡ q → ⊥) → (l.below x ≡ u) ⊎ ((l.below x ≡ v) ⊎ ((l.below x ≡ u → ⊥) × (l.below x ≡ v → ⊥)))
@@ -169,9 +163,9 @@ module _ (l : Layout) (fits : Fits l) (q p r : ℕ) (can : CanReverse l q p r) w
       at_v : AreNeighbours (l.ending v) x y → AreNeighbours (m.ending v) x y
       at_v (k, g, h) = (
         k,
-        by_place.get_ev k (omega (arith, got_low (l.ending v) (suc k) y h))
+        by_place.get_ev k (omega (arith, slice_get_within (l.ending v) (suc k) y h))
             ∙ g,
-        by_place.get_ev (suc k) (less (suc (suc k)) (length (l.ending v)) (omega (arith, got_low (l.ending v) (suc k) y h))
+        by_place.get_ev (suc k) (less (suc (suc k)) (length (l.ending v)) (omega (arith, slice_get_within (l.ending v) (suc k) y h))
             (λ j. a ((last_is_q l fits q p r can) y (suc k, j, h)))) ∙ h,
       )
 
@@ -247,7 +241,7 @@ module _ (l : Layout) (fits : Fits l) (q p r : ℕ) (can : CanReverse l q p r) w
   last_is_p x (y ∷ xs) run a b = on (cases_eq p x) (λ t. last_is_p y xs run.1 (omega (arith, a)) t)
     where
       next : p ≡ x → AreNeighbours (l.ending (l.below p)) p y → y ≡ q
-      next e (k, g, h) = some-injective y q (sym h ∙ ap (slice_get (l.ending (l.below p)))
+      next e (k, g, h) = same_Some y q (sym h ∙ ap (slice_get (l.ending (l.below p)))
           (ap suc (fits.lists.ending_once (l.below p) k (about.p_meets).0 p g (about.p_meets).1)) ∙ (about.p_meets).2)
 
       on : (p ≡ x) ⊎ (p ≡ x → ⊥) → (0 < times p (y ∷ xs) → last_from y xs ≡ p) → last_from y xs ≡ p
@@ -290,11 +284,8 @@ module _ (l : Layout) (fits : Fits l) (q p r : ℕ) (can : CanReverse l q p r) w
   dropped_signs (i ∷ g) [] ((x ∷ xs) ∷ s ∷ segments) c d a b = absurd d
   dropped_signs (i ∷ g) (j ∷ h) ((x ∷ xs) ∷ [] ∷ segments) c d a b = absurd c
   dropped_signs (i ∷ g) (j ∷ h) ((x ∷ xs) ∷ (y ∷ ys) ∷ segments) c d a b =
-      on (none_or_some (times p (x ∷ xs))) (λ t. dropped_signs g h ((y ∷ ys) ∷ segments) c.3 d.3 (omega (arith, a)) t)
+      on (zero_or_positive (times p (x ∷ xs))) (λ t. dropped_signs g h ((y ∷ ys) ∷ segments) c.3 d.3 (omega (arith, a)) t)
     where
-      none_or_some : (n : ℕ) → (n ≡ 0) ⊎ (0 < n)
-      none_or_some n = grind arith
-
       on : (times p (x ∷ xs) ≡ 0) ⊎ (0 < times p (x ∷ xs)) → (0 < times_in p ((y ∷ ys) ∷ segments) → Drops h g) → Drops (j ∷ h) (i ∷ g)
       on (inl e) rest = inr (
         d.2.1 ∙ sign_moved (last_from x xs) y (last_not q x xs (omega (arith, a))) (last_not p x xs e)

@@ -1,7 +1,7 @@
 -- A layout with a square reversed: what is known around q, p and r, how its functions and lists change, by places and by
 -- counts. Here and in the files on it u is the node above q, v the one below it.
 use Rattle.bk_laws.proofs.ListParts.{length-snoc}
-use Rattle.bk_laws.proofs.ListPlaces.{got_low, slice_get-snoc_before, slice_get-snoc_last}
+use Rattle.bk_laws.proofs.ListPlaces.{slice_get-snoc_before, slice_get-snoc_last}
 use Rattle.bk_laws.proofs.Occurrences.{times, times-snoc}
 use Rattle.bk_layout.proofs.Lists.NodeLists.{Sorted, ending_sorted, same_as_one, hanging_sorted, lists_of_sorted, sorted_moved}
 use Rattle.bk_layout.proofs.Lists.Pieces.{init_below, init_got, init_length, put_at, put_other, tail_got}
@@ -10,6 +10,7 @@ use Rattle.bk_layout.specs.Layout.{AreLists, AreNeighbours, Fits, IsLast, Layout
 use Rattle.bk_layout.specs.Reversal.{CanReverse, put, reversed, without_first, without_last}
 use Rattle.std.proofs.Common.{List, Some, [], ap, arith, length, refl, slice_get, subst, suc, sym, ℕ, ◌++◌, ◌<◌, ◌∙◌, ◌∷◌}
 use Rattle.std.proofs.Common.{◌≡◌, ◌⊎◌}
+use Rattle.std.proofs.lemmas.Option.{slice_get_within}
 
 module _ (l : Layout) (fits : Fits l) (q p r : ℕ) (can : CanReverse l q p r) where
   abbrev m : Layout
@@ -149,7 +150,7 @@ module _ (l : Layout) (fits : Fits l) (q p r : ℕ) (can : CanReverse l q p r) w
     get_ev = λ k h. ap (λ (xs : List ℕ). slice_get xs k) about.ending_v ∙ init_got (l.ending v) k h;
     below_ev = λ k x e. init_below (l.ending v) k x (ap (λ (xs : List ℕ). slice_get xs k) (sym about.ending_v) ∙ e);
     length_ev = ap (λ (xs : List ℕ). suc (length xs)) about.ending_v ∙ init_length (l.ending v) (omega (arith, (about.q_last).1));
-    ev_two = omega (arith, got_low (l.ending v) (suc (about.p_beside).0) q (about.p_beside).2);
+    ev_two = omega (arith, slice_get_within (l.ending v) (suc (about.p_beside).0) q (about.p_beside).2);
     q_place = fits.lists.ending_once v (suc (about.p_beside).0) (about.q_last).0 q (about.p_beside).2 (about.q_last).2;
     not_hu = λ k x g e. omega (arith, fits.lists.hanging_once u (suc k) 0 q (g ∙ ap (λ (y : ℕ). Some y) e) can.first);
     not_h = λ w k x n g e. n (sym (fits.lists.hanging_is w k x g).1 ∙ ap l.above e);

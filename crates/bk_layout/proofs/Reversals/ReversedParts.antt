@@ -1,12 +1,12 @@
 -- The parts of a layout with a square reversed: what ends and hangs last at its nodes, its lines, its nodes, and which lines go on.
-use Rattle.bk_laws.proofs.ListPlaces.{got_low, slice_get-snoc_cases}
-use Rattle.bk_laws.proofs.Outcomes.{some-injective}
+use Rattle.bk_laws.proofs.ListPlaces.{slice_get-snoc_cases}
 use Rattle.bk_layout.proofs.Lists.Pieces.{put_at, put_other}
 use Rattle.bk_layout.proofs.Reversals.ReversedLists.{scene}
 use Rattle.bk_layout.specs.Layout.{AreLines, AreNeighbours, AreNodes, DoLinesGoOn, Fits, IsFirst, IsLast, Layout}
 use Rattle.bk_layout.specs.Reversal.{CanReverse, put}
 use Rattle.std.proofs.Common.{Bool, List, Some, ap, arith, false, inl, inr, length, refl, slice_get, subst, suc, sym, true, zero, ℕ, ◌<◌, ◌∙◌, ◌≡◌, ◌≤◌, ◌⊎◌}
 use Rattle.std.proofs.lemmas.Bool.{cases_eq}
+use Rattle.std.proofs.lemmas.Option.{same_Some, slice_get_within}
 
 module _ (l : Layout) (fits : Fits l) (q p r : ℕ) (can : CanReverse l q p r) where
   open (scene l fits q p r can) use {m, u, v, about, by_place}
@@ -27,7 +27,7 @@ module _ (l : Layout) (fits : Fits l) (q p r : ℕ) (can : CanReverse l q p r) w
   -- what ends last on v there is p
   pub last_ev : (x : ℕ) → IsLast (m.ending v) x → x ≡ p
   last_ev x (k, g, h) =
-      some-injective x p (sym h ∙ by_place.get_ev k (omega (arith, g, by_place.length_ev)) ∙ ap (slice_get (l.ending v)) place ∙ (about.p_beside).1)
+      same_Some x p (sym h ∙ by_place.get_ev k (omega (arith, g, by_place.length_ev)) ∙ ap (slice_get (l.ending v)) place ∙ (about.p_beside).1)
     where
       place : k ≡ (about.p_beside).0
       place = omega (arith, by_place.q_place, (about.q_last).1, g, by_place.length_ev)
@@ -42,7 +42,7 @@ module _ (l : Layout) (fits : Fits l) (q p r : ℕ) (can : CanReverse l q p r) w
 
   -- what hangs last from v there is q
   pub last_hv : (x : ℕ) → IsLast (m.hanging v) x → x ≡ q
-  last_hv x (k, g, h) = some-injective x q (sym h ∙ by_place.get_hv_new k (omega (arith, g, by_place.length_hv)))
+  last_hv x (k, g, h) = same_Some x q (sym h ∙ by_place.get_hv_new k (omega (arith, g, by_place.length_hv)))
 
   -- squares that hang side by side in the reversed layout have one line between them
   pub between : (w x y k : ℕ) → slice_get (m.hanging w) k ≡ Some x → slice_get (m.hanging w) (suc k) ≡ Some y → m.right x ≡ m.left y
@@ -58,7 +58,7 @@ module _ (l : Layout) (fits : Fits l) (q p r : ℕ) (can : CanReverse l q p r) w
           ∙ ends (slice_get-snoc_cases (l.hanging v) q (suc k) y (ap (λ (xs : List ℕ). slice_get xs (suc k)) (sym about.hanging_v) ∙ h))
         where
           old : slice_get (l.hanging v) k ≡ Some x
-          old = sym (by_place.get_hv k (omega (arith, by_place.length_hv, got_low (m.hanging v) (suc k) y h))) ∙ g
+          old = sym (by_place.get_hv k (omega (arith, by_place.length_hv, slice_get_within (m.hanging v) (suc k) y h))) ∙ g
 
           ends : ((suc k < length (l.hanging v)) × (slice_get (l.hanging v) (suc k) ≡ Some y)) ⊎ ((suc k ≡ length (l.hanging v)) × (q ≡ y))
               → l.right x ≡ m.left y
@@ -79,7 +79,7 @@ module _ (l : Layout) (fits : Fits l) (q p r : ℕ) (can : CanReverse l q p r) w
     where
       at_u : IsFirst (m.ending u) x → IsFirst (m.hanging u) y → m.left y ≡ m.left x
       at_u g h = about.left_x y (by_place.not_hu 0 y next) ∙ sym (fits.lines.between u q y (0, can.first, next)) ∙ sym about.left_q
-          ∙ ap m.left (some-injective q x (sym by_place.get_eu_new ∙ g))
+          ∙ ap m.left (same_Some q x (sym by_place.get_eu_new ∙ g))
         where
           next : slice_get (l.hanging u) 1 ≡ Some y
           next = sym (by_place.get_hu 0) ∙ h
@@ -232,7 +232,7 @@ module _ (l : Layout) (fits : Fits l) (q p r : ℕ) (can : CanReverse l q p r) w
   goes_left_r : m.goes_left r ≡ false
   goes_left_r = put_other q true (put r false l.goes_left) r about.r_not_q ∙ put_at r false l.goes_left r refl
 
-  -- at all squares but q and r the line at the left goes on as before
+  -- at all squares but q and r the line at the left goes on in the reversed layout where it does in the layout
   pub goes_left_x : (x : ℕ) → (x ≡ q → ⊥) → (x ≡ r → ⊥) → m.goes_left x ≡ l.goes_left x
   goes_left_x x a b = put_other q true (put r false l.goes_left) x a ∙ put_other r false l.goes_left x b
 
@@ -243,7 +243,7 @@ module _ (l : Layout) (fits : Fits l) (q p r : ℕ) (can : CanReverse l q p r) w
   pub goes_right_p : m.goes_right p ≡ true
   goes_right_p = put_other q false (put p true l.goes_right) p about.p_not_q ∙ put_at p true l.goes_right p refl
 
-  -- at all squares but q and p a line goes on in the reversed layout as before
+  -- at all squares but q and p the line at the right goes on in the reversed layout where it does in the layout
   pub goes_right_x : (x : ℕ) → (x ≡ q → ⊥) → (x ≡ p → ⊥) → m.goes_right x ≡ l.goes_right x
   goes_right_x x a b = put_other q false (put p true l.goes_right) x a ∙ put_other p true l.goes_right x b
 
@@ -253,11 +253,11 @@ module _ (l : Layout) (fits : Fits l) (q p r : ℕ) (can : CanReverse l q p r) w
 
   -- the first that ends on u is r, the last on v is q
   first_is_r : (x : ℕ) → IsFirst (l.ending u) x → x ≡ r
-  first_is_r x e = some-injective x r (sym e ∙ can.over)
+  first_is_r x e = same_Some x r (sym e ∙ can.over)
 
   -- the last square that ends on v is q
   pub last_is_q : (x : ℕ) → IsLast (l.ending v) x → x ≡ q
-  last_is_q x (k, g, h) = some-injective x q (sym h ∙ ap (slice_get (l.ending v)) place ∙ (about.q_last).2)
+  last_is_q x (k, g, h) = same_Some x q (sym h ∙ ap (slice_get (l.ending v)) place ∙ (about.q_last).2)
     where
       place : k ≡ (about.q_last).0
       place = omega (arith, g, (about.q_last).1)
@@ -347,7 +347,7 @@ module _ (l : Layout) (fits : Fits l) (q p r : ℕ) (can : CanReverse l q p r) w
   only_p x low line e = on (fits.go_on.meet x q low can.known line e can.even_at_left)
     where
       on : AreNeighbours (l.ending (l.below x)) x q → x ≡ p
-      on (k, g, h) = some-injective x p (sym here ∙ ap (slice_get (l.ending v)) place ∙ (about.p_beside).1)
+      on (k, g, h) = same_Some x p (sym here ∙ ap (slice_get (l.ending v)) place ∙ (about.p_beside).1)
         where
           node : l.below x ≡ v
           node = sym (fits.lists.ending_is (l.below x) (suc k) q h).1
@@ -366,7 +366,7 @@ module _ (l : Layout) (fits : Fits l) (q p r : ℕ) (can : CanReverse l q p r) w
   only_q y low line e = on (fits.go_on.meet p y can.before low line can.even_before e)
     where
       on : AreNeighbours (l.ending (l.below p)) p y → y ≡ q
-      on (k, g, h) = some-injective y q (sym h ∙ ap (slice_get (l.ending (l.below p))) place ∙ (about.p_meets).2)
+      on (k, g, h) = same_Some y q (sym h ∙ ap (slice_get (l.ending (l.below p))) place ∙ (about.p_meets).2)
         where
           place : suc k ≡ suc (about.p_meets).0
           place = ap suc (fits.lists.ending_once (l.below p) k (about.p_meets).0 p g (about.p_meets).1)
@@ -386,14 +386,14 @@ module _ (l : Layout) (fits : Fits l) (q p r : ℕ) (can : CanReverse l q p r) w
           at : AreNeighbours (l.ending v) x y → AreNeighbours (m.ending v) x y
           at (k, g, h) = (
             k,
-            by_place.get_ev k (omega (arith, got_low (l.ending v) (suc k) y h))
+            by_place.get_ev k (omega (arith, slice_get_within (l.ending v) (suc k) y h))
                 ∙ g,
             by_place.get_ev (suc k) (inside (cases_eq (suc (suc k)) (length (l.ending v)))) ∙ h,
           )
             where
               inside : (suc (suc k) ≡ length (l.ending v)) ⊎ (suc (suc k) ≡ length (l.ending v) → ⊥) → suc (suc k) < length (l.ending v)
               inside (inl j) = absurd (a (last_is_q y (suc k, j, h)))
-              inside (inr j) = less (suc (suc k)) (length (l.ending v)) (omega (arith, got_low (l.ending v) (suc k) y h)) j
+              inside (inr j) = less (suc (suc k)) (length (l.ending v)) (omega (arith, slice_get_within (l.ending v) (suc k) y h)) j
                 where
                   less : (b c : ℕ) → b ≤ c → (b ≡ c → ⊥) → b < c
                   less b c g n = grind arith

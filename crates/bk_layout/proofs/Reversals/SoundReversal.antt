@@ -1,8 +1,8 @@
 -- Reversing a square keeps a layout sound.
 use Rattle.std.proofs.Common.{List, Some, ap, arith, inl, inr, length, refl, slice_get, subst, suc, sym, zero, ℕ, ◌<◌, ◌∙◌, ◌∷◌, ◌≡◌, ◌⊎◌}
 use Rattle.std.proofs.lemmas.Bool.{cases_eq}
+use Rattle.std.proofs.lemmas.Option.{same_Some}
 use Rattle.bk_laws.proofs.ListPlaces.{get_some}
-use Rattle.bk_laws.proofs.Outcomes.{some-injective}
 use Rattle.bk_layout.specs.Layout.{AreNeighbours, Fits, Layout}
 use Rattle.bk_layout.specs.FreeCuts.{AreOuterWalls}
 use Rattle.bk_layout.proofs.Lists.Pieces.{init_below, init_got, put_at, put_other}
@@ -109,7 +109,7 @@ module _ (l : Layout) (fits : Fits l) (q p r : ℕ) (can : CanReverse l q p r) w
       not_q n j z g i = n (sym (fits_m.lists.ending_is w j z g).1 ∙ ap m.below i ∙ put_at q (l.above q) l.below q refl)
 
       at_top : (j : ℕ) → j ≡ k → w ≡ l.above q → slice_get (q ∷ l.ending w) j ≡ Some x → slice_get (q ∷ l.ending w) (suc j) ≡ Some y → m.right x ≡ m.left y
-      at_top zero s i g h = ap m.right (sym (some-injective q x g)) ∙ right_q
+      at_top zero s i g h = ap m.right (sym (same_Some q x g)) ∙ right_q
           ∙ fits.lines.same_left w y q h (subst (λ (z : ℕ). slice_get (l.hanging z) 0 ≡ Some q) (sym i) can.first) ∙ sym (left_x y (in_list 0 y h))
         where
           in_list : (j z : ℕ) → slice_get (l.ending w) j ≡ Some z → z ≡ q → ⊥

@@ -1,6 +1,7 @@
 -- The sweep of the reversed layout beside that of the layout: from a common state on it has a lesser word.
 use Rattle.std.proofs.Common.{List, Some, [], ap, arith, inl, inr, length, refl, slice_get, subst, suc, sym, ℕ, ◌++◌, ◌+◌, ◌<◌, ◌∙◌, ◌∷◌, ◌≡◌, ◌⊎◌}
 use Rattle.bk_laws.proofs.ListPlaces.{get_some}
+use Rattle.bk_laws.proofs.NumberOrder.{zero_or_positive}
 use Rattle.bk_laws.proofs.Occurrences.{times, times-append}
 use Rattle.bk_laws.proofs.TestsAsNumbers.{cond_count-nat_eq_same}
 use Rattle.bk_word.specs.Outline.{Outline}
@@ -74,9 +75,6 @@ module _ (l : Layout) (fits : Fits l) (q p r : ℕ) (can : CanReverse l q p r) w
       s : IsStep l fits o st mv tr.0
       s = tr.1
 
-      new : List ℕ
-      new = s.h.first ∷ s.h.more
-
       grown : (x : ℕ) → times x tr.0.laid ≡ times x st.laid + times x (s.h.first ∷ s.h.more)
       grown x = ap (times x) s.grows ∙ times-append x st.laid (s.h.first ∷ s.h.more)
 
@@ -85,7 +83,7 @@ module _ (l : Layout) (fits : Fits l) (q p r : ℕ) (can : CanReverse l q p r) w
           → Beside (after_move o mv) then w) → Beside o both (mv ∷ w)
       on (inl h) further = absurd (omega (arith, h, no_p))
       on (inr h) further = go ((moves_both l fits q p r can) o st both laid s.c s.at s.low s.h late.0 no_p late.1 no_new no_close)
-          (one_or_more (times p (s.h.first ∷ s.h.more)))
+          (zero_or_positive (times p (s.h.first ∷ s.h.more)))
         where
           out : (times q tr.0.laid ≡ 0) × (times v tr.0.done ≡ 0)
           out = late_out (after_move o mv) tr.0 w tr.2 h
@@ -105,9 +103,6 @@ module _ (l : Layout) (fits : Fits l) (q p r : ℕ) (can : CanReverse l q p r) w
             tr.0.laid_times s.h.first first_is.0,
             ap (λ (z : ℕ). times z tr.0.done) (first_is.1 ∙ e),
           )
-
-          one_or_more : (n : ℕ) → (n ≡ 0) ⊎ (0 < n)
-          one_or_more n = grind arith
 
           go : (MovesBoth l fits q p r can) o st both s.c s.at s.low s.h → (times p (s.h.first ∷ s.h.more) ≡ 0)
               ⊎ (0 < times p (s.h.first ∷ s.h.more)) → Beside o both (mv ∷ w)

@@ -1,5 +1,6 @@
 -- A word that breaks rule R gives a lesser word of the reversed layout.
 use Rattle.std.proofs.Common.{List, [], ap, arith, inl, inr, length, refl, subst, sym, ℕ, ◌<◌, ◌∙◌, ◌∷◌, ◌≡◌, ◌⊎◌}
+use Rattle.bk_laws.proofs.NumberOrder.{zero_or_positive}
 use Rattle.bk_laws.proofs.Occurrences.{times, times_in}
 use Rattle.bk_word.specs.Outline.{Outline, start}
 use Rattle.bk_word.specs.Play.{after_move}
@@ -39,11 +40,8 @@ module _ (l : Layout) (fits : Fits l) (q p r : ℕ) (can : CanReverse l q p r) w
 
   -- a word that breaks the rule gives one
   pub whole_beside : (mv : Move) (w : Word) (whole : Whole l fits mv w) → Late (after_move start mv) whole.first w whole.trace → WholeBeside mv w
-  whole_beside mv w whole late = on (one_or_more (times p (whole.h.first ∷ whole.h.more)))
+  whole_beside mv w whole late = on (zero_or_positive (times p (whole.h.first ∷ whole.h.more)))
     where
-      one_or_more : (n : ℕ) → (n ≡ 0) ⊎ (0 < n)
-      one_or_more n = grind arith
-
       out : (times q whole.first.laid ≡ 0) × (times v whole.first.done ≡ 0)
       out = late_out l fits q p r can (after_move start mv) whole.first w whole.trace late
 

@@ -1,7 +1,6 @@
 -- The flow of a signed word's net: its wires are those of the Smith diagram, renumbered and reversed, so the signed sides are its one flow.
 use Rattle.bk_laws.proofs.ListPlaces.{get_some}
 use Rattle.bk_laws.proofs.NumberTests.{eq_test-cases}
-use Rattle.bk_laws.proofs.Outcomes.{some-injective}
 use Rattle.bk_layout.proofs.Lists.NumberedLists.{numbers_get, numbers_index, numbers_length, reversed_get, reversed_length}
 use Rattle.bk_layout.proofs.Lists.SignedTotals.{finish_of, signed_total, start_of, with_sign}
 use Rattle.bk_layout.proofs.Lists.Totals.{renumbered, total_from, total_same}
@@ -30,7 +29,7 @@ use Rattle.std.proofs.Common.{Bool, List, Some, ap, arith, cond, false, inl, inr
 use Rattle.std.proofs.Common.{◌-◌, ◌<◌, ◌==◌, ◌∙◌, ◌≡◌, ◌≤◌, ◌⊎◌}
 use Rattle.std.proofs.lemmas.Bool.{cases_lt}
 use Rattle.std.proofs.lemmas.Int.{ints}
-use Rattle.std.proofs.lemmas.Option.{get_or_from_slice_get, slice_get_within}
+use Rattle.std.proofs.lemmas.Option.{get_or_from_slice_get, same_Some, slice_get_within}
 use Rattle.std.specs.Prelude.{option_map, pos, ℤ, ◌-ℤ◌}
 
 module _ (t : Tiling) (tiling : IsTiling t) (w : Word) (s : IsSignedWordOf t w) where
@@ -77,7 +76,7 @@ module _ (t : Tiling) (tiling : IsTiling t) (w : Word) (s : IsSignedWordOf t w) 
     where
       from : (x : ℕ × ℕ) × (slice_get (net_of_word w).wires k ≡ Some x)
           → cond (reversed_at k) ((pair_at (s.square k)).1, (pair_at (s.square k)).0) (pair_at (s.square k)) ≡ (s.node (wire_at k).0, s.node (wire_at k).1)
-      from (x, e) = some-injective (cond (reversed_at k) ((pair_at (s.square k)).1, (pair_at (s.square k)).0) (pair_at (s.square k))) (s.node x.0, s.node x.1)
+      from (x, e) = same_Some (cond (reversed_at k) ((pair_at (s.square k)).1, (pair_at (s.square k)).0) (pair_at (s.square k))) (s.node x.0, s.node x.1)
           (sym (reversed_get s.is_reversed pair_at 0 (length t.squares) (s.square k) (square_below k h)
           ∙ ap (λ (i : ℕ). Some (cond {A = ℕ × ℕ} (s.is_reversed i) ((pair_at i).1, (pair_at i).0) (pair_at i))) (omega arith))
           ∙ net_of.each k (omega (arith, as_many)) ∙ ap (option_map (λ w. (s.node w.0, s.node w.1))) e)
@@ -157,7 +156,7 @@ module _ (t : Tiling) (tiling : IsTiling t) (w : Word) (s : IsSignedWordOf t w) 
           (total_from (λ k. cond ((pair_at k).1 == s.node v) (side_at k) 0) 0 n))
           (numbers_length {A = ℕ × ℕ} pair_at 0 (length t.squares))
           (signed_total (map pair_at (numbers_from 0 (length t.squares))) (λ k. false) side_at pair_at 0 (s.node v)
-          (λ k x e. some-injective (pair_at (0 + k)) x (sym (numbers_get {A = ℕ × ℕ} pair_at 0 (length t.squares) k (few k x e)) ∙ e)))
+          (λ k x e. same_Some (pair_at (0 + k)) x (sym (numbers_get {A = ℕ × ℕ} pair_at 0 (length t.squares) k (few k x e)) ∙ e)))
         where
           few : (k : ℕ) (x : ℕ × ℕ) → slice_get (map pair_at (numbers_from 0 (length t.squares))) k ≡ Some x → k < length t.squares
           few k x e = omega (

@@ -2,8 +2,9 @@
 use Rattle.std.proofs.Common.{List, Some, [], ap, arith, length, map, option_map, slice_get, slice_index_or, subst, suc, sym, zero, ℕ, ◌++◌}
 use Rattle.std.proofs.Common.{◌+◌, ◌-◌, ◌<◌, ◌∙◌, ◌∷◌, ◌≡◌}
 use Rattle.std.proofs.lemmas.List.{length-map, map-append}
+use Rattle.std.proofs.lemmas.Option.{get_or_from_slice_get}
 use Rattle.bk_laws.proofs.Occurrences.{slice_get-of_times_positive, times, times-map_positive}
-use Rattle.bk_laws.proofs.ListPlaces.{get_append, get_map, index_got}
+use Rattle.bk_laws.proofs.ListPlaces.{get_append, get_map}
 use Rattle.bk_laws.proofs.ListItems.{map-only_list, slice_index_or-map}
 use Rattle.bk_laws.proofs.ZippedLists.{all_zip-slice_index_or}
 use Rattle.bk_word.proofs.PlayLists.{numbers-length}
@@ -49,7 +50,7 @@ module _ (l : Layout) (fits : Fits l) (o : Outline) (st : State l o) (end : Ende
   layout_wires = length-map (numbers_from 0 l.squares) (λ (q : ℕ). (l.above q, l.below q)) ∙ numbers-length 0 l.squares
 
   from_node : (k : ℕ) → k < l.squares → node (slice_index_or o.hung k 0) ≡ l.above (square k)
-  from_node k h = index_got all_nodes (slice_index_or o.hung k 0) (l.above (square k))
+  from_node k h = get_or_from_slice_get all_nodes (slice_index_or o.hung k 0) (l.above (square k)) 0
       (get_append st.done (l.bottom ∷ []) (slice_index_or o.hung k 0) (l.above (square k))
       (all_zip-slice_index_or (λ q j. slice_get st.done j ≡ Some (l.above q)) st.laid o.hung k st.hung (omega (arith, h, laid_many l fits o st end))))
 

@@ -3,8 +3,9 @@ use Rattle.std.proofs.Common.{List, Some, [], ap, arith, inl, inr, length, map, 
 use Rattle.std.proofs.Common.{◌≡◌, ◌≤◌, ◌⊎◌}
 use Rattle.std.proofs.lemmas.List.{length-append, length-map}
 use Rattle.std.proofs.lemmas.Bool.{cases_eq}
+use Rattle.std.proofs.lemmas.Option.{get_or_from_slice_get, slice_get-get_or}
 use Rattle.bk_laws.proofs.Occurrences.{times, times-append, times-positive_of_slice_get, unique_place-of_times_le_one}
-use Rattle.bk_laws.proofs.ListPlaces.{get_append, get_last, got_index, index_got}
+use Rattle.bk_laws.proofs.ListPlaces.{get_append, get_last}
 use Rattle.bk_laws.proofs.TestsAsNumbers.{cond_count-nat_eq_other, cond_count-nat_eq_same}
 use Rattle.bk_word.specs.Outline.{Outline}
 use Rattle.bk_layout.proofs.Lists.SquareLists.{sq_of}
@@ -37,7 +38,7 @@ module _ (l : Layout) (fits : Fits l) (o : Outline) (st : State l o) (end : Ende
   hung_is = sym st.long ∙ laid_many l fits o st end
 
   square_got : (k : ℕ) → k < l.squares → slice_get st.laid k ≡ Some (square k)
-  square_got k h = got_index st.laid k (omega (arith, h, laid_many l fits o st end))
+  square_got k h = slice_get-get_or st.laid k 0 (omega (arith, h, laid_many l fits o st end))
 
   -- what is hung is a square of the layout
   pub square_low : (k : ℕ) → k < l.squares → square k < l.squares
@@ -73,7 +74,7 @@ module _ (l : Layout) (fits : Fits l) (o : Outline) (st : State l o) (end : Ende
       cases (inr e) = omega (arith, st.done_low v (omega (arith, h, times-append v st.done (l.bottom ∷ []), cond_count-nat_eq_other v l.bottom e)))
 
   node_got : (k : ℕ) → k < l.bottom + 1 → slice_get all_nodes k ≡ Some (node k)
-  node_got k h = got_index all_nodes k (omega (arith, h, nodes_many))
+  node_got k h = slice_get-get_or all_nodes k 0 (omega (arith, h, nodes_many))
 
   -- each number is that of a node of the layout
   pub node_low : (k : ℕ) → k < l.bottom + 1 → node k < l.bottom + 1
@@ -85,11 +86,11 @@ module _ (l : Layout) (fits : Fits l) (o : Outline) (st : State l o) (end : Ende
 
   -- the first is the top
   pub first_node : node 0 ≡ 0
-  first_node = index_got all_nodes 0 0 (get_append st.done (l.bottom ∷ []) 0 0 st.top)
+  first_node = get_or_from_slice_get all_nodes 0 0 0 (get_append st.done (l.bottom ∷ []) 0 0 st.top)
 
   -- the last is the bottom
   pub last_node : (k : ℕ) → suc k ≡ l.bottom + 1 → node k ≡ k
-  last_node k h = index_got all_nodes k l.bottom ((λ i. slice_get all_nodes (same i)) ∙ get_last st.done l.bottom []) ∙ omega (arith, h)
+  last_node k h = get_or_from_slice_get all_nodes k l.bottom 0 ((λ i. slice_get all_nodes (same i)) ∙ get_last st.done l.bottom []) ∙ omega (arith, h)
     where
       same : k ≡ length st.done
       same = omega (arith, h, done_many l fits o st end)

@@ -2,8 +2,8 @@
 use Rattle.std.proofs.Common.{List, Option, Some, [], ap, arith, inl, inr, length, map, refl, slice_get, slice_index_or, subst, suc, sym}
 use Rattle.std.proofs.Common.{zero, ℕ, ◌++◌, ◌+◌, ◌-◌, ◌∙◌, ◌∷◌, ◌≡◌, ◌⊎◌}
 use Rattle.std.proofs.lemmas.Bool.{cases_eq}
+use Rattle.std.proofs.lemmas.Option.{same_Some}
 use Rattle.bk_laws.proofs.ListPlaces.{get_after, get_append, get_map, slice_get-empty, slice_get-only_first, slice_get-others_kept, slice_index_or-of_slice_get}
-use Rattle.bk_laws.proofs.Outcomes.{some-injective}
 use Rattle.bk_word.specs.Outline.{Outline, start, valley_place}
 use Rattle.bk_word.specs.Play.{after_move, after_moves, before_first_list, joined, new_squares, outline_of, segments_apart, signs_apart}
 use Rattle.bk_word.specs.Word.{Word}
@@ -53,7 +53,7 @@ before_later s t [] h = absurd (slice_get-empty h.place h.list h.is)
 before_later s t (u ∷ lists) h = by_place h.place h.list h.is h.within
   where
     by_place : (place : ℕ) (list : List ℕ) → slice_get (u ∷ lists) place ≡ Some list → StandsIn s list → StandsAmong s ((t ++ u) ∷ lists)
-    by_place zero list e w = record { place = 0; list = t ++ u; is = refl; within = behind s t u (subst (StandsIn s) (sym (some-injective u list e)) w) }
+    by_place zero list e w = record { place = 0; list = t ++ u; is = refl; within = behind s t u (subst (StandsIn s) (sym (same_Some u list e)) w) }
     by_place (suc place) list e w = record { place = suc place; list = list; is = e; within = w }
 
 before_head : (s t : List ℕ) (lists : List (List ℕ)) → ◌≡◌ {A = Option (List ℕ)} (Some t) (Some s) → StandsAmong s (before_first_list t lists)
@@ -63,7 +63,7 @@ before_head s t (u ∷ lists) e = record {
   list = t ++ u;
   is = refl;
   within =
-      subst (λ (x : List ℕ). StandsIn x (t ++ u)) (some-injective t s e) (in_front t u);
+      subst (λ (x : List ℕ). StandsIn x (t ++ u)) (same_Some t s e) (in_front t u);
 }
 
 joined_stand : (signs : List Sign) (lists : List (List ℕ)) (i : ℕ) (s : List ℕ) → slice_get lists i ≡ Some s → StandsAmong s (joined signs lists)

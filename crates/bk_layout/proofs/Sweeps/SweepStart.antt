@@ -4,9 +4,9 @@ use Rattle.std.proofs.Common.{List, Some, [], ap, arith, cond, filter, inl, inr,
 use Rattle.std.proofs.Common.{◌++◌, ◌+◌, ◌-◌, ◌<◌, ◌∙◌, ◌∷◌, ◌≡◌, ◌≤◌, ◌⊎◌}
 use Rattle.std.proofs.lemmas.List.{append-nil, length-replicate}
 use Rattle.std.proofs.lemmas.Bool.{cases_eq}
+use Rattle.std.proofs.lemmas.Option.{get_or_from_slice_get, same_Some}
 use Rattle.bk_laws.proofs.Occurrences.{slice_get-of_times_positive, times, times_in}
-use Rattle.bk_laws.proofs.ListPlaces.{get_append, get_some, index_got}
-use Rattle.bk_laws.proofs.Outcomes.{some-injective}
+use Rattle.bk_laws.proofs.ListPlaces.{get_append, get_some}
 use Rattle.bk_laws.proofs.TestsAsNumbers.{cond_count-nat_eq_other, cond_count-nat_eq_same}
 use Rattle.bk_word.specs.declared.Sign.TheVariants.{Even}
 use Rattle.bk_word.specs.Outline.{IsLegalMove, start}
@@ -66,7 +66,7 @@ module _ (l : Layout) (fits : Fits l) (h : Hung l 0) where
       at_two (x, e) (y, f) = single 0 x y (side_by_side k x y e f)
           (even_neighbours l fits.go_on x y (in_top k x e).0 (in_top (suc k) y f).0 (
             fits.lines.between 0 x y (side_by_side k x y e f),
-            sym (some-injective (sign l x y) Even (sym ((λ i. slice_get (signs_of l (h.first ∷ h.more)) (same i))
+            sym (same_Some (sign l x y) Even (sym ((λ i. slice_get (signs_of l (h.first ∷ h.more)) (same i))
                 ∙ sign_at l (h.first ∷ h.more) k x y e f) ∙ even)),
           ))
 
@@ -78,7 +78,7 @@ module _ (l : Layout) (fits : Fits l) (h : Hung l 0) where
       none a e = cc
 
       new_at : (k x : ℕ) → slice_get (h.first ∷ h.more) k ≡ Some x → (number : ℕ) → number ≡ 1 + k → sq_of ((h.first ∷ h.more) ++ more) number ≡ x
-      new_at k x e number at = index_got ((h.first ∷ h.more) ++ more) (number - 1) x
+      new_at k x e number at = get_or_from_slice_get ((h.first ∷ h.more) ++ more) (number - 1) x 0
           (get_append (h.first ∷ h.more) more (number - 1) x ((λ i. slice_get (h.first ∷ h.more) (place i)) ∙ e))
         where
           place : number - 1 ≡ k

@@ -1,7 +1,6 @@
 -- One step of the sweep: what hangs from the valley's node is hung by a legal, free move along the lines of the layout, and the state holds again.
-use Rattle.bk_laws.proofs.ListPlaces.{get_after, get_append, get_front, get_last, get_map, get_some, index_got}
+use Rattle.bk_laws.proofs.ListPlaces.{get_after, get_append, get_front, get_last, get_map, get_some}
 use Rattle.bk_laws.proofs.Occurrences.{slice_get-of_times_positive, times, times-append, times-positive_of_slice_get, times_in, times_in-append}
-use Rattle.bk_laws.proofs.Outcomes.{some-injective}
 use Rattle.bk_laws.proofs.TestsAsNumbers.{cond_count-nat_eq_other, cond_count-nat_eq_same}
 use Rattle.bk_laws.proofs.ZippedLists.{zip_append, zip_map}
 use Rattle.bk_layout.proofs.Lists.SquareLists.{AreLaid, all_laid, list_more, lists_at, lists_more, map_joined, map_singles, new_numbers, new_numbers_more}
@@ -28,6 +27,7 @@ use Rattle.std.proofs.Common.{◌+◌, ◌-◌, ◌<◌, ◌∙◌, ◌∷◌, �
 use Rattle.std.proofs.lemmas.Bool.{cases_eq}
 use Rattle.std.proofs.lemmas.List.{append_assoc, length-append, length-map, length-replicate, map-append}
 use Rattle.std.specs.List.{AllZip}
+use Rattle.std.proofs.lemmas.Option.{get_or_from_slice_get, same_Some}
 
 module _ (l : Layout) (fits : Fits l) (o : Outline) (st : State l o) (v : AtValley o) (at : ValleyAt l o st.laid v)
     (low : l.below at.q < l.bottom) (h : Hung l (l.below at.q)) where
@@ -87,7 +87,7 @@ module _ (l : Layout) (fits : Fits l) (o : Outline) (st : State l o) (v : AtVall
                   ∙ e,
               ap (λ (xs : List ℕ). slice_get xs (suc k)) h.is ∙ f,
             ),
-            sym (some-injective (sign l x y) Even (sym there ∙ even)),
+            sym (same_Some (sign l x y) Even (sym there ∙ even)),
           ))
         where
           in_node : (j z : ℕ) → slice_get (h.first ∷ h.more) j ≡ Some z → (z < l.squares) × (l.above z ≡ node)
@@ -145,7 +145,7 @@ module _ (l : Layout) (fits : Fits l) (o : Outline) (st : State l o) (v : AtVall
   by_lines more = record { first = first; next = next }
     where
       new_at : (k x : ℕ) → slice_get new k ≡ Some x → (number : ℕ) → number ≡ length o.hung + 1 + k → sq_of (laid_then ++ more) number ≡ x
-      new_at k x e number at = index_got (laid_then ++ more) (number - 1) x
+      new_at k x e number at = get_or_from_slice_get (laid_then ++ more) (number - 1) x 0
           (get_append laid_then more (number - 1) x (get_after laid new k (number - 1) (omega (arith, at, st.long)) ∙ e))
 
       first : (a : ℕ) → slice_get (valley_of o) 0 ≡ Some a → l.left (sq_of (laid_then ++ more) (length o.hung + 1)) ≡ l.left (sq_of (laid_then ++ more) a)
@@ -160,7 +160,7 @@ module _ (l : Layout) (fits : Fits l) (o : Outline) (st : State l o) (v : AtVall
           in_range = laid_before a (omega (arith, parts_times a, times-positive_of_slice_get v.valley 0 a in_valley))
 
           square : sq_of laid a ≡ at.q
-          square = some-injective (sq_of laid a) at.q (sym (get_map (sq_of laid) v.valley 0 a in_valley) ∙ ap (λ (xs : List ℕ). slice_get xs 0) at.is)
+          square = same_Some (sq_of laid a) at.q (sym (get_map (sq_of laid) v.valley 0 a in_valley) ∙ ap (λ (xs : List ℕ). slice_get xs 0) at.is)
 
       next : (k : ℕ) → suc k < length new → l.right (sq_of (laid_then ++ more) (length o.hung + 1 + k))
           ≡ l.left (sq_of (laid_then ++ more) (length o.hung + 2 + k))

@@ -2,7 +2,7 @@
 use Rattle.std.proofs.Common.{List, Option, Some, [], ap, arith, false, filter, inl, inr, length, refl, slice_get, subst, sym, true, ℕ, ◌++◌, ◌+◌}
 use Rattle.std.proofs.Common.{◌<◌, ◌∙◌, ◌∷◌, ◌≡◌}
 use Rattle.std.proofs.lemmas.List.{append-nil}
-use Rattle.bk_laws.proofs.Outcomes.{some-injective}
+use Rattle.std.proofs.lemmas.Option.{same_Some}
 use Rattle.bk_word.specs.declared.Sign.{Sign}
 use Rattle.bk_word.specs.declared.Sign.TheVariants.{Above, Under}
 use Rattle.bk_word_net.proofs.Outlines.ValleyCut.{Beside}
@@ -24,10 +24,10 @@ pub walls_of : (l : Layout) (signs : List Sign) (s : List ℕ) → Chain l signs
     → ((q : ℕ) → IsFirst s q → l.left q ≡ 0) × ((q : ℕ) → IsLast s q → l.right q ≡ 1)
 walls_of l signs [] c a = absurd a
 walls_of l (g ∷ signs) (p ∷ ps) c a = absurd c
-walls_of l [] (p ∷ ps) c a = ((λ q e. ap l.left (sym (some-injective p q e)) ∙ a), last)
+walls_of l [] (p ∷ ps) c a = ((λ q e. ap l.left (sym (same_Some p q e)) ∙ a), last)
   where
     last : (q : ℕ) → IsLast (p ∷ ps) q → l.right q ≡ 1
-    last q (k, long, e) = ap l.right (sym (some-injective (last_from p ps) q (sym (last_is p ps) ∙ (λ i. slice_get (p ∷ ps) (same i)) ∙ e))) ∙ c.2
+    last q (k, long, e) = ap l.right (sym (same_Some (last_from p ps) q (sym (last_is p ps) ∙ (λ i. slice_get (p ∷ ps) (same i)) ∙ e))) ∙ c.2
       where
         same : length ps ≡ k
         same = omega (arith, long)

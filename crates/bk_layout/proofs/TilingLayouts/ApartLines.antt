@@ -1,7 +1,7 @@
 -- Along a node of a tiling the columns of its squares ascend, so no line stands there twice.
+use Rattle.bk_laws.proofs.Outcomes.{some-unique}
 use Rattle.std.proofs.Common.{Some, ap, arith, inl, inr, length, slice_get, subst, true, ℕ, ◌+◌, ◌-◌, ◌<◌, ◌≡◌, ◌≤◌, ◌⊎◌}
 use Rattle.std.proofs.lemmas.Bool.{cases_order}
-use Rattle.bk_laws.proofs.Outcomes.{some-unique_of_same}
 use Rattle.bk_tiling.proofs.TilingLaws.{side_of, within_of}
 use Rattle.bk_tiling.specs.Tiling.{IsOneOf, IsTiling, Tiling, square_of}
 use Rattle.bk_tiling.specs.declared.Square.{Square}
@@ -81,7 +81,7 @@ module _ (t : Tiling) (tiling : IsTiling t) where
           cases (inl k) = omega (arith, column, some v b q f, ap (λ (z : ℕ). (square_of t z).x) (got_one k))
             where
               got_one : a ≡ b → p ≡ q
-              got_one k = some-unique_of_same p q (subst (λ (c : ℕ). slice_get ((layout_of t).ending v) c ≡ Some p) k e) f
+              got_one k = some-unique _ p q (subst (λ (c : ℕ). slice_get ((layout_of t).ending v) c ≡ Some p) k e) f
           cases (inr (inl k)) = omega (arith, column, some v b q f, ascend v a b p q e f k)
           cases (inr (inr k)) = omega (arith, h, k)
 

@@ -1,9 +1,8 @@
 -- The numbers of the lines of a tiling: one number, one line.
 use Rattle.std.specs.Prelude.{if◌then◌else◌}
 use Rattle.std.proofs.Common.{Bool, ap, arith, false, refl, sym, true, ℕ, ◌*◌, ◌+◌, ◌-◌, ◌<◌, ◌==◌, ◌∙◌, ◌≡◌, ◌≢◌, ◌≤◌}
-use Rattle.std.proofs.lemmas.Bool.{both_ways}
+use Rattle.std.proofs.lemmas.Bool.{both_ways, eq-eqb, eqb-true}
 use Rattle.std.proofs.lemmas.Nat.{same_from_place}
-use Rattle.bk_laws.proofs.NumberTests.{eq-from_nat_eq, nat_eq-of_equal}
 use Rattle.bk_tiling.specs.Tiling.{Tiling}
 use Rattle.bk_layout.specs.TilingLayout.{line_end, line_number}
 use Rattle.bk_layout.proofs.TilingLayouts.LineEnds.{end_within}
@@ -14,7 +13,7 @@ module _ (t : Tiling) where
   -- the left wall has the number 0
   pub number_left : (x y : ℕ) → x ≡ 0 → line_number t x y ≡ 0
   number_left x y e = ap (λ (b : Bool). if b then 0 else if x == t.width then 1 else 2
-      + (x * (t.height + 1) + line_end t.squares x (t.height - y) y)) (nat_eq-of_equal x 0 e)
+      + (x * (t.height + 1) + line_end t.squares x (t.height - y) y)) (eq-eqb x 0 e)
 
   -- what a number is
   pub data IsNumber (x y : ℕ) (n : ℕ) : Type 0 where
@@ -28,9 +27,9 @@ module _ (t : Tiling) where
     where
       cases : (a b : Bool) → (x == 0) ≡ a → (x == t.width) ≡ b
           → IsNumber x y (if a then 0 else if b then 1 else 2 + (x * (t.height + 1) + line_end t.squares x (t.height - y) y))
-      cases true b e f = wall_left (eq-from_nat_eq x 0 e) refl
-      cases false true e f = wall_right (λ k. both_ways (x == 0) e (nat_eq-of_equal x 0 k)) (eq-from_nat_eq x t.width f) refl
-      cases false false e f = inner (λ k. both_ways (x == 0) e (nat_eq-of_equal x 0 k)) (λ k. both_ways (x == t.width) f (nat_eq-of_equal x t.width k)) refl
+      cases true b e f = wall_left (eqb-true x 0 e) refl
+      cases false true e f = wall_right (λ k. both_ways (x == 0) e (eq-eqb x 0 k)) (eqb-true x t.width f) refl
+      cases false false e f = inner (λ k. both_ways (x == 0) e (eq-eqb x 0 k)) (λ k. both_ways (x == t.width) f (eq-eqb x t.width k)) refl
 
   -- a line with the number 0 lies in column 0
   pub number_zero : (x y : ℕ) → line_number t x y ≡ 0 → x ≡ 0

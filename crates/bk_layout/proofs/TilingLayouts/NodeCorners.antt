@@ -1,12 +1,12 @@
 -- What stands first and last at each node begins and ends with the node.
 use Rattle.std.proofs.Common.{Bool, ap, length, subst, true, ℕ, ◌+◌, ◌<◌, ◌==◌, ◌∙◌, ◌≡◌, ◌≤◌}
+use Rattle.std.proofs.lemmas.Bool.{eq-eqb, eqb-true}
 use Rattle.bk_tiling.specs.SquareGroups.{square_groups}
 use Rattle.bk_tiling.specs.Tiling.{IsOneOf, IsTiling, Tiling, square_of}
 use Rattle.bk_tiling.specs.declared.Square.{Square}
 use Rattle.bk_net.specs.Diagram.{node_below}
 use Rattle.bk_layout.specs.Layout.{IsFirst, IsLast}
 use Rattle.bk_layout.proofs.Lists.AscendingPlaces.{first_from, last_from, stands_in}
-use Rattle.bk_laws.proofs.NumberTests.{eq-from_nat_eq, nat_eq-of_equal}
 use Rattle.bk_layout.proofs.Sweeps.NodeLaws.{first_of, last_of}
 use Rattle.bk_layout.proofs.TilingLayouts.NodeColumns.{DoFill, ended_fill, hung_fill}
 use Rattle.bk_layout.specs.TilingLayout.{from_left, node_above}
@@ -30,7 +30,7 @@ module _ (t : Tiling) (tiling : IsTiling t) where
     pub over : (P : Square → Type 0) → ((r : ℕ) → r < length t.squares → (at (square_of t r) == v) ≡ true → P (square_of t r)) → (w : Square)
         → IsOneOf w t.squares → at w ≡ v → P w
     over P each w h e = let k = has_number t tiling w h in
-        subst P k.is (each k.number k.below (nat_eq-of_equal (at (square_of t k.number)) v (ap at k.is ∙ e)))
+        subst P k.is (each k.number k.below (eq-eqb (at (square_of t k.number)) v (ap at k.is ∙ e)))
 
     -- the first stands at the left end of the node
     first_at : (p : ℕ) → IsFirst (from_left t (λ q. at (square_of t q) == v)) p
@@ -38,7 +38,7 @@ module _ (t : Tiling) (tiling : IsTiling t) where
     first_at p first = (
       s.0,
       s.1,
-      λ node. first_of t tiling v node (λ w. at w ≡ v) (fill node) (square_of t p) (in_square t tiling p s.0) (eq-from_nat_eq (at (square_of t p)) v s.1)
+      λ node. first_of t tiling v node (λ w. at w ≡ v) (fill node) (square_of t p) (in_square t tiling p s.0) (eqb-true (at (square_of t p)) v s.1)
           (over (λ w. key p ≤ w.x) (λ r h e. first_from key (λ q. at (square_of t q) == v) (length t.squares) one p first r h e)),
     )
       where
@@ -51,7 +51,7 @@ module _ (t : Tiling) (tiling : IsTiling t) where
     last_at p last = (
       s.0,
       s.1,
-      λ node. last_of t tiling v node (λ w. at w ≡ v) (fill node) (square_of t p) (in_square t tiling p s.0) (eq-from_nat_eq (at (square_of t p)) v s.1)
+      λ node. last_of t tiling v node (λ w. at w ≡ v) (fill node) (square_of t p) (in_square t tiling p s.0) (eqb-true (at (square_of t p)) v s.1)
           (over (λ w. w.x ≤ key p) (λ r h e. last_from key (λ q. at (square_of t q) == v) (length t.squares) one p last r h e)),
     )
       where

@@ -1,6 +1,6 @@
 -- The lines around a node of a tiling are apart.
 use Rattle.std.proofs.Common.{Some, ap, arith, inl, inr, length, slice_get, sym, ℕ, ◌+◌, ◌-◌, ◌<◌, ◌∙◌, ◌≡◌, ◌≤◌}
-use Rattle.bk_laws.proofs.Outcomes.{some-injective}
+use Rattle.std.proofs.lemmas.Option.{same_Some}
 use Rattle.bk_tiling.specs.SquareGroups.{square_groups}
 use Rattle.bk_tiling.specs.Tiling.{IsTiling, Tiling, square_of}
 use Rattle.bk_net.specs.Diagram.{node_below}
@@ -24,7 +24,7 @@ module _ (t : Tiling) (tiling : IsTiling t) where
   apart = lines_of_a_tiling_are_apart t tiling
 
   one_place : (v x y a b : ℕ) → slice_get ((layout_of t).ending v) a ≡ Some x → slice_get ((layout_of t).ending v) b ≡ Some y → a ≡ b → x ≡ y
-  one_place v x y a b e f i = some-injective x y (sym e ∙ ap (slice_get ((layout_of t).ending v)) i ∙ f)
+  one_place v x y a b e f i = same_Some x y (sym e ∙ ap (slice_get ((layout_of t).ending v)) i ∙ f)
 
   ended_left : (v x y : ℕ) → x < length t.squares → y < length t.squares → node_below (square_groups t.squares) (square_of t x) ≡ v
       → node_below (square_groups t.squares) (square_of t y) ≡ v → (layout_of t).left x ≡ (layout_of t).left y → x ≡ y

@@ -1,8 +1,7 @@
 -- The squares of a tiling and their numbers in its layout, and which of them hang from a node and end on it.
 use Rattle.std.proofs.Common.{Bool, ap, arith, inl, inr, length, subst, sym, true, ℕ, ◌+◌, ◌<◌, ◌==◌, ◌≡◌, ◌≤◌, ◌⊎◌}
-use Rattle.std.proofs.lemmas.Bool.{cases_lt}
+use Rattle.std.proofs.lemmas.Bool.{cases_lt, eq-eqb, eqb-true}
 use Rattle.bk_laws.proofs.ListPlaces.{get_some}
-use Rattle.bk_laws.proofs.NumberTests.{eq-from_nat_eq, nat_eq-of_equal}
 use Rattle.bk_tiling.proofs.Members.{one_at}
 use Rattle.bk_tiling.proofs.Places.{at_place, later_place}
 use Rattle.bk_tiling.proofs.Scaling.{before_cases}
@@ -70,19 +69,19 @@ module _ (t : Tiling) (tiling : IsTiling t) where
 
   -- where the test says so, the node is that above it
   pub hung_from : (v q : ℕ) → hung v q ≡ true → node_above (square_groups t.squares) (square_of t q) ≡ v
-  hung_from v q e = eq-from_nat_eq (node_above (square_groups t.squares) (square_of t q)) v e
+  hung_from v q e = eqb-true (node_above (square_groups t.squares) (square_of t q)) v e
 
   -- a square whose node above is v is among those that hang from v
   pub hung_to : (v q : ℕ) → node_above (square_groups t.squares) (square_of t q) ≡ v → hung v q ≡ true
-  hung_to v q e = nat_eq-of_equal (node_above (square_groups t.squares) (square_of t q)) v e
+  hung_to v q e = eq-eqb (node_above (square_groups t.squares) (square_of t q)) v e
 
   -- where the test says so, the node is that below it
   pub ended_from : (v q : ℕ) → ended v q ≡ true → node_below (square_groups t.squares) (square_of t q) ≡ v
-  ended_from v q e = eq-from_nat_eq (node_below (square_groups t.squares) (square_of t q)) v e
+  ended_from v q e = eqb-true (node_below (square_groups t.squares) (square_of t q)) v e
 
   -- a square whose node below is v is among those that end on v
   pub ended_to : (v q : ℕ) → node_below (square_groups t.squares) (square_of t q) ≡ v → ended v q ≡ true
-  ended_to v q e = nat_eq-of_equal (node_below (square_groups t.squares) (square_of t q)) v e
+  ended_to v q e = eq-eqb (node_below (square_groups t.squares) (square_of t q)) v e
 
   -- what squares hang from is a node
   pub hung_node : (v q : ℕ) → q < length t.squares → hung v q ≡ true → IsNode t v

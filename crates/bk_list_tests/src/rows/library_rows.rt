@@ -2,11 +2,11 @@
 
 ghost use Rattle.std.specs.Prelude.{◌<◌, ◌≡◌};
 
-use bk_code::flat;
+use super::lacking::lacks;
 use bk_play::Steps;
 use bk_profile::lay_code;
 use bk_text::{Line, read_line};
-use bk_verify::{Fed, Rest, Verifier};
+use bk_verify::{Fed, Verifier};
 use std::alloc::Global;
 use std::marker::Brand;
 use std::process::Abort;
@@ -21,14 +21,6 @@ fn feed(verifier: &mut Verifier, number: u64, line: &str) -> Option<Fed> {
             verifier.feed(number, &tiling).ok()
         }
         _ => None,
-    }
-}
-
-// Whether the next member that the list lacks has these sides.
-fn lacks<L: Ledger>(rest: &mut Rest, sides: &[u64], steps: &mut Steps<L>) -> bool {
-    match rest.advance(steps) {
-        Some(Ok(entry)) => flat(&entry.code) == sides,
-        _ => false,
     }
 }
 

@@ -2,8 +2,8 @@
 
 ghost use Rattle.std.specs.Prelude.{◌<◌, ◌≡◌};
 
+use super::lacking::lacks;
 use super::tilings::tiling;
-use bk_code::flat;
 use bk_play::Steps;
 use bk_tiling::Tiling;
 use bk_verify::{Fed, Rest, Verifier};
@@ -23,14 +23,6 @@ const IMPERFECT: &str = "[6,4,5][3,1][6][5,1][4]";
 // What a verifier says of a line.
 fn fed(verifier: &mut Verifier, line: u64, tiling: &Tiling) -> Option<Fed> {
     verifier.feed(line, tiling).ok()
-}
-
-// Whether the next member that is missing has these sides.
-fn lacks<L: Ledger>(rest: &mut Rest, sides: &[u64], steps: &mut Steps<L>) -> bool {
-    match rest.advance(steps) {
-        Some(Ok(entry)) => flat(&entry.code) == sides,
-        _ => false,
-    }
 }
 
 // Whether no more member is missing.

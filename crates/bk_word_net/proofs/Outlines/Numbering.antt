@@ -3,6 +3,7 @@
 use Rattle.std.specs.List.{list_any}
 use Rattle.std.proofs.Common.{Bool, List, [], ap, arith, cond, drop, false, inl, inr, length, map, nat_eq, not, refl, replicate, slice_index_or}
 use Rattle.std.proofs.Common.{subst, suc, sym, take, true, zero, ℕ, ◌++◌, ◌+◌, ◌<◌, ◌∙◌, ◌∷◌, ◌≡◌, ◌≤◌, ◌⊎◌}
+use Rattle.std.proofs.lemmas.Bool.{cases_eq}
 use Rattle.std.proofs.lemmas.Bool.Decides.{nat_tests}
 use Rattle.std.proofs.lemmas.List.{length-append, length-replicate}
 use Rattle.bk_laws.proofs.Occurrences.{times, times-append, times-list_any_cases, times_at, times_in, times_in-append, times_in-cut_at, times_in-singletons}
@@ -119,11 +120,8 @@ times_one m n (suc k) h l = cases (two m n h) (times_one m (n + 1) k)
 -- what stands among the numbers from one on is in their range
 pub times_some : (m n k : ℕ) → 0 < times m (numbers_from n k) → (n ≤ m) × (m < n + k)
 times_some m n zero h = absurd (omega arith)
-times_some m n (suc k) h = cases (two m n) (times_some m (n + 1) k)
+times_some m n (suc k) h = cases (cases_eq m n) (times_some m (n + 1) k)
   where
-    two : (m n : ℕ) → (m ≡ n) ⊎ (m ≡ n → ⊥)
-    two m n = grind arith
-
     none : (m ≡ n → ⊥) → ◌≡◌ {A = ℕ} (cond (nat_eq m n) 1 0) 0
     none e = grind (arith, nat_tests)
 

@@ -140,9 +140,6 @@ shaped_move o m legal shaped = record {
     v : AtValley o
     v = valley_in o shaped
 
-    news : List (List ℕ)
-    news = map (λ q. q ∷ []) (new_squares o m)
-
     between : length (v.left ++ (map (λ q. q ∷ []) (new_squares o m) ++ v.right)) ≡ length m.signs + 1
     between = many_between o v m legal
 

@@ -3,6 +3,7 @@ use Rattle.std.proofs.Common.{Bool, List, [], ap, arith, cond, false, inl, inr, 
 use Rattle.std.proofs.Common.{◌+◌, ◌-◌, ◌<◌, ◌∙◌, ◌∷◌, ◌≡◌, ◌≤◌, ◌⊎◌}
 use Rattle.std.proofs.lemmas.Bool.Decides.{nat_tests}
 use Rattle.std.proofs.lemmas.List.{map-append}
+use Rattle.bk_laws.proofs.NumberOrder.{lt_or_eq_or_gt}
 use Rattle.bk_laws.proofs.Occurrences.{times, times-first_positive, times_at, times_in}
 use Rattle.bk_laws.proofs.Products.{mul_below}
 use Rattle.bk_word.specs.Outline.{Outline, has_left_wall, has_right_wall, valley_place}
@@ -12,11 +13,8 @@ use Rattle.bk_lay.specs.TilingWord.{sign_between, signs_between}
 use Rattle.bk_word_net.specs.FlowTiling.{bottoms_of_move, segment_bottom}
 
 sign_scaled : (k a b : ℕ) → 0 < k → sign_between (k * a) (k * b) ≡ sign_between a b
-sign_scaled k a b h = cases (three a b)
+sign_scaled k a b h = cases (lt_or_eq_or_gt a b)
   where
-    three : (a b : ℕ) → (a < b) ⊎ (a ≡ b) ⊎ (b < a)
-    three a b = grind arith
-
     less : (a b c d : ℕ) → a < b → c < d → sign_between a b ≡ sign_between c d
     less a b c d e f = grind (arith, nat_tests)
 

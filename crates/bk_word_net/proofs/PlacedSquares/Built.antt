@@ -5,9 +5,9 @@ use Rattle.std.specs.Prelude.{nat_abs, pos, ◌-ℤ◌}
 use Rattle.std.proofs.Common.{List, Some, [], ap, arith, drop, inl, inr, length, refl, slice_get, slice_index_or, subst, suc, sym, take, ℕ, ◌++◌}
 use Rattle.std.proofs.Common.{◌+◌, ◌<◌, ◌∙◌, ◌∷◌, ◌≡◌, ◌⊎◌}
 use Rattle.std.proofs.lemmas.Int.{ints}
-use Rattle.std.proofs.lemmas.Option.{slice_get_within}
+use Rattle.std.proofs.lemmas.Option.{get_or_from_slice_get, slice_get_within}
 use Rattle.bk_laws.proofs.Occurrences.{times, times-concat, times_in}
-use Rattle.bk_laws.proofs.ListPlaces.{get_append, get_back, index_got}
+use Rattle.bk_laws.proofs.ListPlaces.{get_append, get_back}
 use Rattle.bk_laws.proofs.Totals.{total}
 use Rattle.bk_laws.proofs.TestsAsNumbers.{nat_eq-same_if_counted}
 use Rattle.bk_tiling.proofs.Rows.{laid_sides}
@@ -147,7 +147,7 @@ module _ (O : Outline) (played : Played O) (f : Flow) (flow : IsFlow (net_after 
       few = omega (arith, slice_get_within all k q e, base.count)
 
       side : slice_index_or s.sides k 0 ≡ q.s
-      side = index_got s.sides k q.s (subst (λ (l : List ℕ). slice_get l k ≡ Some q.s) (sym base.prefix)
+      side = get_or_from_slice_get s.sides k q.s 0 (subst (λ (l : List ℕ). slice_get l k ≡ Some q.s) (sym base.prefix)
           (get_append (laid_sides all) base.rest k q.s (get_side all k q e)))
 
   height : ℕ

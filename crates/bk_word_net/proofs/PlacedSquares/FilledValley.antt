@@ -5,9 +5,9 @@ use Rattle.std.proofs.Common.{List, Some, [], ap, arith, drop, inl, length, refl
 use Rattle.std.proofs.Common.{◌++◌, ◌+◌, ◌<◌, ◌∙◌, ◌∷◌, ◌≡◌, ◌≤◌}
 use Rattle.std.proofs.lemmas.Int.{ints}
 use Rattle.std.proofs.lemmas.List.{length-append}
-use Rattle.std.proofs.lemmas.Option.{slice_get_within}
+use Rattle.std.proofs.lemmas.Option.{get_or_from_slice_get, slice_get_within}
 use Rattle.bk_laws.proofs.Occurrences.{times, times-first_positive}
-use Rattle.bk_laws.proofs.ListPlaces.{get_append, get_back, get_front, index_got}
+use Rattle.bk_laws.proofs.ListPlaces.{get_append, get_back, get_front}
 use Rattle.bk_laws.proofs.Totals.{total}
 use Rattle.bk_laws.proofs.ListItems.{concat-cut_at}
 use Rattle.bk_laws.proofs.Sums.{total-positive_of_positive}
@@ -47,7 +47,7 @@ module _ (O : Outline) (played : Played O) (f : Flow) (flow : IsFlow (net_after 
     bottom_of k q e = omega (arith, ints, base.tops k q e, drop_of O played.numbered f flow s k (wire_of k q e), side)
       where
         side : slice_index_or s.sides k 0 ≡ q.s
-        side = index_got s.sides k q.s (subst (λ (l : List ℕ). slice_get l k ≡ Some q.s) (sym base.prefix)
+        side = get_or_from_slice_get s.sides k q.s 0 (subst (λ (l : List ℕ). slice_get l k ≡ Some q.s) (sym base.prefix)
             (get_append (laid_sides laid) base.rest k q.s (get_side laid k q e)))
 
     closed_at : slice_index_or O.closed (length o.closed) [] ≡ valley_of o
@@ -67,9 +67,6 @@ module _ (O : Outline) (played : Played O) (f : Flow) (flow : IsFlow (net_after 
       more O played f flow s width width_is
           laid o m own base some later,
     )
-
-    level_of : ℕ
-    level_of = nat_abs (potential f 0 -ℤ potential f (length o.closed))
 
     -- a square of the valley ends at the node that is closed next
     ends_here : (n : ℕ) (q : Square) → 0 < times n (valley_of o) → IsNumbered laid n q → pos (q.y + q.s) ≡ potential f 0 -ℤ potential f (length o.closed)
@@ -107,9 +104,6 @@ module _ (O : Outline) (played : Played O) (f : Flow) (flow : IsFlow (net_after 
 
         second : (mid : ℕ) × BottomChain laid first.0 (valley_of o) mid × BottomChain laid mid (concat (drop (suc (valley_place o.signs)) o.segments)) width
         second = chain_split laid first.0 (valley_of o) (concat (drop (suc (valley_place o.signs)) o.segments)) width first.2
-
-        b : ℕ
-        b = second.0
 
         flat : Span laid (nat_abs (potential f 0 -ℤ potential f (length o.closed))) first.0 (valley_of o) second.0
             × ((c : ℕ) → first.0 ≤ c → c < second.0 → depth laid c ≡ nat_abs (potential f 0 -ℤ potential f (length o.closed)))

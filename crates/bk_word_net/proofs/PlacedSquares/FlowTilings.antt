@@ -38,9 +38,6 @@ use Rattle.bk_word_net.specs.WordFlow.{LaidAlong, laid_so_far}
 use Rattle.bk_word_net.specs.WordNet.{end_of, net_after}
 
 module _ (w : Word) (f : Flow) (complete : IsComplete w) (flow : IsFlow (net_after (outline_of w)) f) (places : PlacesWord w f) where
-  O : Outline
-  O = outline_of w
-
   abbrev own : Played (outline_of w)
   own = played_word w complete
 

@@ -2,6 +2,7 @@
 use Rattle.std.specs.List.{AllZip}
 use Rattle.std.proofs.Common.{Bool, List, Some, [], ap, arith, cond, false, inl, inr, length, map, nat_eq, slice_get, slice_index_or, subst, suc, sym, true, ℕ}
 use Rattle.std.proofs.Common.{◌++◌, ◌+◌, ◌-◌, ◌<◌, ◌∙◌, ◌∷◌, ◌≡◌, ◌⊎◌}
+use Rattle.std.proofs.lemmas.Bool.{eq-eqb}
 use Rattle.std.proofs.lemmas.Bool.Decides.{nat_tests}
 use Rattle.std.proofs.lemmas.List.{append_assoc, length-append, length-map}
 use Rattle.bk_laws.proofs.ZippedLists.{zip_at, zip_length}
@@ -74,15 +75,12 @@ module _ (t : Tiling) (tiling : IsTiling t) (all : List Square) (all_in : (q : S
             ≡ cond b [] (segment_bottom bottom (slice_index_or o.segments (valley_place o.signs - 1) []) ∷ [])
         by b e = ap (λ (c : Bool). cond c [] (segment_bottom bottom (slice_index_or o.segments (valley_place o.signs - 1) []) ∷ [])) e
 
-        zeroth : (a : ℕ) → a ≡ 0 → nat_eq a 0 ≡ true
-        zeroth a e = grind (arith, nat_tests)
-
         later : (a : ℕ) → 0 < a → nat_eq a 0 ≡ false
         later a e = grind (arith, nat_tests)
 
         cases : ((p.before ≡ []) × (v.x ≡ 0)) ⊎ HasLast laid v.x p.before
             → cond (has_left_wall o) [] (segment_bottom bottom (slice_index_or o.segments (valley_place o.signs - 1) []) ∷ []) ≡ depth_before laid v.x
-        cases (inl (none, at)) = by true (zeroth (valley_place o.signs) (number ∙ ap length none)) ∙ sym (ap (depth_before laid) at)
+        cases (inl (none, at)) = by true (eq-eqb (valley_place o.signs) 0 (number ∙ ap length none)) ∙ sym (ap (depth_before laid) at)
         cases (inr h) = by false (later (valley_place o.signs) (omega (arith, place)))
             ∙ ap (λ (n : ℕ). n ∷ []) (ap (λ (n : ℕ). segment_bottom bottom (slice_index_or o.segments n [])) before ∙ here) ∙ sym h.level
           where
@@ -110,16 +108,13 @@ module _ (t : Tiling) (tiling : IsTiling t) (all : List Square) (all_in : (q : S
             ≡ cond b [] (segment_bottom bottom (slice_index_or o.segments (valley_place o.signs + 1) []) ∷ [])
         by b e = ap (λ (c : Bool). cond c [] (segment_bottom bottom (slice_index_or o.segments (valley_place o.signs + 1) []) ∷ [])) e
 
-        equal : (a b : ℕ) → a ≡ b → nat_eq a b ≡ true
-        equal a b e = grind (arith, nat_tests)
-
         less : (a b : ℕ) → a < b → nat_eq a b ≡ false
         less a b e = grind (arith, nat_tests)
 
         cases : ((p.after ≡ []) × (v.x + v.width ≡ t.width)) ⊎ HasFirst t.width laid (v.x + v.width) p.after
             → cond (has_right_wall o) [] (segment_bottom bottom (slice_index_or o.segments (valley_place o.signs + 1) []) ∷ [])
             ≡ depth_from t.width laid (v.x + v.width)
-        cases (inl (none, at)) = by true (equal (valley_place o.signs) (length o.signs)
+        cases (inl (none, at)) = by true (eq-eqb (valley_place o.signs) (length o.signs)
             (omega (arith, number, signs_count, ap length none))) ∙ sym (depth_from_end t.width laid (v.x + v.width) at)
         cases (inr h) = by false (less (valley_place o.signs) (length o.signs) (omega (arith, number, signs_count, ap length h.is)))
             ∙ ap (λ (n : ℕ). n ∷ []) (ap (λ (n : ℕ). segment_bottom bottom (slice_index_or o.segments n [])) next ∙ here) ∙ sym h.level

@@ -93,9 +93,6 @@ module _ (O : Outline) (played : Played O) (f : Flow) (flow : IsFlow (net_after 
         positive = subst (AllByRecursion (λ s. 0 < s)) (sym (take-append-drop m.count base.rest))
             (all_right (λ s. 0 < s) (laid_sides laid) base.rest (subst (AllByRecursion (λ s. 0 < s)) base.prefix s.positive))
 
-        i : ℕ
-        i = length o.closed
-
         all_sides : s.sides ≡ laid_sides laid ++ (take m.count base.rest ++ drop m.count base.rest)
         all_sides = base.prefix ∙ ap (λ (r : List ℕ). laid_sides laid ++ r) (sym (take-append-drop m.count base.rest))
 

@@ -39,9 +39,6 @@ module _ (t : Tiling) (w : Word) (f : Flow) (tiling : IsTiling t) (p : IsWordOf 
   pub tl : (laid : List Square) × ((levels : List ℕ) × LaidAlong t (laid_so_far [] []) w (laid_so_far laid levels))
   tl = laid_along t [] [] w p
 
-  G : Flow
-  G = laid_flow t tl.0 (tl.1).0
-
   g_flow : IsFlow (net_after (outline_of w)) (laid_flow t tl.0 (tl.1).0)
   g_flow = laid_sides_are_a_flow t w tl.0 (tl.1).0 tiling p (tl.1).1
 

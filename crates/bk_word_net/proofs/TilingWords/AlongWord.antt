@@ -92,9 +92,6 @@ module _ (t : Tiling) (laid : List Square) (nodes : List Segment) (o : Outline) 
   new_sum : total (laid_sides (squares_under t v)) ≡ v.width
   new_sum = omega (arith, chain_total (squares_under t v) v.x (v.x + v.width) (under_chain t laid v tiling a.fills found low))
 
-  abbrev news : List ℕ
-  news = replicate (length (squares_under t v)) (length o.closed)
-
   both : (k : ℕ) → out_sum (o.hung ++ replicate (length (squares_under t v)) (length o.closed)) (laid_sides (laid ++ squares_under t v)) k
       ≡ out_sum o.hung (laid_sides laid) k + out_sum (replicate (length (squares_under t v)) (length o.closed)) (laid_sides (squares_under t v)) k
   both k = ap (λ (s : List ℕ). out_sum (o.hung ++ replicate (length (squares_under t v)) (length o.closed)) s k)

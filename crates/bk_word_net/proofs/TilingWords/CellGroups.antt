@@ -63,10 +63,6 @@ module _ (t : Tiling) (w : Word) (tiling : IsTiling t) (p : IsWordOf t w) where
         (omega (arith, low q (laid_in q h), e.full q.x (wide q (laid_in q h)))),
   )) (λ q h. own_cell t tiling q (laid_in q h))
 
-  -- the group over a cell
-  group_at : ℕ → ℕ → ℕ
-  group_at i j = position_or_len (list_any (covers i j)) (square_groups t.squares)
-
   -- the group that covers a cell is found at its place
   pub in_place : (k : ℕ) (g : List Square) (q : Square) (i j : ℕ) → slice_get (square_groups t.squares) k ≡ Some g → IsOneOf q g
       → covers i j q ≡ true → position_or_len (list_any (covers i j)) (square_groups t.squares) ≡ k

@@ -2,10 +2,10 @@
 -- diagram, no two are one group, and the squares hang from the nodes as they do there.
 use Rattle.std.specs.List.{list_any, position_or_len}
 use Rattle.std.proofs.Common.{List, Some, [], ap, arith, length, map, slice_get, slice_index_or, subst, sym, ℕ, ◌++◌, ◌<◌, ◌∙◌, ◌∷◌, ◌≡◌}
-use Rattle.std.proofs.lemmas.Option.{slice_get_within}
+use Rattle.std.proofs.lemmas.Option.{get_or_from_slice_get, slice_get_within}
 use Rattle.std.proofs.lemmas.List.{length-map}
 use Rattle.bk_laws.proofs.Totals.{total}
-use Rattle.bk_laws.proofs.ListPlaces.{get_back, get_front, get_map, get_some, index_got, slice_get-unique}
+use Rattle.bk_laws.proofs.ListPlaces.{get_back, get_front, get_map, get_some, slice_get-unique}
 use Rattle.bk_laws.proofs.ZippedLists.{all_zip-slice_get}
 use Rattle.bk_tiling.proofs.Rows.{laid_sides}
 use Rattle.bk_tiling.proofs.TilingLaws.{own_cell, side_of}
@@ -22,9 +22,6 @@ use Rattle.bk_word_net.proofs.TilingWords.GroupRuns.{IsGroupRun}
 use Rattle.bk_word_net.proofs.TilingWords.CellGroups.{d, e, heads, in_place, laid_in, node_place, of_node}
 
 module _ (t : Tiling) (w : Word) (tiling : IsTiling t) (p : IsWordOf t w) where
-  bottom_node : ℕ
-  bottom_node = length (square_groups t.squares)
-
   -- the group of a node of the word
   abbrev pub node_of_word : ℕ → ℕ
   node_of_word i = slice_index_or (map (λ v. position_or_len (list_any (covers v.x v.level)) (square_groups t.squares)) (e t w tiling p).nodes
@@ -38,8 +35,8 @@ module _ (t : Tiling) (w : Word) (tiling : IsTiling t) (p : IsWordOf t w) where
       (square_groups t.squares)
   node_at k v f = get_front (map (λ v. position_or_len (list_any (covers v.x v.level)) (square_groups t.squares)) (e t w tiling p).nodes)
       (length (square_groups t.squares) ∷ []) k 0 (omega (arith, names_count, slice_get_within (e t w tiling p).nodes k v f))
-      ∙ index_got (map (λ v. position_or_len (list_any (covers v.x v.level)) (square_groups t.squares)) (e t w tiling p).nodes) k
-      (position_or_len (list_any (covers v.x v.level)) (square_groups t.squares))
+      ∙ get_or_from_slice_get (map (λ v. position_or_len (list_any (covers v.x v.level)) (square_groups t.squares)) (e t w tiling p).nodes) k
+      (position_or_len (list_any (covers v.x v.level)) (square_groups t.squares)) 0
       (get_map (λ v. position_or_len (list_any (covers v.x v.level)) (square_groups t.squares)) (e t w tiling p).nodes k v f)
 
   -- the last node is the bottom

@@ -9,6 +9,7 @@ use Rattle.std.proofs.lemmas.List.{length-append, length-replicate}
 use Rattle.bk_laws.proofs.ListPlaces.{get_back, get_front}
 use Rattle.bk_laws.proofs.Occurrences.{slice_index_or-of_times_positive, times, times-append, times-replicate, times_at, times_in, times_in-append}
 use Rattle.bk_laws.proofs.ListItems.{slice_index_or-replicate}
+use Rattle.bk_laws.proofs.NumberOrder.{le-same_or_less}
 use Rattle.bk_net.proofs.OneFlowLaws.{ends_from_net, one_flow}
 use Rattle.bk_net.specs.Net.{HasNoLoose, IsJoined, IsNet, along, here}
 use Rattle.bk_word.specs.Outline.{Outline, start, valley_of, valley_place}
@@ -160,11 +161,8 @@ module _ (o : Outline) (p : Played o) (one : length o.segments ≡ 1) where
     where
       same : v ≡ length o.closed
       same = omega arith
-  joined_to_last (suc fuel) v a b = cases (two v (length o.closed) a) (joined_to_last fuel)
+  joined_to_last (suc fuel) v a b = cases (le-same_or_less v (length o.closed) a) (joined_to_last fuel)
     where
-      two : (a b : ℕ) → a ≤ b → (a ≡ b) ⊎ (a < b)
-      two a b h = grind arith
-
       cases : (v ≡ length o.closed) ⊎ (v < length o.closed)
           → ((v : ℕ) → v ≤ length o.closed → length o.closed ≤ v + fuel → IsJoined (net_after o).wires v (length o.closed))
           → IsJoined (net_after o).wires v (length o.closed)

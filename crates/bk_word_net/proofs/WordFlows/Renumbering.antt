@@ -4,9 +4,9 @@ use Rattle.std.specs.List.{position_or_len}
 use Rattle.std.proofs.Common.{List, Some, [], ap, arith, inl, inr, length, map, option_map, refl, slice_get, slice_index_or, subst, suc, sym, zero}
 use Rattle.std.proofs.Common.{ℕ, ◌++◌, ◌+◌, ◌<◌, ◌∙◌, ◌∷◌, ◌≡◌, ◌≤◌, ◌⊎◌}
 use Rattle.std.proofs.lemmas.Bool.{cases_lt}
-use Rattle.std.proofs.lemmas.Option.{slice_get_within}
+use Rattle.std.proofs.lemmas.Option.{get_or_from_slice_get, slice_get_within}
 use Rattle.std.proofs.lemmas.List.{length-append, length-map}
-use Rattle.bk_laws.proofs.ListPlaces.{get_map, get_some, index_got, slice_get-unique}
+use Rattle.bk_laws.proofs.ListPlaces.{get_map, get_some, slice_get-unique}
 use Rattle.bk_tiling.specs.declared.Segment.{Segment}
 use Rattle.bk_tiling.specs.Tiling.{IsOneOf, IsTiling, Tiling, covers}
 use Rattle.bk_tiling.specs.declared.Square.{Square}
@@ -76,7 +76,7 @@ module _ (t : Tiling) (w : Word) (tiling : IsTiling t) (p : IsWordOf t w) where
 
   square_at_wire : (k : ℕ) (q : Square) → slice_get e.laid k ≡ Some q → slice_get t.squares (wire k) ≡ Some q
   square_at_wire k q f = ap (slice_get t.squares)
-      (index_got (map (λ q. position_or_len (covers q.x q.y) t.squares) e.laid) k (position_or_len (covers q.x q.y) t.squares)
+      (get_or_from_slice_get (map (λ q. position_or_len (covers q.x q.y) t.squares) e.laid) k (position_or_len (covers q.x q.y) t.squares) 0
       (get_map (λ q. position_or_len (covers q.x q.y) t.squares) e.laid k q f))
       ∙ pos_found (covers q.x q.y) t.squares q q_in (own_cell t tiling q q_in) (λ r h c. one_there t tiling r q q.x q.y h c q_in (own_cell t tiling q q_in))
     where

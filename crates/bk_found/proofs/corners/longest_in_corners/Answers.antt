@@ -1,8 +1,8 @@
 use Rattle.std.specs.Int.{w64}
 use Rattle.std.specs.Prelude.{nat_abs, pos}
 use Rattle.std.proofs.Common.{ap, arith, of_z, slice_index_or, subst, sym, to_z, ℕ, ◌*◌, ◌+◌, ◌^◌, ◌==◌, ◌∙◌}
+use Rattle.std.proofs.lemmas.Bool.{ne_eqb}
 use Rattle.std.proofs.lemmas.Int.{to_z-of_z}
-use Rattle.bk_laws.proofs.NumberTests.{nat_eq-of_different}
 use Rattle.bk_found.specs.ToldCorners.{AreLongestTold, Lines}
 use Rattle.bk_found.specs.declared.corners.Contact.{Contact}
 use Rattle.bk_found.specs.declared.corners.Longest.{Longest}
@@ -42,6 +42,6 @@ squares-preserved c =
           w.with_square-longest.ensures.bottom w.with_square-longest.ensures.left w.with_square-longest.ensures.right)
       | else-top+else-bottom w ↦ subst (λ (m : Longest). AreLongestTold l (c.squares.i + 1) m) (sym w.longest-is)
           (told_none l c.squares.i c.squares.longest c.squares.invariant
-          (nat_eq-of_different (slice_index_or c.args.candidate.now.wires.now c.squares.i (0, 0)).0 0 w.if-top.false)
-          (nat_eq-of_different (slice_index_or c.args.candidate.now.wires.now c.squares.i (0, 0)).1 c.args.candidate.now.last w.if-bottom.false))
+          (ne_eqb (slice_index_or c.args.candidate.now.wires.now c.squares.i (0, 0)).0 0 w.if-top.false)
+          (ne_eqb (slice_index_or c.args.candidate.now.wires.now c.squares.i (0, 0)).1 c.args.candidate.now.last w.if-bottom.false))
     ]

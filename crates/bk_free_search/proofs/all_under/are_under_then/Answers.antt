@@ -1,6 +1,6 @@
 use Rattle.std.proofs.Common.{ap, arith, length, sym, ◌∙◌}
 use Rattle.std.specs.List.{list_any}
-use Rattle.bk_laws.proofs.Truth.{false-of_not}
+use Rattle.std.proofs.lemmas.Bool.{not-true}
 use Rattle.bk_word.proofs.PlayLists.{place_within}
 use Rattle.bk_word.specs.Play.{outline_of}
 use Rattle.bk_word.specs.Signs.{is_above}
@@ -21,4 +21,4 @@ returns c told = under_then c.args.board.now c.args.m.now
     (ap (list_any is_above) (sym (c.as_slice.ensures.items ∙ ap (λ (m : Move). m.signs) c.m.view_is)) ∙ sym c.is_any_above.ensures ∙ c.if-is_any_above.false)
     (ap (list_any is_above) (sym (c.behind.ensures ∙ behind_are c.args.board.now c.skel-skel.result.now c.signs.result.now c.valley_place.result.place
     c.skel-skel.ensures.value c.signs.ensures c.valley_place.ensures.stands.place_is))
-    ∙ sym c.is_any_above-2.ensures ∙ false-of_not c.is_any_above-2.result told)
+    ∙ sym c.is_any_above-2.ensures ∙ not-true c.is_any_above-2.result told)

@@ -1,7 +1,7 @@
 use Rattle.std.specs.Prelude.{◌/◌}
 use Rattle.std.proofs.Common.{[], ap, arith, cond, false, length, nat_lt, subst, true, ℕ, ◌++◌, ◌+◌, ◌<◌, ◌∙◌, ◌∷◌, ◌≡◌}
+use Rattle.std.proofs.lemmas.Bool.{ltb-true}
 use Rattle.std.proofs.lemmas.List.{length-append}
-use Rattle.bk_laws.proofs.NumberTests.{lt-from_nat_lt}
 use Rattle.bk_word.specs.Play.{IsLegal}
 use Rattle.bk_word.specs.Word.{Move, Word, order_of}
 use Rattle.bk_word.proofs.StoredBytes.{order_append, order_more}
@@ -91,7 +91,7 @@ returns-then-are_most_moves c told = all_under_at_right_is_normal_barren c.args.
     ))
     (omega (
       arith,
-      lt-from_nat_lt c.from-then-are_most_moves.result (c.look_after-after.result.right + c.look_after-after.result.signs) told,
+      ltb-true c.from-then-are_most_moves.result (c.look_after-after.result.right + c.look_after-after.result.signs) told,
       c.from-then-are_most_moves.ensures,
       c.look_after-after.ensures.stands.top_is,
       c.look_after-after.ensures.stands.right_is,

@@ -1,6 +1,6 @@
 use Rattle.std.specs.List.{concat}
 use Rattle.std.proofs.Common.{ap, arith, length}
-use Rattle.bk_laws.proofs.NumberTests.{lt-from_nat_lt}
+use Rattle.std.proofs.lemmas.Bool.{ltb-true}
 use Rattle.bk_word.specs.Outline.{valley_of}
 use Rattle.bk_word.specs.Play.{outline_of}
 use Rattle.bk_word.specs.Word.{Word}
@@ -29,7 +29,7 @@ returns-then-are_most_moves c told = right_is_barred c.args.order c.args.board.n
     (omega (arith, c.are_most_moves.ensures c.if-are_most_moves.true, c.from-2.ensures, ap (λ (k : Counts). k.moves) c.counts-counts.ensures))
     (omega (
       arith,
-      lt-from_nat_lt c.from-then-are_most_moves.result c.at_walls_then-left.result.1 told,
+      ltb-true c.from-then-are_most_moves.result c.at_walls_then-left.result.1 told,
       c.from-then-are_most_moves.ensures,
       ap (λ (k : Counts). k.top) c.counts-counts.ensures,
       c.at_walls_then-left.ensures.right,

@@ -1,9 +1,9 @@
 use Rattle.std.proofs.Common.{[], ap, subst, ◌++◌, ◌∙◌, ◌∷◌}
+use Rattle.bk_word.specs.Outline.{open_sides}
 use Rattle.bk_word.specs.Play.{outline_of}
 use Rattle.bk_word.specs.Word.{Move, Word}
 use Rattle.bk_layout.specs.NodeCut.{ShareANode}
 use Rattle.bk_free_search.proofs.NextWords.LastSquare.{last_legal, made_last, shared_is_barred}
-use Rattle.bk_catalogue.specs.NextMove.{open_sides}
 use Rattle.bk_free_search.proofs.last_square.last_move.Goals as goal
 
 pub joins_parted-requires-clause-legal : goal.joins_parted-requires-clause-legal

@@ -1,11 +1,9 @@
 use Rattle.std.proofs.Common.{ap, arith, length, nat_eq, ◌∙◌}
-use Rattle.bk_laws.proofs.NumberTests.{ne-from_nat_eq}
-use Rattle.bk_laws.proofs.Truth.{false-of_not}
-use Rattle.bk_word.specs.Outline.{valley_of}
+use Rattle.std.proofs.lemmas.Bool.{eqb-false, not-true}
+use Rattle.bk_word.specs.Outline.{open_sides, valley_of}
 use Rattle.bk_word.specs.Play.{outline_of}
 use Rattle.bk_word.specs.Word.{Word}
 use Rattle.bk_free_search.proofs.NextWords.LastSquare.{lone_is_barred, others_are_barred}
-use Rattle.bk_catalogue.specs.NextMove.{open_sides}
 use Rattle.bk_free_search.proofs.last_square.stays_open.Goals as goal
 
 pub returns-then-valley_squares-eq1 : goal.returns-then-valley_squares-eq1
@@ -15,7 +13,7 @@ returns-then-valley_squares-eq1 c _ = lone_is_barred c.args.order c.args.board.n
 
 pub returns : goal.returns
 returns c told = others_are_barred c.args.order c.args.board.now c.requires.least c.requires.one (λ same.
-    ne-from_nat_eq (length c.signs.result.now) c.open_sides.result (false-of_not (nat_eq (length c.signs.result.now) c.open_sides.result) told) (omega (
+    eqb-false (length c.signs.result.now) c.open_sides.result (not-true (nat_eq (length c.signs.result.now) c.open_sides.result) told) (omega (
       arith,
       same,
       ap length c.signs.ensures,

@@ -1,13 +1,13 @@
 -- The last square ends the word, and is taken back again.
 use Rattle.std.proofs.Common.{[], ap, arith, length, refl, subst, sym, ◌++◌, ◌∙◌, ◌∷◌}
 use Rattle.std.proofs.lemmas.List.{length-append}
+use Rattle.bk_word.specs.Outline.{open_sides}
 use Rattle.bk_word.proofs.StoredBytes.{order_one}
 use Rattle.bk_word.specs.Play.{IsComplete, outline_of}
 use Rattle.bk_word.specs.Word.{Move, Word, order_of}
 use Rattle.bk_free_search.proofs.NextWords.LastSquare.{last_is_whole, last_legal}
 use Rattle.bk_free_search.proofs.NextWords.HandedOn.{none_met, without_last}
 use Rattle.bk_free_search.specs.BoardOutlines.{IsBoardOutline}
-use Rattle.bk_catalogue.specs.NextMove.{open_sides}
 use Rattle.bk_free_search.proofs.state.meet_with_last.Goals as goal
 
 pub returns-in-None-clause-all : goal.returns-in-None-clause-all

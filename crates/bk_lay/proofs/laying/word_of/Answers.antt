@@ -1,11 +1,9 @@
-use Rattle.std.proofs.Common.{arith, false, refl, subst, sym, true, ◌≡◌}
+use Rattle.std.proofs.Common.{arith, false, refl, subst, sym, true}
+use Rattle.std.proofs.lemmas.Bool.{false≢true}
 use Rattle.bk_word.specs.Word.{Word}
 use Rattle.bk_lay.proofs.LaidMoveLaws.{move_comes_nearer}
 use Rattle.bk_lay.specs.LaidMoves.{IsLaidTo}
 use Rattle.bk_lay.proofs.laying.word_of.Goals as goal
-
-no : false ≡ true → ⊥
-no e = cc
 
 pub next_in-requires : goal.next_in-requires
 next_in-requires c = (c.moves.word, c.moves.invariant)
@@ -18,7 +16,7 @@ push-requires-clause-few c = omega (arith, c.begin.ensures.kept.few, (c.next_in.
 
 pub returns-in_err-push-clause-inline : goal.returns-in_err-push-clause-inline
 returns-in_err-push-clause-inline c h =
-    absurd (no (c.in_err-push.ensures.inline (omega (arith, h, (c.next_in.ensures.next c.moves-test.true c.moves.word c.moves.invariant).fits))))
+    absurd (false≢true (c.in_err-push.ensures.inline (omega (arith, h, (c.next_in.ensures.next c.moves-test.true c.moves.word c.moves.invariant).fits))))
 
 pub moves-smaller : goal.moves-smaller
 moves-smaller c = move_comes_nearer c.args.tiling.now c.moves.word c.push.new.self c.next_in.new.self c.next_in.new.m

@@ -4,7 +4,7 @@ use Rattle.bk_list.proofs.Exits.{cause_of_exit, no_cause}
 use Rattle.bk_list.proofs.ListingSteps.{begun_of_same, listed_begun, listed_more, next_of_same, nothing_listed_before_the_first_call}
 use Rattle.bk_list.proofs.StepCounts.{next_steps_as, no_steps, steps_all, steps_begun, steps_limit, steps_more, tree_as}
 use Rattle.bk_list.specs.Listing.{Catalogue}
-use Rattle.bk_list.specs.Walked.{catalogue_of, listing_of}
+use Rattle.bk_list.specs.ListedMembers.{catalogue_of, listing_of}
 use Rattle.bk_list.proofs.entries.write_entries.Goals as goal
 
 pub entries-init : goal.entries-init

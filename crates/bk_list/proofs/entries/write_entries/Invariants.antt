@@ -1,7 +1,7 @@
 use Rattle.std.proofs.Common.{Some, ◌-◌, ◌^◌, ◌≡◌}
 use Rattle.bk_list.proofs.ListingSteps.{IsListed}
 use Rattle.bk_list.specs.Stepping.{IsAtMostTreeAnd}
-use Rattle.bk_list.specs.Walked.{catalogue_of, listing_of}
+use Rattle.bk_list.specs.ListedMembers.{catalogue_of, listing_of}
 use Rattle.bk_list.proofs.entries.write_entries.Given as goal
 
 abbrev pub invariant-entries : goal.invariant-entries

@@ -4,7 +4,7 @@ use Rattle.bk_list.proofs.Exits.{cause_of_exit, no_cause}
 use Rattle.bk_list.proofs.ListingSteps.{begun_whole, ended_narrow, line_of_same, written_whole}
 use Rattle.bk_list.proofs.StepCounts.{stands_behind, takes_all, took_all}
 use Rattle.bk_list.specs.Listing.{Catalogue}
-use Rattle.bk_list.specs.Walked.{listing_of}
+use Rattle.bk_list.specs.ListedMembers.{listing_of}
 use Rattle.bk_list.proofs.listing.write_listing.Goals as goal
 
 pub returns-in_err-last-clause-begun : goal.returns-in_err-last-clause-begun

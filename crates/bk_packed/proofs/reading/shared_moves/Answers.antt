@@ -3,8 +3,8 @@ use Rattle.bk_word.specs.Word.{Move, Word}
 use Rattle.bk_word.specs.declared.Sign.{Sign}
 use Rattle.bk_packed.specs.Packed.{move_digits, packed, word_digits}
 use Rattle.bk_packed.specs.ReadMoves.{HasDigits, IsSharedFront}
-use Rattle.bk_packed.proofs.NextDigits.{IsMoveAt, has_at, has_next, longer, move_at, move_is_at}
-use Rattle.bk_packed.proofs.ReadMoves.{shared}
+use Rattle.bk_packed.proofs.NextDigits.{IsMoveAt, digits_with_one_move_more, has_at, has_next, move_at, move_is_at}
+use Rattle.bk_packed.proofs.ReadMoves.{alike_up_to_place}
 use Rattle.bk_packed.proofs.reading.shared_moves.Goals as goal
 
 -- the move that is looked at
@@ -30,7 +30,7 @@ returns-then-not-has_move-clause-shared c w legal few e is =
     (sym (same c.args.skel.now c.moves.i c.count_at.result c.signs_at-signs.result.now m c.count_at.ensures c.signs_at-signs.ensures))
     (has_at c.args.number c.moves.place c.args.skel.now c.moves.i m c.moves.invariant.place
     (subst (λ n. HasDigits n 0 (word_digits (take (c.moves.i + 1) c.args.skel.now))) is has))) in cc) in
-    shared c.args.skel.now w c.moves.i c.requires.legal legal e few
+    alike_up_to_place c.args.skel.now w c.moves.i c.requires.legal legal e few
     (subst (λ n. HasDigits n 0 (word_digits (take c.moves.i c.args.skel.now))) (sym is) c.moves.invariant.has) not
 
 pub overflow_add-place-in-moves : goal.overflow_add-place-in-moves
@@ -42,7 +42,7 @@ pub moves-preserved : goal.moves-preserved
 moves-preserved c =
     let m = move_is_at c.args.skel.now c.moves.i c.requires.legal c.requires.few (omega (arith, c.moves-test.true, c.moves-i-end.ensures.value)) in
     record {
-      place = longer c.args.skel.now c.moves.i c.moves.place (length c.signs_at-signs.result.now) m c.moves.invariant.place
+      place = digits_with_one_move_more c.args.skel.now c.moves.i c.moves.place (length c.signs_at-signs.result.now) m c.moves.invariant.place
           (ap length (c.signs_at-signs.ensures (move_at c.args.skel.now c.moves.i) m.at));
       has = has_next c.args.number c.moves.place c.args.skel.now c.moves.i m c.moves.invariant.place c.moves.invariant.has
           (subst (λ (k : Move). HasDigits c.args.number c.moves.place (move_digits k))
@@ -53,6 +53,6 @@ moves-preserved c =
 pub returns-clause-shared : goal.returns-clause-shared
 returns-clause-shared c w legal few e is =
     let all : c.moves.i ≡ c.moves-2.result = omega (arith, c.moves-test.false, c.moves-i-end.ensures.value, c.moves-2.ensures.value) in
-    subst (IsSharedFront c.args.skel.now w) all (shared c.args.skel.now w c.moves.i c.requires.legal legal e few
+    subst (IsSharedFront c.args.skel.now w) all (alike_up_to_place c.args.skel.now w c.moves.i c.requires.legal legal e few
     (subst (λ n. HasDigits n 0 (word_digits (take c.moves.i c.args.skel.now))) (sym is) c.moves.invariant.has)
     (λ low. absurd (omega (arith, c.moves-test.false, c.moves-i-end.ensures.value, low))))

@@ -1,5 +1,5 @@
 use Rattle.std.proofs.Common.{arith}
-use Rattle.bk_tiling.proofs.Refusing.{first_overlap_from, none_shared, rows_more}
+use Rattle.bk_tiling.proofs.Refusing.{first_overlap_from, rows_more, shares_no_cell-to_end}
 use Rattle.bk_tiling.proofs.checks.first_overlap.Goals as goal
 
 pub loop-i-preserved : goal.loop-i-preserved
@@ -18,4 +18,4 @@ pub first_sharing-requires-clause-fit : goal.first_sharing-requires-clause-fit
 first_sharing-requires-clause-fit c = c.requires
 
 pub returns-clause-none : goal.returns-clause-none
-returns-clause-none c = none_shared c.args.squares.now c.loop-i.i c.loop-i.invariant c.loop-i-test.false
+returns-clause-none c = shares_no_cell-to_end c.args.squares.now c.loop-i.i c.loop-i.invariant c.loop-i-test.false

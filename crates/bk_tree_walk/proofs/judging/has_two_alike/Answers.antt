@@ -5,7 +5,7 @@ use Rattle.std.specs.Prelude.{pos, ℤ}
 use Rattle.std.proofs.Common.{Bool, List, get_or, refl, ◌≡◌}
 use Rattle.std.proofs.lemmas.Bool.Decides.{Decides-int_eq, not_from_Decides}
 use Rattle.std.proofs.lemmas.List.Elements.{Decides-contains, contains_decides}
-use Rattle.bk_laws.proofs.ListPlaces.{slice_get-get_or}
+use Rattle.std.proofs.lemmas.Option.{slice_get-get_or}
 use Rattle.bk_tree_walk.proofs.UnfitFlows.{alike_from, apart_with_one_integer_more, none_alike_where_all_are_apart}
 use Rattle.bk_tree_walk.proofs.judging.has_two_alike.Goals as goal
 

@@ -1,6 +1,6 @@
 use Rattle.std.proofs.Common.{ap, arith, length, refl, ◌<◌}
 use Rattle.bk_word.specs.Word.{order_of}
-use Rattle.bk_tree_walk.proofs.SearchLoop.{counts_none}
+use Rattle.bk_tree_walk.proofs.WalkLoop.{counts_none}
 use Rattle.bk_tree_walk.proofs.LoopSteps.{stays_then}
 use Rattle.bk_walk.proofs.GoingTo.{IsNextTo, going_by, going_next, is_there, played_each, played_goes, played_nearer, played_stays}
 use Rattle.bk_walk.proofs.leaping.go_to.Goals.{After-read_next}

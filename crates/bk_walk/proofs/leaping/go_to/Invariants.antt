@@ -1,7 +1,7 @@
 use Rattle.std.proofs.Common.{length, ◌+◌, ◌-◌, ◌≡◌}
 use Rattle.bk_word.specs.Word.{order_of}
 use Rattle.bk_walk.specs.Leaping.{GoesToWord}
-use Rattle.bk_tree_walk.specs.Search.{StaysOf}
+use Rattle.bk_tree_walk.specs.TreePlace.{StaysOf}
 use Rattle.bk_walk.proofs.leaping.go_to.Given as goal
 
 abbrev pub invariant-moves : goal.invariant-moves

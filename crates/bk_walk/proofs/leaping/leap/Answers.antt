@@ -1,7 +1,7 @@
 use Rattle.std.proofs.Common.{ap, arith, length, subst, sym}
 use Rattle.bk_word.specs.Play.{IsLegal}
 use Rattle.bk_word.specs.Word.{order_of}
-use Rattle.bk_tree_walk.specs.Search.{SearchState}
+use Rattle.bk_tree_walk.specs.TreePlace.{TreeWalkState}
 use Rattle.bk_tree_walk.proofs.LoopSteps.{stays_then}
 use Rattle.bk_walk.specs.Leaping.{GoesToWord, IsAtNumber}
 use Rattle.bk_walk.proofs.LeapStates.{leap_goes, leap_member, leap_met, leap_within}
@@ -20,23 +20,23 @@ shorten-requires g c = leap_within c.args.tree.now c.skel.ensures.kept c.require
 
 pub go_to-requires-clause-known : goal.go_to-requires-clause-known
 go_to-requires-clause-known g c =
-    let kept = c.skel.ensures.kept in omega (arith, kept.known, ap (λ (s : SearchState). s.pushes) c.shorten.ensures.state)
+    let kept = c.skel.ensures.kept in omega (arith, kept.known, ap (λ (s : TreeWalkState). s.pushes) c.shorten.ensures.state)
 
 pub go_to-requires-clause-goes : goal.go_to-requires-clause-goes
-go_to-requires-clause-goes g c = subst (λ (s : SearchState). GoesToWord s.order s.front c.args.number) (sym c.shorten.ensures.state)
+go_to-requires-clause-goes g c = subst (λ (s : TreeWalkState). GoesToWord s.order s.front c.args.number) (sym c.shorten.ensures.state)
     (leap_goes c.args.tree.now c.skel.ensures.kept c.requires.ready c.args.number c.requires.next c.skel.result.now c.skel.ensures.value
     c.shared_moves-shared.result c.shared_moves-shared.ensures.within c.shared_moves-shared.ensures.shared)
 
 pub returns-clause-meets : goal.returns-clause-meets
 returns-clause-meets g c = leap_met c.args.tree.now c.skel.ensures.kept c.requires.ready c.args.number c.requires.next c.skel.result.now
     c.skel.ensures.value c.shared_moves-shared.result c.shared_moves-shared.ensures.within c.shared_moves-shared.ensures.shared c.go_to.new.tree.front
-    (subst (λ (s : SearchState). IsAtNumber s.order c.go_to.new.tree.front c.args.number) c.shorten.ensures.state c.go_to.ensures.at)
-    c.args.steps.now c.go_to.new.steps (omega (arith, c.go_to.ensures.steps, ap (λ (s : SearchState). length s.front) c.shorten.ensures.state))
+    (subst (λ (s : TreeWalkState). IsAtNumber s.order c.go_to.new.tree.front c.args.number) c.shorten.ensures.state c.go_to.ensures.at)
+    c.args.steps.now c.go_to.new.steps (omega (arith, c.go_to.ensures.steps, ap (λ (s : TreeWalkState). length s.front) c.shorten.ensures.state))
 
 pub returns-clause-member : goal.returns-clause-member
 returns-clause-member g c = leap_member c.args.tree.now c.skel.ensures.kept c.requires.ready c.args.number c.requires.next c.skel.result.now
     c.skel.ensures.value c.shared_moves-shared.result c.shared_moves-shared.ensures.within c.shared_moves-shared.ensures.shared c.go_to.new.tree.front
-    (subst (λ (s : SearchState). IsAtNumber s.order c.go_to.new.tree.front c.args.number) c.shorten.ensures.state c.go_to.ensures.at)
+    (subst (λ (s : TreeWalkState). IsAtNumber s.order c.go_to.new.tree.front c.args.number) c.shorten.ensures.state c.go_to.ensures.at)
 
 pub returns-clause-stays : goal.returns-clause-stays
 returns-clause-stays g c = stays_then c.args.tree.now c.shorten.new.self c.go_to.new.tree c.args.steps.now c.args.steps.now c.go_to.new.steps

@@ -1,5 +1,5 @@
 use Rattle.std.proofs.Common.{refl, sym, true≢false, tests}
-use Rattle.bk_tree_walk.proofs.LoopSteps.{entry_of_step, no_step_yet, stays_same, stays_then, step_comes_nearer, step_ends_search, step_finds}
+use Rattle.bk_tree_walk.proofs.LoopSteps.{entry_of_step, no_step_yet, stays_same, stays_then, step_comes_nearer, step_ends_walk, step_finds}
 use Rattle.bk_tree_walk.proofs.LoopSteps.{step_keeps, step_leads_on}
 use Rattle.bk_walk.proofs.next_member.find_next.Goals as goal
 
@@ -23,7 +23,7 @@ places-preserved g c = record {
 }
 
 pub returns-in-End-clause-finds : goal.returns-in-End-clause-finds
-returns-in-End-clause-finds g c = step_ends_search c.args.tree.now c.places.tree c.step.new.tree c.args.steps.now c.places.steps c.step.new.steps
+returns-in-End-clause-finds g c = step_ends_walk c.args.tree.now c.places.tree c.step.new.tree c.args.steps.now c.places.steps c.step.new.steps
     c.places.invariant.kept c.places.invariant.on c.places.invariant.stays c.in-End.ensures.stays c.in-End.ensures.leads
 
 pub returns-in-Met-clause-finds : goal.returns-in-Met-clause-finds

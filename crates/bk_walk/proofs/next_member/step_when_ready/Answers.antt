@@ -1,6 +1,6 @@
 use Rattle.std.proofs.Common.{ap, arith, refl, subst, sym, ℕ, ◌-◌, ◌≡◌, tests}
 use Rattle.bk_word.specs.declared.Class.{Class}
-use Rattle.bk_tree_walk.specs.Search.{SearchState, place_of}
+use Rattle.bk_tree_walk.specs.TreePlace.{TreeWalkState, place_of}
 use Rattle.bk_tree_walk.specs.WholeWords.{IsMembersWord}
 use Rattle.bk_tree_walk.specs.declared.Went.TheVariants.{End, Met}
 use Rattle.bk_tree_walk.proofs.MemberEntries.{same_entry}
@@ -32,7 +32,7 @@ returns-in-Unknown g c = record { leads = c.walk_on.ensures.leads; member = c.wa
 
 pub returns-in-Next : goal.returns-in-Next
 returns-in-Next g c =
-    subst (λ (t : SearchState). IsStep c.args.tree.now c.args.steps.now
+    subst (λ (t : TreeWalkState). IsStep c.args.tree.now c.args.steps.now
     (record { tree = t; steps = c.leap.new.steps; tiling = c.realise.new.tiling }) Met) (sym c.realise.ensures.same)
     (record {
       leads = c.leap.ensures.meets;
@@ -50,7 +50,7 @@ returns-in-NoMore g c = record {
   leads = (
     ends_there c.args.tree.now.order c.args.tree.now.class (place_of c.args.tree.now) (c.args.steps.now - c.args.steps.now) c.in-NoMore.ensures
         (omega arith),
-    ap (λ (s : SearchState). s.front) c.shorten.ensures.state,
+    ap (λ (s : TreeWalkState). s.front) c.shorten.ensures.state,
   );
   member = λ met. absurd (not_end met);
   stays = c.shorten.ensures.stays c.args.steps.now;

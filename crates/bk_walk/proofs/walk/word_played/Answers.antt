@@ -1,4 +1,5 @@
-use Rattle.std.proofs.Common.{[], ap, arith, false, sym, true, ◌++◌, ◌∙◌, ◌∷◌, ◌≡◌}
+use Rattle.std.proofs.Common.{[], ap, arith, false, sym, true, ◌++◌, ◌∙◌, ◌∷◌}
+use Rattle.std.proofs.lemmas.Bool.{false≢true}
 use Rattle.bk_laws.proofs.ListPlaces.{take-snoc_next}
 use Rattle.bk_word.specs.Word.{order_of}
 use Rattle.bk_walk.proofs.PlayedMoves.{legal_stands, order_at}
@@ -15,11 +16,8 @@ push-requires-clause-few c = omega (
   ap order_of c.moves.invariant,
 )
 
-no : false ≡ true → ⊥
-no e = cc
-
 pub unreachable-requires : goal.unreachable-requires
-unreachable-requires c = no (c.in-Err.ensures.inline
+unreachable-requires c = false≢true (c.in-Err.ensures.inline
     (omega (arith, order_at c.args.skel.now c.moves.i c.read_move.new.m 16 c.read_move.ensures c.requires, ap order_of c.moves.invariant)))
 
 pub moves-preserved : goal.moves-preserved

@@ -2,7 +2,7 @@
 use Rattle.std.specs.Prelude.{length, map, ◌+◌, ◌++◌, ◌∷◌, ◌≡◌}
 use Rattle.std.proofs.Common.{ap, arith, lit<, refl, subst, sym, ◌∙◌}
 use Rattle.std.proofs.lemmas.List.{length-map}
-use Rattle.bk_laws.proofs.Outcomes.{ok-is_not_err, on_ok-use}
+use Rattle.bk_laws.proofs.Outcomes.{ok-is_not_err, on_ok-apply}
 use Rattle.bk_word.specs.StoredWord.{IsStoredWord, sign_byte, stored_move, word_in}
 use Rattle.bk_word.specs.Word.{Move}
 use Rattle.bk_word.proofs.StoredBytes.{has_bytes, move_fits_where_squares_are_few, pushed}
@@ -11,7 +11,7 @@ use Rattle.bk_word.proofs.Word.push.Goals as goal
 pub append_move-requires : goal.append_move-requires
 append_move-requires c = omega (
   arith,
-  on_ok-use c.reserve.result _ c.reserve.ensures.ok (sym c.is_err.ensures.value ∙ c.if-is_err.false),
+  on_ok-apply c.reserve.result _ (sym c.is_err.ensures.value ∙ c.if-is_err.false) c.reserve.ensures.ok,
 )
 
 appended : (c : goal.After-append_move) → c.append_move.new.bytes.items ≡ c.self.inside.bytes.items ++ stored_move c.args.m.now

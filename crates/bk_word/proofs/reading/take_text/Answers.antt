@@ -2,7 +2,8 @@ use Rattle.std.specs.Prelude.{take}
 use Rattle.std.proofs.Common.{ap, arith, sym, ◌∙◌}
 use Rattle.bk_word.specs.WordReading.{next_word_place}
 use Rattle.bk_word.specs.Taken.{step}
-use Rattle.bk_word.proofs.WordProgress.{at_most_600_bytes_for_200_squares, at_start, no_word_text_where_bytes_end_early, progress_whole, stops, text_kept}
+use Rattle.bk_word.proofs.WordProgress.{at_most_600_bytes_for_200_squares, at_start, no_word_behind_stop, no_word_text_where_bytes_end_early, progress_whole}
+use Rattle.bk_word.proofs.WordProgress.{text_kept}
 use Rattle.bk_word.proofs.WordProgress.{word_progress_to_the_next_place}
 use Rattle.bk_word.proofs.reading.take_text.Goals as goal
 
@@ -11,7 +12,7 @@ loop-at-init c = at_start c.new-taken.result c.new-taken.ensures
 
 pub returns-in_default-clause-err : goal.returns-in_default-clause-err
 returns-in_default-clause-err c =
-    stops c.args.text.now c.loop-at.at c.loop-at.place c.loop-at.taken (omega arith) c.loop-at.invariant
+    no_word_behind_stop c.args.text.now c.loop-at.at c.loop-at.place c.loop-at.taken (omega arith) c.loop-at.invariant
     (ap (next_word_place c.loop-at.place) (sym c.kind_of-kind.ensures) ∙ sym c.next.ensures ∙ c.in_default.is)
 
 pub take-requires : goal.take-requires

@@ -4,6 +4,7 @@ use Rattle.std.proofs.Common.{ℕ, ◌*◌, ◌++◌, ◌+◌, ◌-◌, ◌<◌,
 use Rattle.std.proofs.lemmas.List.{length-append}
 use Rattle.std.proofs.lemmas.Bool.{cases_lt}
 use Rattle.bk_laws.proofs.NumberOrder.{lt_add_one-less_or_same}
+use Rattle.bk_word.proofs.PlayLaws.{side_has_one_sign_at_most}
 use Rattle.bk_word.proofs.StoredBytes.{order_one}
 use Rattle.bk_word.specs.Outline.{has_left_wall, open_side}
 use Rattle.bk_word.specs.Play.{IsComplete, outline_of}
@@ -15,7 +16,6 @@ use Rattle.bk_layout.specs.NetWord.{IsNetBarren}
 use Rattle.bk_layout.specs.NormalImage.{IsNormalSought}
 use Rattle.bk_free_search.proofs.NextWords.Cutting.{normal}
 use Rattle.bk_free_search.proofs.Asks.AskedNext.{few_behind}
-use Rattle.bk_free_search.proofs.Asks.EvenSigns.{side_few}
 use Rattle.bk_free_search.proofs.NextWords.LastSquare.{all_at_once_is_barren}
 use Rattle.bk_free_search.proofs.NextWords.NextMoves.{HasNextMove, by_count, by_same, by_whole, is_whole}
 use Rattle.bk_free_search.proofs.NextWords.NextMoves.{next_fertile, next_fits, next_move, sought_in}
@@ -166,8 +166,8 @@ with_counts-overflow_sub-left-in-counts g t c = omega (arith, c.counts-test.true
 pub with_counts-begin-requires : goal.with_counts-begin-requires
 with_counts-begin-requires g t c = record {
   some = omega (arith, c.counts.auto.count, c.least_count-count.ensures.some);
-  left = omega (arith, c.open_sides-sides.ensures.left, side_few c.stand_beside-around.result.left_wall);
-  right = omega (arith, c.open_sides-sides.ensures.right, side_few c.stand_beside-around.result.right_wall);
+  left = omega (arith, c.sides_beside-sides.ensures.left, side_has_one_sign_at_most c.stand_beside-around.result.left_wall);
+  right = omega (arith, c.sides_beside-sides.ensures.right, side_has_one_sign_at_most c.stand_beside-around.result.right_wall);
 }
 
 pub with_counts-with_left-requires : goal.with_counts-with_left-requires
@@ -192,7 +192,7 @@ with_counts-with_left-requires g t c κs within = handed_on
       signs = omega (arith, ap (λ (l : List Sign). length l) none);
       next_is = subst (λ k. IsNextCount c.args.self.now.order c.args.self.now.board k c.begin.new.begun.next) (sym c.begin.ensures.count)
           (c.begin.ensures.next c.args.self.now.order c.args.self.now.board c.stand_beside-around.result c.stand_beside-around.ensures
-          c.open_sides-sides.ensures.left c.open_sides-sides.ensures.right (omega (arith, hung)));
+          c.sides_beside-sides.ensures.left c.sides_beside-sides.ensures.right (omega (arith, hung)));
       around_is = c.stand_beside-around.ensures;
     }
 
@@ -411,7 +411,7 @@ with_sign-with_own-requires g t c κs within = (
       begun = begun_with (record { m = c.push_sign.new.m; next = c.args.begun.now.next }) c.args.next.sign c.requires.own.begun c.push_sign.ensures.count
           c.push_sign.ensures.signs refl (own_wanted c.requires.own.begun c.requires.own.own);
       asked_is = subst (λ l. IsAsked c.args.self.now.board l c.args.asked.now) (sym c.push_sign.ensures.signs) c.requires.own.asked_is;
-      from = omega (arith, longer, side_few (has_left_wall (outline_of c.args.self.now.board)));
+      from = omega (arith, longer, side_has_one_sign_at_most (has_left_wall (outline_of c.args.self.now.board)));
       own = omega (arith, longer, c.requires.own.own);
     },
   ),

@@ -1,5 +1,5 @@
 use Rattle.std.proofs.Common.{ap, arith, ◌+◌}
-use Rattle.bk_laws.proofs.NumberTests.{lt-from_nat_lt}
+use Rattle.std.proofs.lemmas.Bool.{ltb-true}
 use Rattle.bk_word.specs.Outline.{open_side}
 use Rattle.bk_word.specs.Word.{order_of}
 use Rattle.bk_layout.proofs.NormalCuts.NextMove.{next_is_last_is_normal_barren}
@@ -17,7 +17,7 @@ pub returns : goal.returns
 returns c told = none_goes_on c.args.self.now.order c.args.self.now.board c.requires.few
     (next_lacks_evens c.args.self.now.order c.args.self.now.board c.args.beside.now.ahead.evens c.requires.beside.evens_are (omega (
       arith,
-      lt-from_nat_lt (c.open_side.result + c.open_side-2.result) c.args.beside.now.ahead.evens told,
+      ltb-true (c.open_side.result + c.open_side-2.result) c.args.beside.now.ahead.evens told,
       c.open_side.ensures,
       c.open_side-2.ensures,
       ap open_side c.requires.beside.left_is,

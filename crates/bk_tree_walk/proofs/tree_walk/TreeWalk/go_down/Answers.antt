@@ -1,6 +1,6 @@
 use Rattle.std.proofs.Common.{arith, subst, sym}
 use Rattle.bk_word.specs.Word.{Word}
-use Rattle.bk_tree_walk.specs.Search.{IsReady, IsSearchState}
+use Rattle.bk_tree_walk.specs.TreePlace.{IsReady, IsTreeWalkState}
 use Rattle.bk_tree_walk.proofs.StateLaws.{stand_down}
 use Rattle.bk_tree_walk.proofs.tree_walk.TreeWalk.go_down.Goals as goal
 
@@ -16,6 +16,6 @@ invariant_of-self g c =
     record {
       least = c.self.invariant.least;
       most = c.self.invariant.most;
-      stand = subst (λ (w : Word). IsSearchState c.self.inside.order w c.self.inside.next) (sym c.push.ensures.moves) (stand_down _ c.self.invariant ready);
+      stand = subst (λ (w : Word). IsTreeWalkState c.self.inside.order w c.self.inside.next) (sym c.push.ensures.moves) (stand_down _ c.self.invariant ready);
       known = omega arith;
     }

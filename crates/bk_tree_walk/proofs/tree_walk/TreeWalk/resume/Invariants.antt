@@ -1,5 +1,5 @@
 use Rattle.bk_tree_walk.proofs.TakingUp.{TakesUp}
-use Rattle.bk_tree_walk.specs.Search.{StaysOf}
+use Rattle.bk_tree_walk.specs.TreePlace.{StaysOf}
 use Rattle.bk_tree_walk.proofs.tree_walk.TreeWalk.resume.Given as goal
 
 abbrev pub invariant-moves : goal.invariant-moves

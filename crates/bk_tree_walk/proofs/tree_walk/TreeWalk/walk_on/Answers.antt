@@ -1,5 +1,5 @@
 use Rattle.std.proofs.Common.{[], subst, sym, ◌-◌, ◌∙◌, ◌≡◌, ◌∷◌, ap, arith, length}
-use Rattle.bk_tree_walk.specs.Search.{IsReady, IsSearchState, SearchState, StepLeadsTo}
+use Rattle.bk_tree_walk.specs.TreePlace.{IsReady, IsTreeWalkState, TreeWalkState, StepLeadsTo}
 use Rattle.bk_tree_walk.specs.declared.Went.{Went}
 use Rattle.bk_tree_walk.specs.declared.Went.TheVariants.{Met, On}
 use Rattle.bk_tree_walk.proofs.StateLaws.{count_few, leads_over, next_move_has_at_most_18_signs, stand_anew, stays_down, stays_put, walked_back}
@@ -37,7 +37,7 @@ pub returns-then-skip-clause-stays : goal.returns-then-skip-clause-stays
 returns-then-skip-clause-stays g c = stays_put c.self.invariant c.self.view_is _ _ _
 
 pub returns-then-skip-clause-leads : goal.returns-then-skip-clause-leads
-returns-then-skip-clause-leads g c = subst (λ (s : SearchState). StepLeadsTo s (record s { front = c.self.inside.lined; next = c.skip.new.m })
+returns-then-skip-clause-leads g c = subst (λ (s : TreeWalkState). StepLeadsTo s (record s { front = c.self.inside.lined; next = c.skip.new.m })
     (c.args.steps.now - c.args.steps.now) On) c.self.view_is
     (leads_over _ c.self.invariant (subst IsReady (sym c.self.view_is) c.requires) c.skip.new.m c.args.steps.now (c.skip.ensures.cut c.if-skip.true)
     c.skip.ensures.near)
@@ -47,7 +47,7 @@ pub invariant_of-self-2 : goal.invariant_of-self-2
 invariant_of-self-2 g c = record {
   least = c.self.invariant.least;
   most = c.self.invariant.most;
-  stand = subst (IsSearchState c.self.inside.order c.self.inside.lined) (sym (c.skip.ensures.kept c.if-skip.false)) c.self.invariant.stand;
+  stand = subst (IsTreeWalkState c.self.inside.order c.self.inside.lined) (sym (c.skip.ensures.kept c.if-skip.false)) c.self.invariant.stand;
   known = c.self.invariant.known;
 }
 
@@ -83,7 +83,7 @@ invariant_of-self-then-is_barren g c = record {
 }
 
 pub returns-then-is_barren-clause-leads : goal.returns-then-is_barren-clause-leads
-returns-then-is_barren-clause-leads g c = subst (λ (s : SearchState). StepLeadsTo s (record s { front = c.pop.new.self; next = c.next_move.new.m })
+returns-then-is_barren-clause-leads g c = subst (λ (s : TreeWalkState). StepLeadsTo s (record s { front = c.pop.new.self; next = c.next_move.new.m })
     (c.go_down.new.steps - c.args.steps.now) On) c.self.view_is
     (walked_back _ _ c.self.invariant (subst IsReady (sym c.self.view_is) c.requires) c.skip.new.m c.args.steps.now c.go_down.new.steps
     (c.self-2.view_is ∙ c.go_down.ensures.state) (c.skip.ensures.kept c.if-skip.false) c.go_down.ensures.step c.pop.new.self c.next_move.new.m c.pop.ensures
@@ -91,15 +91,15 @@ returns-then-is_barren-clause-leads g c = subst (λ (s : SearchState). StepLeads
 
 pub returns-clause-leads : goal.returns-clause-leads
 returns-clause-leads g c =
-    let was : SearchState = record {
+    let was : TreeWalkState = record {
       order = c.self.inside.order;
       class = c.self.inside.class;
       front = c.self.inside.lined;
       next = c.self.inside.next;
       pushes = c.self.inside.pushes;
     } in
-    let then : SearchState = record was { front = c.self-2.inside.lined; next = c.begin_anew.new.m } in
-    subst (λ (s : SearchState). StepLeadsTo s then (c.go_down.new.steps - c.args.steps.now) c.if-is_members.result) c.self.view_is
+    let then : TreeWalkState = record was { front = c.self-2.inside.lined; next = c.begin_anew.new.m } in
+    subst (λ (s : TreeWalkState). StepLeadsTo s then (c.go_down.new.steps - c.args.steps.now) c.if-is_members.result) c.self.view_is
     (elim c.if-is_members.branch [
       | then-is_members w ↦ subst (λ (r : Went). StepLeadsTo was then (c.go_down.new.steps - c.args.steps.now) r) (sym w.result-is)
           (walked_to _ _ c.self.invariant (subst IsReady (sym c.self.view_is) c.requires) c.skip.new.m c.args.steps.now c.go_down.new.steps
@@ -122,7 +122,7 @@ returns-then-is_barren-clause-member g c = λ met. absurd (not_met met)
 
 pub returns-clause-member : goal.returns-clause-member
 returns-clause-member g c = elim c.if-is_members.branch [
-  | then-is_members w ↦ λ _. subst (λ (s : SearchState). IsEntry s.order s.class
+  | then-is_members w ↦ λ _. subst (λ (s : TreeWalkState). IsEntry s.order s.class
       (record { tiling = c.is_members.new.tiling; word = c.self-2.inside.lined })) c.self.view_is
       (walked_entry _ _ c.self.invariant (subst IsReady (sym c.self.view_is) c.requires) c.skip.new.m c.args.steps.now c.go_down.new.steps
       (c.self-2.view_is ∙ c.go_down.ensures.state) (c.skip.ensures.kept c.if-skip.false) c.go_down.ensures.step c.is_members.new.tiling
@@ -142,7 +142,7 @@ go_down-requires g c = subst (λ (m : Move). IsReady (record {
 pub pop-requires : goal.pop-requires
 pop-requires g c = omega (
   arith,
-  ap (λ (s : SearchState). length s.front) (c.self-2.view_is ∙ c.go_down.ensures.state),
+  ap (λ (s : TreeWalkState). length s.front) (c.self-2.view_is ∙ c.go_down.ensures.state),
   length-append c.self.inside.lined (c.skip.new.m ∷ []),
 )
 

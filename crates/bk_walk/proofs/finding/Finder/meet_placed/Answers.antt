@@ -1,5 +1,5 @@
 use Rattle.std.proofs.Common.{arith, lit<, refl, ◌∙◌}
-use Rattle.bk_laws.proofs.Truth.{absurd-of_false_is_true}
+use Rattle.std.proofs.lemmas.Bool.{false≢true}
 use Rattle.bk_sym.specs.Turns.{after}
 use Rattle.bk_walk.proofs.TurnedSquares.{turned_image}
 use Rattle.bk_walk.proofs.finding.Finder.meet_placed.Goals as goal
@@ -23,9 +23,9 @@ returns-in-Ok g c = record {
 pub returns-in-Err : goal.returns-in-Err
 returns-in-Err g c = record {
   fixed = refl;
-  put = λ t turn member place. absurd-of_false_is_true (c.in-Err.ensures.accepted.1
+  put = λ t turn member place. absurd (false≢true (c.in-Err.ensures.accepted.1
       (turned_image t turn c.args.placed.now c.best_turn-which.result c.lying_size-width.result.0 c.lying_size-width.result.1 c.as_slice.result.now
       member.tiling place (c.lying_size-width.ensures c.best_turn-which.result c.best_turn-which.ensures)
-      (c.as_slice.ensures.value ∙ c.turned_squares-squares.ensures)).0);
+      (c.as_slice.ensures.value ∙ c.turned_squares-squares.ensures)).0));
   kept = λ x held. held;
 }

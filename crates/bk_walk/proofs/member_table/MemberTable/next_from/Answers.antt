@@ -3,7 +3,7 @@ use Rattle.std.specs.Prelude.{IfNone, IfSome, None, Option, Some}
 use Rattle.std.proofs.Common.{arith, subst, sym, ℕ, ◌<◌, ◌≡◌}
 use Rattle.bk_packed.specs.KeptNumbers.{AreAscendingNumbers, IsFirstFrom, Numbers}
 use Rattle.bk_walk.specs.Finding.{Finding, HasOnlyMembers}
-use Rattle.bk_walk.specs.Members.{HasNoneFrom, IsNextNumber, IsWhole}
+use Rattle.bk_walk.specs.MemberTables.{HasNoneFrom, IsNextNumber, IsWhole}
 use Rattle.bk_walk.proofs.WholeTables.{first_kept_is_the_next_number, no_number_from_a_bound_above_all_kept}
 use Rattle.bk_walk.proofs.member_table.MemberTable.next_from.Goals as goal
 

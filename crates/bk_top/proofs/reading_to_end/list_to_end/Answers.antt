@@ -1,6 +1,6 @@
 use Rattle.bk_alike.specs.GroupsEnd.{list_output}
 use Rattle.bk_top.proofs.Statuses.{reads_to_end}
-use Rattle.bk_top.proofs.lists.list_to_end.Goals as goal
+use Rattle.bk_top.proofs.reading_to_end.list_to_end.Goals as goal
 
 pub returns : goal.returns
 returns g c =

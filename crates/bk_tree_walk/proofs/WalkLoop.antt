@@ -1,14 +1,14 @@
--- Step after step: what a search has passed since it began, and that it ends.
+-- Step after step: what a walk has passed since it began, and that it ends.
 use Rattle.std.specs.List.{AllByRecursion}
 use Rattle.std.proofs.Common.{[], arith, length, ℕ, ◌++◌, ◌+◌, ◌<◌, ◌^◌, ◌∷◌, ◌≤◌}
 use Rattle.bk_word.specs.Word.{Follows, Move, Word}
 use Rattle.bk_word.specs.declared.Class.{Class}
 use Rattle.bk_catalogue.proofs.TreeOfWords.Ranks.{IsSmallMove, left_after, less_left, small_place}
-use Rattle.bk_tree_walk.proofs.SearchSteps.{fewer_at, fewer_end, fewer_met}
-use Rattle.bk_tree_walk.specs.Search.{Advances, Ends, HasPassed, IsSearchState, Meets}
+use Rattle.bk_tree_walk.proofs.WalkSteps.{fewer_at, fewer_end, fewer_met}
+use Rattle.bk_tree_walk.specs.TreePlace.{Advances, Ends, HasPassed, IsTreeWalkState, Meets}
 use Rattle.bk_catalogue.specs.Tree.{PushesGrow}
 
--- from the place where the search began to the one where it stands, with so many words met on the way
+-- from the place where the walk began to the one where it stands, with so many words met on the way
 pub record Continues (n : ℕ) (class : Class) (place next : Word) (met : ℕ) : Type 0 where
   pub on : (cursor : Word) (before : ℕ) → HasPassed n class cursor place before → HasPassed n class cursor next (before + met)
 
@@ -50,11 +50,11 @@ pub counts_known : (p q s t : ℕ) → PushesGrow p q s t → q < 2 ^ 64
 counts_known p q s t a = omega (arith, a.counted)
 
 -- a later place is nearer to the end
-pub later_is_nearer : (n : ℕ) (front then : Word) (x y : Move) → n ≤ 16 → IsSearchState n front x → IsSearchState n then y
+pub later_is_nearer : (n : ℕ) (front then : Word) (x y : Move) → n ≤ 16 → IsTreeWalkState n front x → IsTreeWalkState n then y
     → Follows (then ++ y ∷ []) (front ++ x ∷ []) → left_after (then ++ y ∷ []) < left_after (front ++ x ∷ [])
 later_is_nearer n front then x y few s t up =
     less_left (front ++ x ∷ []) (then ++ y ∷ []) (small n front x few s).0 (small n then y few t).0 (small n then y few t).1 up
   where
-    small : (n : ℕ) (front : Word) (x : Move) → n ≤ 16 → IsSearchState n front x
+    small : (n : ℕ) (front : Word) (x : Move) → n ≤ 16 → IsTreeWalkState n front x
         → AllByRecursion IsSmallMove (front ++ x ∷ []) × (length (front ++ x ∷ []) ≤ 18)
     small n front x few s = small_place front x s.legal (omega (arith, s.small)) (record { count = s.count; signs = s.signs })

@@ -1,7 +1,7 @@
--- How far a search through the tree of legal words has come. Its place is a word, which need not be legal: what is
+-- How far a walk through the tree of legal words has come. Its place is a word, which need not be legal: what is
 -- before it is passed. What it meets are the words that it pushes, and each is one step.
--- Examples (SearchExamples): of order 2 and the class imperfect the one member has the word 2e. At the place 2e a
--- search has met 1, 1.1 and 2a and passed no member's word; the place 2u would be too far. So it meets 2e as the fourth
+-- Examples (TreePlaceExamples): of order 2 and the class imperfect the one member has the word 2e. At the place 2e a
+-- walk has met 1, 1.1 and 2a and passed no member's word; the place 2u would be too far. So it meets 2e as the fourth
 -- word. Then no square is left to hang: it takes 2e back, goes on to 2u, and finds no other member.
 use Rattle.std.specs.List.{AllByRecursion}
 use Rattle.std.specs.Prelude.{Bool, List, None, Option, Some, [], false, length, true, ℕ, ◌++◌, ◌+◌, ◌<◌, ◌^◌, ◌∷◌, ◌≡◌}
@@ -54,23 +54,23 @@ abbrev pub Ends : ℕ → Class → Word → ℕ → Type 0
 Ends n class place met = (cursor : Word) (before : ℕ) → HasPassed n class cursor place before
     → IsEnd n class cursor (before + met)
 
--- a place where a search stands: the moves that it has played are a word of the tree, and the move is one from which it
+-- a place where a walk stands: the moves that it has played are a word of the tree, and the move is one from which it
 -- looks for the next legal one
-pub record IsSearchState (n : ℕ) (front : Word) (x : Move) : Type 0 where
+pub record IsTreeWalkState (n : ℕ) (front : Word) (x : Move) : Type 0 where
   pub legal : IsLegal front
   pub small : order_of front ≤ n
   pub some : 0 < x.count
   pub count : x.count ≤ LARGEST_LISTED_ORDER + 1
   pub signs : length x.signs ≤ LARGEST_LISTED_ORDER + 2
 
--- from a place the search meets the word, and so many words up to it, itself the last
+-- from a place the walk meets the word, and so many words up to it, itself the last
 abbrev pub Meets : ℕ → Class → Word → Word → ℕ → Type 0
 Meets n class place word met = (cursor : Word) (before : ℕ) → HasPassed n class cursor place before
     → IsMet n class cursor word (before + met)
 
--- a search: its order and class, the moves that it has played, the move from which it looks for the next legal one, and
+-- a walk: its order and class, the moves that it has played, the move from which it looks for the next legal one, and
 -- how many moves it has pushed, up to the last number of 64 bits
-pub record SearchState : Type 0 where
+pub record TreeWalkState : Type 0 where
   pub order : ℕ
   pub class : Class
   pub front : Word
@@ -78,19 +78,19 @@ pub record SearchState : Type 0 where
   pub pushes : ℕ
 
 -- the place where it stands
-abbrev pub place_of : SearchState → Word
+abbrev pub place_of : TreeWalkState → Word
 place_of s = s.front ++ s.next ∷ []
 
--- where a step of a search leads: on to a later place, to the word of a member, or to the end
-abbrev pub StepLeadsTo : SearchState → SearchState → ℕ → Went → Type 0
+-- where a step of a walk leads: on to a later place, to the word of a member, or to the end
+abbrev pub StepLeadsTo : TreeWalkState → TreeWalkState → ℕ → Went → Type 0
 StepLeadsTo s then met On = Advances s.order s.class (place_of s) (place_of then) met
-    × IsSearchState s.order then.front then.next
+    × IsTreeWalkState s.order then.front then.next
 StepLeadsTo s then met Met = Meets s.order s.class (place_of s) then.front met
 StepLeadsTo s then met End = Ends s.order s.class (place_of s) met × (then.front ≡ [])
 
 -- from the one place a step leads wherever it leads from the other
-abbrev pub GoesOnFrom : SearchState → SearchState → Type 0
-GoesOnFrom s then = (last : SearchState) (met : ℕ) (went : Went) → StepLeadsTo then last met went
+abbrev pub GoesOnFrom : TreeWalkState → TreeWalkState → Type 0
+GoesOnFrom s then = (last : TreeWalkState) (met : ℕ) (went : Went) → StepLeadsTo then last met went
     → StepLeadsTo s last met went
 
 -- the last move was taken back, and the other is the next after it
@@ -99,33 +99,33 @@ pub record IsClimbed (before front : Word) (x : Move) : Type 0 where
   pub was : before ≡ front ++ last ∷ []
   pub next : x ≡ move_after last
 
--- what holds of each search
-pub record IsKeptSearch (s : SearchState) : Type 0 where
+-- what holds of each walk
+pub record IsKeptTreeWalk (s : TreeWalkState) : Type 0 where
   pub least : LEAST_LISTED_ORDER ≤ s.order
   pub most : s.order ≤ LARGEST_LISTED_ORDER
-  pub stand : IsSearchState s.order s.front s.next
+  pub stand : IsTreeWalkState s.order s.front s.next
   pub known : s.pushes < 2 ^ 64
 
 -- the next move is legal, and hangs no more squares than are left
-pub record IsReady (s : SearchState) : Type 0 where
+pub record IsReady (s : TreeWalkState) : Type 0 where
   pub legal : IsLegalMove (outline_of s.front) s.next
   pub few : order_of s.front + s.next.count ≤ s.order
 
--- where a search is, that makes its next move legal: ready to go on from there as from where it was, or back from moves
+-- where a walk is, that makes its next move legal: ready to go on from there as from where it was, or back from moves
 -- after which none is left, or at the end
-abbrev pub SettlesTo : SearchState → SearchState → Option Went → Type 0
+abbrev pub SettlesTo : TreeWalkState → TreeWalkState → Option Went → Type 0
 SettlesTo s then None = IsReady then × GoesOnFrom s then
 SettlesTo s then (Some On) = StepLeadsTo s then 0 On
 SettlesTo s then (Some Met) = ⊥
 SettlesTo s then (Some End) = StepLeadsTo s then 0 End
 
 -- a step changes neither the order nor the class, and counts its pushes
-pub record StaysOf (s then : SearchState) (steps steps_then : ℕ) : Type 0 where
+pub record StaysOf (s then : TreeWalkState) (steps steps_then : ℕ) : Type 0 where
   pub order : then.order ≡ s.order
   pub class : then.class ≡ s.class
   pub counts : PushesGrow s.pushes then.pushes steps steps_then
 
--- what a search finds: the word of a member, or there is none, and it is at the end
-abbrev pub Finds : SearchState → SearchState → ℕ → Bool → Type 0
+-- what a walk finds: the word of a member, or there is none, and it is at the end
+abbrev pub Finds : TreeWalkState → TreeWalkState → ℕ → Bool → Type 0
 Finds s then met true = Meets s.order s.class (place_of s) then.front met
 Finds s then met false = Ends s.order s.class (place_of s) met × (then.front ≡ [])

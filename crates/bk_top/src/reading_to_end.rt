@@ -8,7 +8,7 @@ ghost use Rattle.bk_alike.specs.GroupsEnd.{list_output};
 ghost use Rattle.bk_verify_report.specs.VerifyRun.{report_of};
 ghost use Rattle.bk_top.specs.ReadsToEnd.{ReadsToEnd};
 
-use crate::lines::status;
+use crate::run_status::status;
 use bk_alike::{Wanted, list_lines};
 use bk_ports::{Sink, Source};
 use bk_verify_report::verify;

@@ -5,7 +5,7 @@ use Rattle.bk_catalogue.proofs.Members.CatalogueExamples.{entry_is, row_entry, r
 use Rattle.bk_packed.specs.KeptNumbers.{Holds}
 use Rattle.bk_packed.specs.Packed.{packed}
 use Rattle.bk_walk.specs.Finding.{Finding, HasOnlyMembers, IsMembersNumber}
-use Rattle.bk_walk.specs.Members.{HasNoneFrom, IsNextNumber, IsWhole}
+use Rattle.bk_walk.specs.MemberTables.{HasNoneFrom, IsNextNumber, IsWhole}
 use Rattle.bk_walk.proofs.WholeTables.{first_kept_is_the_next_number, no_number_from_a_bound_above_all_kept}
 
 -- the table that keeps these numbers, and dropped none

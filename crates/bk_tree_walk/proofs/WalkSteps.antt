@@ -1,4 +1,4 @@
--- The steps of a search: it climbs from a state with no move left, passes over moves that are cut, and pushes a move.
+-- The steps of a walk: it climbs from a state with no move left, passes over moves that are cut, and pushes a move.
 use Rattle.std.specs.declared.cmp.Ordering.{Ordering}
 use Rattle.std.specs.declared.cmp.Ordering.TheVariants.{Equal, Greater, Less}
 use Rattle.std.specs.Ordering.{ordering_reverse, ordering_then}
@@ -20,20 +20,20 @@ use Rattle.bk_catalogue.specs.Catalogue.{Entry, IsEntry}
 use Rattle.bk_catalogue.specs.Cuts.{IsBarren}
 use Rattle.bk_walk_cuts.specs.MoveCuts.{IsCut}
 use Rattle.bk_catalogue.specs.NextMove.{IsLeastFrom, IsMoveFrom, first_move, move_after}
-use Rattle.bk_tree_walk.specs.Search.{Advances, Ends, HasPassed, IsEnd, IsMet, IsTreeWord, Meets}
+use Rattle.bk_tree_walk.specs.TreePlace.{Advances, Ends, HasPassed, IsEnd, IsMet, IsTreeWord, Meets}
 
--- fewer words were met, too
+-- a search that has passed more words up to a place has passed fewer
 pub fewer_met : (n : ℕ) (class : Class) (cursor place : Word) (more met : ℕ) → met ≤ more → HasPassed n class cursor place more
     → HasPassed n class cursor place met
 fewer_met n class cursor place more met h p =
     record { passed = p.passed; after = p.after; words = p.words; each = p.each; ascending = p.ascending; count = omega (arith, p.count) }
 
--- at the end of the walk fewer words count as met, too
+-- a search that ends with more words met ends with fewer met
 pub fewer_end : (n : ℕ) (class : Class) (cursor : Word) (more met : ℕ) → met ≤ more → IsEnd n class cursor more → IsEnd n class cursor met
 fewer_end n class cursor more met h p = let c = p.count in
     record { passed = p.passed; count = record { words = c.words; each = c.each; ascending = c.ascending; count = omega (arith, c.count) } }
 
--- at a word fewer words count as met, too
+-- a search that meets a word with more words met meets it with fewer met
 pub fewer_at : (n : ℕ) (class : Class) (cursor word : Word) (more met : ℕ) → met ≤ more → IsMet n class cursor word more → IsMet n class cursor word met
 fewer_at n class cursor word more met h p = let c = p.count in
     record { after = p.after; passed = p.passed; count = record { words = c.words; each = c.each; ascending = c.ascending; count = omega (arith, c.count) } }
@@ -61,10 +61,11 @@ up_by_move front x next rest more e = front_cmp front (x ∷ rest) (next ∷ mor
 after_itself : (m : Move) → move_cmp m (move_after m) ≡ Less
 after_itself m = begun_before m m refl (record { rest = []; is = sym (append-nil m.signs) })
 
--- where no legal move is left, the search goes on after the last move that was played
-pub climbs : (n : ℕ) (class : Class) (front : Word) (l x : Move) (met : ℕ) → IsLegalMove (outline_of front) l → IsLast n (front ++ l ∷ []) x → met ≤ 0
+-- where no legal move is left, the walk goes on after the last move that was played
+pub walk_goes_on_after_last : (n : ℕ) (class : Class) (front : Word) (l x : Move) (met : ℕ) → IsLegalMove (outline_of front) l → IsLast n (front ++ l ∷ []) x
+    → met ≤ 0
     → Advances n class ((front ++ l ∷ []) ++ x ∷ []) (front ++ move_after l ∷ []) met
-climbs n class front l x met legal last few =
+walk_goes_on_after_last n class front l x met legal last few =
     record {
       up = up;
       on = λ cursor before p. fewer_met n class cursor (front ++ move_after l ∷ []) before (before + met) (omega arith)
@@ -78,10 +79,11 @@ climbs n class front l x met legal last few =
     none : (e : Entry) → IsEntry n class e → (Follows ((front ++ l ∷ []) ++ x ∷ []) e.word → ⊥) → Follows (front ++ move_after l ∷ []) e.word → ⊥
     none e is from to = climb_over n front l x e.word (entry_word n class e is) legal last from to
 
--- a search goes on over moves that are cut
-pub cuts : (n : ℕ) (class : Class) (front : Word) (x m next : Move) (met : ℕ) → IsLeastFrom (outline_of front) x m → IsCut n class front m next → met ≤ 0
+-- a walk goes on over moves that are cut
+pub walk_goes_on_over_cuts : (n : ℕ) (class : Class) (front : Word) (x m next : Move) (met : ℕ) → IsLeastFrom (outline_of front) x m
+    → IsCut n class front m next → met ≤ 0
     → Advances n class (front ++ x ∷ []) (front ++ next ∷ []) met
-cuts n class front x m next met least cut few =
+walk_goes_on_over_cuts n class front x m next met least cut few =
     record {
       up = up;
       on = λ cursor before p. fewer_met n class cursor (front ++ next ∷ []) before (before + met) (omega arith)
@@ -98,8 +100,8 @@ cuts n class front x m next met least cut few =
         by_move o = cut.barren o.other o.legal o.from o.to e o.rest is (o.is ∙ sym (append_assoc front (o.other ∷ []) o.rest))
 
 -- where no move is played and no legal one is left, it ends
-pub ends : (n : ℕ) (class : Class) (x : Move) (met : ℕ) → IsLast n [] x → met ≤ 0 → Ends n class (x ∷ []) met
-ends n class x met last few cursor before p =
+pub walk_ends_without_moves : (n : ℕ) (class : Class) (x : Move) (met : ℕ) → IsLast n [] x → met ≤ 0 → Ends n class (x ∷ []) met
+walk_ends_without_moves n class x met last few cursor before p =
     fewer_end n class cursor before (before + met) (omega arith) (none_left_is_end n class (x ∷ []) cursor before
     (λ e is from. end_over n x e.word (entry_word n class e is) last from) p)
 
@@ -128,7 +130,7 @@ module _ (n : ℕ) (class : Class) (front : Word) (x m : Move) (met : ℕ) (lega
   to_on = ap (word_cmp (front ++ m ∷ [])) (append_assoc front (m ∷ []) (first_move ∷ [])) ∙ front_cmp front (m ∷ []) (m ∷ first_move ∷ [])
       ∙ ap (λ z. ordering_then z (word_cmp [] (first_move ∷ []))) (move_itself m)
 
-  -- where no member has this word, the search goes on to what begins with it
+  -- where no member has this word, the walk goes on to what begins with it
   pub goes_down : ((e : Entry) → IsEntry n class e → e.word ≡ front ++ m ∷ [] → ⊥)
       → Advances n class (front ++ x ∷ []) ((front ++ m ∷ []) ++ first_move ∷ []) met
   goes_down not = record {
@@ -145,7 +147,7 @@ module _ (n : ℕ) (class : Class) (front : Word) (x m : Move) (met : ℕ) (lega
   up_next : Follows (front ++ move_after m ∷ []) (front ++ x ∷ [])
   up_next = up_by_move front x (move_after m) [] [] (from_less x m (move_after m) least.from (after_itself m))
 
-  -- where no member's word begins with it, the search goes on after the move
+  -- where no member's word begins with it, the walk goes on after the move
   pub goes_past_barren : IsBarren n class (front ++ m ∷ []) → Advances n class (front ++ x ∷ []) (front ++ move_after m ∷ []) met
   goes_past_barren barren = record {
     up = up_next;
@@ -163,7 +165,7 @@ module _ (n : ℕ) (class : Class) (front : Word) (x m : Move) (met : ℕ) (lega
               same : o.other ≡ m
               same = one_legal (outline_of front) m o.other least.legal o.legal (moves_between m o.other o.from o.to).0 (moves_between m o.other o.from o.to).1
 
-  -- a search meets the word of the next move, which it pushes
+  -- a walk meets the word of the next move, which it pushes
   pub meets_pushed : Meets n class (front ++ x ∷ []) (front ++ m ∷ []) met
   meets_pushed cursor before p = fewer_at n class cursor (front ++ m ∷ []) (before + 1) (before + met) (omega arith)
       (met_at n class (front ++ x ∷ []) (front ++ m ∷ []) pushed_tree pushed_some pushed_from none cursor before p)

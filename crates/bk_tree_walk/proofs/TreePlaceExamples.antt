@@ -1,4 +1,4 @@
--- A search for the members of order 2 and the class imperfect, of which there is one, with the word 2e: it passes 1, 1.1 and 2a, meets 2e, and finds
+-- A walk to the members of order 2 and the class imperfect, of which there is one, with the word 2e: it passes 1, 1.1 and 2a, meets 2e, and finds
 -- no other.
 use Rattle.std.specs.Prelude.{false, true}
 use Rattle.std.proofs.Common.{Some, [], arith, lit<, lit≤, refl, subst, sym, ◌++◌, ◌+◌, ◌∷◌, ◌≤◌}
@@ -11,8 +11,8 @@ use Rattle.bk_catalogue.proofs.Members.CatalogueExamples.{entry_is, row_entry, r
 use Rattle.bk_catalogue.specs.Catalogue.{Entry, IsEntry}
 use Rattle.bk_catalogue.specs.NextMove.{first_move}
 use Rattle.bk_tree_walk.proofs.Advancing.{met_at, moved_on, none_left_is_end}
-use Rattle.bk_tree_walk.proofs.SearchSteps.{fewer_end, fewer_met}
-use Rattle.bk_tree_walk.specs.Search.{Finds, HasPassed, IsClimbed, IsMet, IsReady, IsTreeWord, Meets, SearchState, SettlesTo}
+use Rattle.bk_tree_walk.proofs.WalkSteps.{fewer_end, fewer_met}
+use Rattle.bk_tree_walk.specs.TreePlace.{Finds, HasPassed, IsClimbed, IsMet, IsReady, IsTreeWord, Meets, TreeWalkState, SettlesTo}
 use Rattle.bk_tree_walk.specs.declared.Went.TheVariants.{On}
 
 -- ---- words of the tree, and what is passed
@@ -34,7 +34,7 @@ after_start : (w : Word) → (Follows row_word w → ⊥) → Follows w []
 after_start [] from = absurd (from refl)
 after_start (m ∷ w) from = refl
 
--- from the start to the place 2e a search passes no member's word, and meets 1, 1.1 and 2a
+-- from the start to the place 2e a walk passes no member's word, and meets 1, 1.1 and 2a
 passed_three : HasPassed 2 Imperfect [] row_word 3
 passed_three = record {
   passed = λ e is after before. not_before_row e is before;
@@ -66,20 +66,20 @@ passed_too_far p = p.passed row_entry entry_is refl refl
 
 -- ---- a member is met
 
--- from each place that isn't behind 2e a search meets 2e, as one word more
+-- from each place that isn't behind 2e a walk meets 2e, as one word more
 pub meets_row : (place : Word) → (Follows place row_word → ⊥) → Meets 2 Imperfect place row_word 1
 meets_row place from cursor before p = met_at 2 Imperfect place row_word row_in_tree (lit< tt) from (λ e is after to. not_before_row e is to) cursor before p
 
--- 2e is the fourth word that a search meets from the start
+-- 2e is the fourth word that a walk meets from the start
 fourth_is_met : IsMet 2 Imperfect [] row_word (3 + 1)
 fourth_is_met = meets_row row_word (not_itself row_word) [] 3 passed_three
 
 -- three moves were pushed, and the next is 2e
-abbrev before_row : SearchState
+abbrev before_row : TreeWalkState
 before_row = record { order = 2; class = Imperfect; front = []; next = two Even; pushes = 3 }
 
 -- 2e is played, and the next move would be 1
-abbrev at_row : SearchState
+abbrev at_row : TreeWalkState
 at_row = record { order = 2; class = Imperfect; front = row_word; next = first_move; pushes = 4 }
 
 -- the move 2e is legal, and two squares are left for it
@@ -90,14 +90,14 @@ is_ready = record { legal = record { some = omega arith; signs = refl }; few = l
 is_not_ready : IsReady at_row → ⊥
 is_not_ready ready = let more : 3 ≤ 2 = ready.few in omega (arith, more)
 
--- with the move 2e a search finds a member
+-- with the move 2e a walk finds a member
 finds_row : Finds before_row at_row 1 true
 finds_row = meets_row row_word (not_itself row_word)
 
 -- ---- no other is met
 
 -- 2e is taken back, and the next is 2u
-abbrev after_row : SearchState
+abbrev after_row : TreeWalkState
 after_row = record { order = 2; class = Imperfect; front = []; next = two Under; pushes = 4 }
 
 -- each member's word is before what goes on from 2e
@@ -108,7 +108,7 @@ row_is_before e is = subst (λ (w : Word). Follows (row_word ++ first_move ∷ [
 climbs : IsClimbed row_word [] (two Under)
 climbs = record { last = two Even; was = refl; next = refl }
 
--- where no move goes on from 2e, a search goes on to 2u, and passes no member's word
+-- where no move goes on from 2e, a walk goes on to 2u, and passes no member's word
 settles : SettlesTo at_row after_row (Some On)
 settles = (
   record {
@@ -120,10 +120,10 @@ settles = (
 )
 
 -- no move is played, and none is left
-abbrev ended : SearchState
+abbrev ended : TreeWalkState
 ended = record { order = 2; class = Imperfect; front = []; next = first_move; pushes = 5 }
 
--- from 2e on a search finds no other member
+-- from 2e on a walk finds no other member
 finds_no_other : Finds at_row ended 0 false
 finds_no_other = (
   λ cursor before p. fewer_end 2 Imperfect cursor before (before + 0) (omega arith)

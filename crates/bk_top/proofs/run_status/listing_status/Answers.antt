@@ -1,6 +1,6 @@
 use Rattle.std.proofs.Common.{ap, rules, sym}
 use Rattle.bk_top.specs.Running.{status_of_listing}
-use Rattle.bk_top.proofs.lines.listing_status.Goals as goal
+use Rattle.bk_top.proofs.run_status.listing_status.Goals as goal
 
 pub returns-in-Ok-End : goal.returns-in-Ok-End
 returns-in-Ok-End c = search rules

@@ -5,7 +5,7 @@ ghost use Rattle.bk_ports.specs.Causes.{HasCause};
 ghost use Rattle.bk_word.specs.Word.{order_of};
 ghost use Rattle.bk_word.specs.declared.TheConstants.{LARGEST_LISTED_ORDER, LEAST_LISTED_ORDER};
 ghost use Rattle.bk_catalogue.specs.Following.{start_cursor};
-ghost use Rattle.bk_list.specs.Walked.{listing_of};
+ghost use Rattle.bk_list.specs.ListedMembers.{listing_of};
 ghost use Rattle.bk_list.specs.Writing.{BeginsListing, StandsBehind, WritesListing};
 ghost use Rattle.bk_top.specs.Words.{listing_asked};
 

@@ -1,6 +1,6 @@
 use Rattle.std.proofs.Common.{ap, sym}
 use Rattle.bk_top.specs.Outside.{status_of}
-use Rattle.bk_top.proofs.lines.status.Goals as goal
+use Rattle.bk_top.proofs.run_status.status.Goals as goal
 
 pub returns-in-ReadFailed : goal.returns-in-ReadFailed
 returns-in-ReadFailed c = sym (ap status_of c.in-ReadFailed.is)

@@ -1,6 +1,6 @@
 use Rattle.bk_verify_report.specs.VerifyRun.{report_of}
 use Rattle.bk_top.proofs.Statuses.{reads_to_end}
-use Rattle.bk_top.proofs.lists.verify_list.Goals as goal
+use Rattle.bk_top.proofs.reading_to_end.verify_list.Goals as goal
 
 pub returns : goal.returns
 returns g c =

@@ -4,7 +4,7 @@ use Rattle.bk_word.specs.Word.{Follows, Word}
 use Rattle.bk_word.specs.declared.Class.TheVariants.{Imperfect, Perfect}
 use Rattle.bk_word.proofs.FollowLaws.{not_itself}
 use Rattle.bk_catalogue.specs.Following.{HasNoneAfter}
-use Rattle.bk_members.specs.Walking.{IsNextMember}
+use Rattle.bk_members.specs.NextMember.{IsNextMember}
 use Rattle.bk_catalogue.proofs.Members.CatalogueExamples.{row_entry, row_word, entry_is, row_word_of, no_perfect}
 
 -- a walk gives the row first, and nothing after it; in the class perfect nothing at all

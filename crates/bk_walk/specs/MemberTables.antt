@@ -1,7 +1,7 @@
 -- When a table of members is whole, and what it tells of the numbers from a bound on.
--- Examples (MembersExamples): of order 2 and the class imperfect the one member has the word 2e. The table that keeps
--- its number is whole, and one that keeps nothing is not. The one with its number keeps only members, and one with the
--- number 0 doesn't. The least number from 0 on is that of 2e, and behind it there is none.
+-- Examples (MemberTablesExamples): of order 2 and the class imperfect the one member has the word 2e. The table that
+-- keeps its number is whole, and one that keeps nothing is not. The one with its number keeps only members, and one
+-- with the number 0 doesn't. The least number from 0 on is that of 2e, and behind it there is none.
 use Rattle.std.specs.List.{AllByRecursion}
 use Rattle.std.specs.Prelude.{None, ℕ, ◌<◌, ◌≡◌, ◌≤◌}
 use Rattle.bk_word.specs.declared.TheConstants.{LARGEST_LISTED_ORDER}

@@ -1,6 +1,6 @@
 -- A walk through the catalogue: what is seen of it, and what it answers.
--- Example (WalkExamples): of order 2 and the class imperfect, a walk from the word of no move gives the row of two
--- squares first, and nothing after it; in the class perfect it gives nothing at all.
+-- Example (NextMemberExamples): of order 2 and the class imperfect, a walk from the word of no move gives the row of
+-- two squares first, and nothing after it; in the class perfect it gives nothing at all.
 use Rattle.std.specs.Prelude.{Bool, ℕ}
 use Rattle.bk_word.specs.Word.{Follows, Word}
 use Rattle.bk_word.specs.declared.Class.{Class}
@@ -9,7 +9,7 @@ use Rattle.bk_catalogue.specs.Following.{HasNoneBetween}
 
 -- what is seen of a walk: its order and class, the word after which it goes on, whether it has ended, and how many
 -- moves it has pushed, up to the last number of 64 bits
-pub record WalkState : Type 0 where
+pub record MembersState : Type 0 where
   pub order : ℕ
   pub class : Class
   pub cursor : Word

@@ -1,6 +1,6 @@
 use Rattle.bk_top.proofs.Endings.{tried_begun, tried_whole}
 use Rattle.bk_top.specs.Outside.{port}
-use Rattle.bk_top.proofs.lines.try_codes.Goals as goal
+use Rattle.bk_top.proofs.trying.try_codes.Goals as goal
 
 pub returns-in-Ok : goal.returns-in-Ok
 returns-in-Ok g c =
