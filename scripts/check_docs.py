@@ -11,7 +11,7 @@
 - What a public contract rests on stands in specs/Lib.antt under what the crate says (scripts/headings.py).
 - No line is wider than 120 columns, but for those of tables. Each row of a table has as many cells as its head.
 - What the scripts of scripts/, bench/ and examples/ import is there (scripts/imports.py).
-- Each library that a line of crates.txt names is named in a file of its crate.
+- Each library that a line of crates.txt names is named in a file of its crate, a mutant among them.
 
 Prints what differs, and at the end how many examples and names were tried and how many differ; the status is 1 if something does. With --write what
 is made is made anew first.
@@ -253,7 +253,7 @@ def wrong_inventories():
 def needless_libraries():
     """Says which libraries crates.txt names that no file of the crate does: each makes the proofs of all crates above dearer."""
     for crate, named in named_by_crate().items():
-        words = {it for part in PARTS for file in files_of(crate, *part) for it in re.findall(r"\w+", text_of(file))}
+        words = {it for part in (*PARTS, ("must-fail", ".edit")) for file in files_of(crate, *part) for it in re.findall(r"\w+", text_of(file))}
         yield from (f"crates.txt: {crate} needs no {it}" for it in named if it not in words)
 
 

@@ -2,7 +2,6 @@
 
 mod alike_rows;
 mod groups_rows;
-mod lacking;
 mod library_rows;
 mod pair_rows;
 mod tilings;

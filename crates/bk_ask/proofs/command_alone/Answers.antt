@@ -1,6 +1,6 @@
 -- A name that no command has asks nothing, and neither does that of a command that needs an option.
-use Rattle.std.proofs.Common.{[], arith, ◌≡◌}
-use Rattle.bk_ask.proofs.Unasked.{no_listing, no_trial, no_verify, nothing_alone}
+use Rattle.std.proofs.Common.{[], arith, refl, ◌≡◌}
+use Rattle.bk_ask.proofs.Unasked.{asks_alone, no_listing, no_trial, no_verify, nothing_alone}
 use Rattle.bk_ask.specs.Asked.{OptionsSay, command_name}
 use Rattle.bk_ask.specs.declared.Ask.{Ask}
 use Rattle.bk_ask.specs.declared.Ask.TheVariants as asks
@@ -15,3 +15,6 @@ returns-in_default-clause-none c = nothing_alone c.args.name.now none
     none (asks.Verify order) named say = no_verify order say
     none (asks.Pair kind) named say = c.requires named
     none _ named say = grind (arith, c.in_default, named)
+
+pub returns-in-help-clause-some : goal.returns-in-help-clause-some
+returns-in-help-clause-some c = asks_alone c.args.name.now asks.Help c.in-help.is refl

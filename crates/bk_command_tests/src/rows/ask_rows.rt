@@ -59,12 +59,14 @@ fn asks(alloc: Global, line: &str, want: &Shown) -> bool {
     }
 }
 
+const STAND_ALONE: &[&str] = &[
+    "check", "canon", "images", "net", "flow", "word", "solve", "draw", "dual", "alike", "help",
+];
+
 #[test]
 fn commands_that_stand_alone(rt: HostRuntime) {
-    for name in [
-        "check", "canon", "images", "net", "flow", "word", "solve", "draw", "dual", "alike", "help",
-    ] {
-        assert!(rt; asks(rt.alloc(), name, &Shown::Alone(name)), "{name}");
+    for name in STAND_ALONE {
+        assert!(rt; asks(rt.alloc(), name, &Shown::Alone(*name)), "{name}");
     }
 }
 

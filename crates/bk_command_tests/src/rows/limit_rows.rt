@@ -189,17 +189,27 @@ const FOREIGN: Parts = (
     "",
 );
 
+// A command, its input, the status and what is written.
+static ROWS_OF_LISTS: [(&'static str, Parts, u8, Parts); 5] = [
+    ("alike", TOWER, 0, GROUP),
+    ("verify --order 8", TOWER, 1, FOREIGN),
+    ("alike", LONGEST_TOWER, 0, GROUP),
+    ("verify --order 8", LONGEST_TOWER, 1, FOREIGN),
+    ("verify --order 8", (LONGEST, "", 0, ""), 1, FOREIGN),
+];
+
+fn rows_of_lists() -> &'static [(&'static str, Parts, u8, Parts)] {
+    &ROWS_OF_LISTS
+}
+
 // Two hundred squares of side 1 or of the longest side are one canonical item, which is no member.
 #[test]
 fn lists_of_two_hundred_squares(rt: HostRuntime) {
-    for tower in [TOWER, LONGEST_TOWER] {
-        let part = tower.1;
-        assert!(rt; is_built(rt.alloc(), "alike", tower, 0, GROUP), "{part}");
+    for (command, input, status, output) in rows_of_lists() {
+        let part = input.1;
         assert!(rt;
-            is_built(rt.alloc(), "verify --order 8", tower, 1, FOREIGN),
-            "{part}"
+            is_built(rt.alloc(), command, *input, *status, *output),
+            "{command} {part}"
         );
     }
-    let one = (LONGEST, "", 0, "");
-    assert!(rt; is_built(rt.alloc(), "verify --order 8", one, 1, FOREIGN));
 }

@@ -216,6 +216,11 @@ fn parts_of_eleven() -> &'static [(&'static str, &'static str)] {
     ]
 }
 
+// Puts entries and a line feed behind a text, as far as there is room; whether there was room for all.
+fn is_put(together: &mut Text, entries: &str) -> bool {
+    together.try_extend_from_slice(entries.as_bytes()).is_ok() && together.try_push(b'\n').is_ok()
+}
+
 // Adds the entries that a command line lists before its last line, which begins so.
 fn add_entries(
     rt: &impl Abort,
@@ -231,12 +236,10 @@ fn add_entries(
     let Some((entries, end)) = text.split_once("\n; ") else {
         return Err(Fail::new("no last line"));
     };
-    assert!(rt; end.starts_with(last), "{line}");
     assert!(rt;
-        together.try_extend_from_slice(entries.as_bytes()).is_ok(),
+        end.starts_with(last) && is_put(together, entries),
         "{line}"
     );
-    assert!(rt; together.try_push(b'\n').is_ok(), "{line}");
     Ok(())
 }
 

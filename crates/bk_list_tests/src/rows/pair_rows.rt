@@ -4,7 +4,7 @@ use super::tilings::tiling;
 use arrayvec::ArrayVec;
 use bk_pair::{KeptTiling, PairFault, join, lay_pair};
 use bk_tiling::{LONGEST_SIDE, Square, Tiling};
-use std::alloc::Global;
+use std::alloc::{AllocError, Global};
 use std::process::Abort;
 use std::test::Fail;
 
@@ -106,21 +106,25 @@ fn is_joined(a: &Tiling, b: &Tiling, width: u64, sides: &[u64]) -> bool {
     }
 }
 
-// Whether two rectangles join as kept ones, and whether they can be laid together.
-fn kept_join(alloc: Global, a: &Tiling, b: &Tiling) -> Result<(bool, bool), Fail> {
+// Whether two rectangles can be laid together as kept ones, and join or not.
+fn kept_join(alloc: Global, a: &Tiling, b: &Tiling, joins: bool) -> Result<bool, AllocError> {
     let (first, second) = (KeptTiling::new(alloc, a)?, KeptTiling::new(alloc, b)?);
-    Ok((first.joins(&second), first.can_be_laid(&second)))
+    Ok(first.can_be_laid(&second) && first.joins(&second) == joins)
+}
+
+// Whether a rectangle is kept with this size and with its squares.
+fn is_kept(alloc: Global, a: &Tiling, width: u64, height: u64) -> Result<bool, AllocError> {
+    let kept = KeptTiling::new(alloc, a)?;
+    Ok(kept.width() == width && kept.height() == height && kept.tiling().squares() == a.squares())
 }
 
 #[test]
 fn two_rectangles_join_to_a_perfect_square(rt: HostRuntime) -> Result<(), Fail> {
     let (one, other) = (tiling(&rt, ONE_OF_593X422), tiling(&rt, OTHER_OF_593X422));
     assert!(rt; is_joined(&one, &other, 1015, SIDES_OF_1015));
-    assert!(rt; kept_join(rt.alloc(), &one, &other)? == (true, true));
-    assert!(rt; kept_join(rt.alloc(), &one, &one)? == (false, true));
-    let kept = KeptTiling::new(rt.alloc(), &one)?;
-    assert!(rt; kept.width() == 593 && kept.height() == 422);
-    assert!(rt; kept.tiling().squares() == one.squares());
+    assert!(rt; kept_join(rt.alloc(), &one, &other, true)?);
+    assert!(rt; kept_join(rt.alloc(), &one, &one, false)?);
+    assert!(rt; is_kept(rt.alloc(), &one, 593, 422)?);
     Ok(())
 }
 

@@ -1,4 +1,4 @@
-use Rattle.std.proofs.Common.{codes, map, string_bytes}
+use Rattle.std.proofs.Common.{codes, inr, map, refl, string_bytes}
 use Rattle.bk_laws.proofs.Outcomes.{if_none-weaken}
 use Rattle.bk_ask.specs.OptionValues.{IsClassName}
 use Rattle.bk_ask.specs.Options.{options_in}
@@ -12,3 +12,6 @@ returns-in-Some-clause-none c =
     (no_meaning_or (options_in (map string_bytes c.args.options.now)) (codes "--class") c.in-Some.name.now IsClassName Perfect
     c.requires c.in-Some.ensures.some)
     c.class_named.ensures.none
+
+pub returns-in-None-clause-some : goal.returns-in-None-clause-some
+returns-in-None-clause-some c = inr (c.in-None.ensures.none, refl)
