@@ -1,6 +1,7 @@
 -- A list has one report: its lines have one list of entries, of each line one thing is told, and one list of members is missing.
 use Rattle.std.proofs.Common.{List, [], ap, arith, inl, inr, length, refl, subst, sym, ℕ, ◌+◌, ◌++◌, ◌<◌, ◌∙◌, ◌∷◌, ◌≡◌, ◌⊎◌}
 use Rattle.std.specs.Prelude.{count_by, flat_map}
+use Rattle.bk_laws.proofs.Membership.{all-contains}
 use Rattle.bk_tiling.specs.Tiling.{IsTiling, Tiling}
 use Rattle.bk_sym.proofs.CanonicalLaws.{a_canonical_tiling_is_one}
 use Rattle.bk_sym.specs.Canonical.{IsCanonicalOf}
@@ -17,7 +18,7 @@ use Rattle.bk_answer.proofs.OneAnswer.{skip_not_stated}
 use Rattle.bk_answer.specs.Item.{HasItem}
 use Rattle.bk_answer.specs.Refusing.{IsLineRefused}
 use Rattle.bk_verify_report.specs.Verify.{Accepted, AreNotOf, IsFirstOf, IsForeign, IsNew, IsOf, IsRepeat}
-use Rattle.bk_verify_report.proofs.OneAscending.{held, order_has_one_number_of_members, same_ascending}
+use Rattle.bk_verify_report.proofs.OneAscending.{order_has_one_number_of_members, same_ascending}
 use Rattle.bk_verify_report.specs.Report.{HasFault, IsReport, missing_line_of}
 use Rattle.bk_verify_report.specs.ReportLaw.{AListHasOneReport}
 use Rattle.bk_verify_report.specs.Told.{AreEntries, AreTold, HasEntry, IsTold, IsToldOf, Told, accepted, foreign, is_foreign, is_line_refused, is_repeat}
@@ -148,12 +149,12 @@ module _ (n : ℕ) (lines : List (List ℕ)) (c d : ReportCounts) (a b : List �
   missing : r.begins.missing ≡ s.begins.missing
   missing =
       same_ascending r.begins.missing s.begins.missing r.begins.first_missing.ascending s.begins.first_missing.ascending
-      (λ e in_r. s.all_missing e (held (IsEntry n Perfect) r.begins.missing e r.begins.first_missing.each in_r)
+      (λ e in_r. s.all_missing e (all-contains (IsEntry n Perfect) r.begins.missing e r.begins.first_missing.each in_r)
       (subst (λ (es : List Accepted). AreNotOf e.tiling es) (sym same_list)
-      (held (λ f. AreNotOf f.tiling r.begins.told.entries) r.begins.missing e r.begins.first_missing.none in_r)))
-      (λ e in_s. r.all_missing e (held (IsEntry n Perfect) s.begins.missing e s.begins.first_missing.each in_s)
+      (all-contains (λ f. AreNotOf f.tiling r.begins.told.entries) r.begins.missing e r.begins.first_missing.none in_r)))
+      (λ e in_s. r.all_missing e (all-contains (IsEntry n Perfect) s.begins.missing e s.begins.first_missing.each in_s)
       (subst (λ (es : List Accepted). AreNotOf e.tiling es) same_list
-      (held (λ f. AreNotOf f.tiling s.begins.told.entries) s.begins.missing e s.begins.first_missing.none in_s)))
+      (all-contains (λ f. AreNotOf f.tiling s.begins.told.entries) s.begins.missing e s.begins.first_missing.none in_s)))
 
   counts : c ≡ d
   counts = λ i. record {
