@@ -4,10 +4,10 @@
     bench/boards.py [--function NAME] [--first N] [--last N] [--class CLASS] PROGRAM
 
 Runs `list` of PROGRAM, the built program crates/bk_main/out/bk_main, at the orders from 12 to 16, or those named, under callgrind (valgrind).
-Counted are all calls of the function NAME, by default `meet_all` of bk_free_search: one for each board that the search comes to, the empty one and whole
-words among them, but none for the words that it makes of a board by the last square. Prints a markdown table: the order, the calls, and the
-instructions of the whole run. A function that the compiler puts into its callers can't be counted: then the script says which functions of the crates
-of the search were called, how often, and ends with 1.
+Counted are all calls of the function NAME, by default `meet_all` of bk_free_search: one for each board that the search goes on from, the empty one and
+those with just the last square left among them; for each of the latter there is a call of `meet_with_last`. Prints a markdown table: the order, the
+calls, and the instructions of the whole run. A function that the compiler puts into its callers can't be counted: then the script says which functions
+of the crates of the search were called, how often, and ends with 1.
 """
 import argparse
 import collections
